@@ -1,0 +1,185 @@
+//! Tools for sheets: writer, dump, independent reader, comparison, stored
+//! cases, benchmark. README.md has an example of each command.
+
+mod bench;
+mod compare;
+mod damage;
+mod dump;
+mod encode;
+mod format;
+mod generate;
+mod random;
+mod reader;
+#[cfg(test)]
+mod tests;
+mod types;
+mod vectors;
+mod words;
+mod write;
+
+use std::io::{self, BufReader, BufWriter, Read, Write};
+use std::process::ExitCode;
+
+const USAGE: &str = "usage:
+  oracle write TEXT SHEET          text to sheet bytes
+  oracle fields TEXT               the start and name of each field
+  oracle dump SHEET                sheet bytes to text, or the refusal
+  oracle read SHEET                the reader's answer in one line
+  oracle answer                    answers framed sheets from standard input
+  oracle compare --program PATH [--sheets N] [--seed S]
+  oracle compare --stub [--sheets N] [--seed S]
+  oracle vectors TEXT OUT          stored cases to one binary file
+  oracle bench [--program PATH] [--save SHEET]
+A file name of - is standard input or output.";
+
+type Outcome = Result<bool, String>;
+
+fn main() -> ExitCode {
+    let args: Vec<String> = std::env::args().skip(1).collect();
+    match command(&args) {
+        Ok(true) => ExitCode::SUCCESS,
+        Ok(false) => ExitCode::from(1),
+        Err(message) => {
+            eprintln!("{message}");
+            ExitCode::from(2)
+        }
+    }
+}
+
+fn command(args: &[String]) -> Outcome {
+    let words: Vec<&str> = args.iter().map(String::as_str).collect();
+    match words.as_slice() {
+        ["write", text, sheet] => write_sheet(text, sheet),
+        ["fields", text] => fields(text),
+        ["dump", sheet] => dump_sheet(sheet),
+        ["read", sheet] => read_sheet(sheet),
+        ["answer"] => answer(),
+        ["compare", options @ ..] => compare_program(&Options::parse(options)?),
+        ["vectors", text, out] => make_vectors(text, out),
+        ["bench", options @ ..] => bench_reader(&Options::parse(options)?),
+        _ => Err(USAGE.to_string()),
+    }
+}
+
+#[derive(Default)]
+struct Options {
+    program: Option<String>,
+    stub: bool,
+    sheets: Option<u64>,
+    seed: Option<u64>,
+    save: Option<String>,
+}
+
+impl Options {
+    fn parse(words: &[&str]) -> Result<Options, String> {
+        let mut options = Options::default();
+        let mut words = words.iter();
+        while let Some(word) = words.next() {
+            if *word == "--stub" {
+                options.stub = true;
+                continue;
+            }
+            let value = words.next().ok_or_else(|| format!("{word} needs a value\n{USAGE}"))?;
+            let number = || words::parse_number(value).ok_or(format!("{word} needs a number"));
+            match *word {
+                "--program" => options.program = Some(value.to_string()),
+                "--save" => options.save = Some(value.to_string()),
+                "--sheets" => options.sheets = Some(number()?),
+                "--seed" => options.seed = Some(number()?),
+                _ => return Err(format!("unknown option {word}\n{USAGE}")),
+            }
+        }
+        Ok(options)
+    }
+
+    /// The program to run; `--stub` stands for this program's `answer`.
+    fn command(&self) -> Result<Option<Vec<String>>, String> {
+        if !self.stub {
+            return Ok(self.program.as_ref().map(|path| vec![path.clone()]));
+        }
+        let own = std::env::current_exe().map_err(|error| error.to_string())?;
+        Ok(Some(vec![own.to_string_lossy().to_string(), "answer".to_string()]))
+    }
+}
+
+fn input(path: &str) -> Result<Vec<u8>, String> {
+    let mut bytes = Vec::new();
+    let outcome = match path {
+        "-" => io::stdin().read_to_end(&mut bytes).map(|_| ()),
+        _ => std::fs::read(path).map(|content| bytes = content),
+    };
+    outcome.map_err(|error| format!("{path}: {error}"))?;
+    Ok(bytes)
+}
+
+fn input_text(path: &str) -> Result<String, String> {
+    String::from_utf8(input(path)?).map_err(|_| format!("{path}: not text"))
+}
+
+fn output(path: &str, bytes: &[u8]) -> Result<(), String> {
+    let outcome = match path {
+        "-" => io::stdout().write_all(bytes),
+        _ => std::fs::write(path, bytes),
+    };
+    outcome.map_err(|error| format!("{path}: {error}"))
+}
+
+fn written(path: &str) -> Result<write::Written, String> {
+    write::write(&input_text(path)?).map_err(|error| format!("{path}, {error}"))
+}
+
+fn write_sheet(text: &str, sheet: &str) -> Outcome {
+    let written = written(text)?;
+    output(sheet, &written.bytes)?;
+    if let Err(refusal) = reader::read(&written.bytes) {
+        eprintln!("note: reading this sheet is {refusal}");
+    }
+    Ok(true)
+}
+
+fn fields(text: &str) -> Outcome {
+    for field in written(text)?.fields {
+        println!("{:8}  {}", field.start, field.name);
+    }
+    Ok(true)
+}
+
+fn dump_sheet(sheet: &str) -> Outcome {
+    output("-", dump::dump(&input(sheet)?).as_bytes())?;
+    Ok(true)
+}
+
+fn read_sheet(sheet: &str) -> Outcome {
+    println!("{}", reader::line(&reader::read(&input(sheet)?)));
+    Ok(true)
+}
+
+fn answer() -> Outcome {
+    let mut input = BufReader::new(io::stdin());
+    let mut output = BufWriter::new(io::stdout());
+    compare::answer(&mut input, &mut output).map_err(|error| error.to_string())?;
+    Ok(true)
+}
+
+fn compare_program(options: &Options) -> Outcome {
+    let Some(program) = options.command()? else {
+        return Err(format!("compare needs --program or --stub\n{USAGE}"));
+    };
+    let (sheets, seed) = (options.sheets.unwrap_or(100_000), options.seed.unwrap_or(1));
+    compare::compare(&program, sheets, seed).map_err(|error| format!("{}: {error}", program[0]))
+}
+
+fn make_vectors(text: &str, out: &str) -> Outcome {
+    let cases = vectors::cases(&input_text(text)?)?;
+    let bytes = vectors::encode(&cases);
+    output(out, &bytes)?;
+    println!("{} cases, {} bytes", cases.len(), bytes.len());
+    Ok(true)
+}
+
+fn bench_reader(options: &Options) -> Outcome {
+    let program = options.command()?;
+    let outcome = bench::bench(program.as_deref(), options.save.as_deref());
+    outcome.map_err(|error| error.to_string())?;
+    Ok(true)
+}
