@@ -5,8 +5,7 @@ use crate::encode::{encode, Encoder, Field};
 use crate::format::*;
 use crate::generate::{Generator, Size, SMALL};
 
-const LARGE: Size =
-    Size { instructions: 40, blocks: 20, nodes: 8, statements: 64, depth: 5 };
+const LARGE: Size = Size { instructions: 40, blocks: 20, nodes: 8, statements: 64, depth: 5 };
 
 /// Nodes alone, so that faults in expressions are not hidden by others.
 const NODES: Size = Size { instructions: 0, blocks: 0, ..SMALL };
@@ -27,7 +26,6 @@ pub fn sheet(seed: u64, index: u64) -> Vec<u8> {
         _ => noise(&mut generator),
     }
 }
-
 
 /// A sheet, good or with slips, damaged in one place or in up to three.
 fn damaged(generator: &mut Generator) -> Vec<u8> {

@@ -16,7 +16,9 @@ pub fn dump(bytes: &[u8]) -> String {
 pub fn text(sheet: &Sheet) -> String {
     let mut lines = Vec::new();
     lines.extend(sheet.instructions.iter().map(instruction));
-    lines.extend(sheet.blocks.iter().map(|block| format!("block {:#x} {:#x}", block.from, block.to)));
+    lines.extend(
+        sheet.blocks.iter().map(|block| format!("block {:#x} {:#x}", block.from, block.to)),
+    );
     for node in &sheet.nodes {
         node_lines(node, &mut lines);
     }
@@ -121,10 +123,14 @@ pub fn meaning(number: u8) -> &'static str {
         3 => "the count at this place is outside its limits",
         4 => "the address at this place is not above that of the instruction before",
         5 => "the class 1 register at this place has an index, size or offset that does not exist",
-        6 => "the instruction at this place is modelled, and its registers' sizes or classes or its \
-              declared flags do not fit its mnemonic",
-        7 => "the records are not one tree: the one at this place lacks a child, or the expression \
-              that ends before it is not exactly one tree",
+        6 => {
+            "the instruction at this place is modelled, and its registers' sizes or classes or its \
+              declared flags do not fit its mnemonic"
+        }
+        7 => {
+            "the records are not one tree: the one at this place lacks a child, or the expression \
+              that ends before it is not exactly one tree"
+        }
         8 => "the constant at this place does not fit its width",
         9 => "the assignment at this place gives its variable a value of another type",
         _ => "a number that reading does not give",

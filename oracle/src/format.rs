@@ -64,7 +64,10 @@ pub struct Block {
 #[derive(Clone, Copy, Debug, PartialEq, Eq)]
 pub enum Record {
     Variable(u8),
-    Constant { width: u8, value: u64 },
+    Constant {
+        width: u8,
+        value: u64,
+    },
     True,
     False,
     Effect(u8),
@@ -119,9 +122,7 @@ pub const MNEMONICS: [&str; 35] = [
 ];
 
 /// Types by number.
-pub const TYPES: [&str; 10] = [
-    "s8", "s16", "s32", "s64", "u8", "u16", "u32", "u64", "ptr", "bool",
-];
+pub const TYPES: [&str; 10] = ["s8", "s16", "s32", "s64", "u8", "u16", "u32", "u64", "ptr", "bool"];
 
 /// Binary operators by number.
 pub const OPERATORS: [&str; 18] = [

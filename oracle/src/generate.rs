@@ -20,8 +20,7 @@ pub struct Size {
     pub depth: usize,
 }
 
-pub const SMALL: Size =
-    Size { instructions: 6, blocks: 3, nodes: 3, statements: 4, depth: 3 };
+pub const SMALL: Size = Size { instructions: 6, blocks: 3, nodes: 3, statements: 4, depth: 3 };
 
 const FIVE_FLAGS: u8 = 31;
 const WIDTHS: [u8; 4] = [1, 2, 4, 8];
@@ -40,8 +39,7 @@ impl Generator {
     }
 
     pub fn sheet(&mut self, size: Size) -> Sheet {
-        let counts =
-            [self.upto(size.instructions), self.upto(size.blocks), self.upto(size.nodes)];
+        let counts = [self.upto(size.instructions), self.upto(size.blocks), self.upto(size.nodes)];
         let instructions = self.instructions(counts[0]);
         let blocks = (0..counts[1]).map(|_| self.block(&instructions)).collect();
         let nodes = (0..counts[2]).map(|_| self.node(size, &instructions)).collect();
@@ -211,7 +209,8 @@ impl Generator {
         insn.mnemonic = 4;
         let outside = Operand::Register(self.outside_class());
         let other = self.any_operand();
-        let (first, second) = if self.random.once_in(2) { (outside, other) } else { (other, outside) };
+        let (first, second) =
+            if self.random.once_in(2) { (outside, other) } else { (other, outside) };
         insn.first = Some(first);
         insn.second = Some(second);
     }
@@ -271,7 +270,11 @@ impl Generator {
     }
 
     fn type_code(&mut self) -> u8 {
-        if self.slip() { 10 } else { self.random.below(10) as u8 }
+        if self.slip() {
+            10
+        } else {
+            self.random.below(10) as u8
+        }
     }
 
     fn statement(&mut self, variables: &[u8], depth: usize) -> Statement {
@@ -317,11 +320,8 @@ impl Generator {
     }
 
     fn tree(&mut self, variables: &[u8], depth: usize, records: &mut Expression) {
-        let record = if depth == 0 || self.random.once_in(5) {
-            self.leaf(variables)
-        } else {
-            self.inner()
-        };
+        let record =
+            if depth == 0 || self.random.once_in(5) { self.leaf(variables) } else { self.inner() };
         for _ in 0..record.children() {
             self.tree(variables, depth - 1, records);
         }
@@ -332,7 +332,8 @@ impl Generator {
         match self.random.below(6) {
             0..=2 if !variables.is_empty() => {
                 let slip = self.slip();
-                let number = if slip { variables.len() } else { self.random.below(variables.len()) };
+                let number =
+                    if slip { variables.len() } else { self.random.below(variables.len()) };
                 Record::Variable(number as u8)
             }
             3 => Record::True,

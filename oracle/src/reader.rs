@@ -95,22 +95,22 @@ impl Layout<'_> {
         self.fault(self.at - 1, number, place);
     }
 
-    /// One elementary field of `size` bytes.
-    fn field(&mut self, size: usize) -> Option<u64> {
-        let Some(bytes) = self.bytes.get(self.at..self.at + size) else {
+    /// One elementary field of `N` bytes.
+    fn field<const N: usize>(&mut self) -> Option<[u8; N]> {
+        let Some(bytes) = self.bytes[self.at..].first_chunk() else {
             self.fault(self.bytes.len(), ENDED, self.at);
             return None;
         };
-        self.at += size;
-        Some(bytes.iter().rev().fold(0, |value, byte| value << 8 | u64::from(*byte)))
-    }
-
-    fn eight(&mut self) -> Option<u64> {
-        self.field(8)
+        self.at += N;
+        Some(*bytes)
     }
 
     fn byte(&mut self) -> Option<u8> {
-        self.field(1).map(|value| value as u8)
+        self.field().map(u8::from_le_bytes)
+    }
+
+    fn eight(&mut self) -> Option<u64> {
+        self.field().map(u64::from_le_bytes)
     }
 
     /// A code byte that must be in its table.
@@ -123,9 +123,9 @@ impl Layout<'_> {
         Some(value)
     }
 
-    fn count(&mut self, least: u64, most: u64) -> Option<u64> {
+    fn count(&mut self, least: u16, most: u16) -> Option<u16> {
         let place = self.at;
-        let value = self.field(2)?;
+        let value = self.field().map(u16::from_le_bytes)?;
         if value < least || value > most {
             self.fault_of_unit(COUNT, place);
         }
@@ -219,9 +219,8 @@ impl Layout<'_> {
         let variables: Vec<u8> =
             (0..count).map(|_| self.code(type_in_table)).collect::<Option<_>>()?;
         let count = self.count(0, 64)?;
-        let statements =
-            (0..count).map(|_| self.statement(&variables)).collect::<Option<_>>()?;
-        let (condition, _) = self.expression(&variables)?;
+        let statements = (0..count).map(|_| self.statement(&variables)).collect::<Option<_>>()?;
+        let condition = self.expression(&variables)?;
         let count = self.count(0, 16)?;
         let addresses = (0..count).map(|_| self.eight()).collect::<Option<_>>()?;
         Some(Node { variables, statements, condition, addresses })
@@ -233,9 +232,10 @@ impl Layout<'_> {
             0 => Some(Statement::Other),
             3 => {
                 let variable = self.variable(variables)?;
-                let (value, value_type) = self.expression(variables)?;
+                let value = self.expression(variables)?;
+                let found = types::of_expression(&value, variables);
                 let declared = variables.get(variable as usize);
-                if let (Some(a), Some(b)) = (value_type, declared) {
+                if let (Some(a), Some(b)) = (found, declared) {
                     if types::plain(a) != types::plain(*b) {
                         self.fault_of_unit(TYPE, start);
                     }
@@ -250,10 +250,9 @@ impl Layout<'_> {
         self.code(|number| usize::from(number) < variables.len())
     }
 
-    /// The records, and the type where they are one tree.
-    fn expression(&mut self, variables: &[u8]) -> Option<(Expression, Option<u8>)> {
+    fn expression(&mut self, variables: &[u8]) -> Option<Expression> {
         let count = self.count(1, 128)?;
-        let mut records = Vec::with_capacity(count as usize);
+        let mut records = Vec::with_capacity(count.into());
         let mut trees = 0;
         let mut lacking = false;
         for _ in 0..count {
@@ -269,8 +268,7 @@ impl Layout<'_> {
         if trees != 1 && !lacking {
             self.fault_of_unit(TREE, self.at);
         }
-        let value_type = types::of_expression(&records, variables);
-        Some((records, value_type))
+        Some(records)
     }
 
     fn record(&mut self, variables: &[u8]) -> Option<Record> {

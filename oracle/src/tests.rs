@@ -63,14 +63,19 @@ fn writer_forces_counts_maps_and_bytes() {
     assert_eq!(bytes_of("blocks count 7\nstop"), [0, 0, 7, 0]);
     let forced = bytes_of("insn 1 stc map 64 writes count 9 al\nstop");
     assert_eq!(forced, [1, 0, 64, 1, 0, 0, 0, 0, 0, 0, 0, 1, 9, 0, 1, 0, 8, 0]);
-    let node = bytes_of("node\nvars count 5 u8\nstatements count 4\ncond records count 3 [ ]\naddresses count 2");
+    let node = bytes_of(
+        "node\nvars count 5 u8\nstatements count 4\ncond records count 3 [ ]\naddresses count 2",
+    );
     assert_eq!(node, [0, 0, 0, 0, 1, 0, 5, 0, 4, 4, 0, 3, 0, 2, 0]);
 }
 
 #[test]
 fn writer_repeats_words_and_lines() {
-    let long = bytes_of("repeat 3 {\ninsn +2 stc\n}\nnode\nvars repeat 2 { u8 repeat 2 { s8 } }\ncond true");
-    let same = bytes_of("insn 2 stc\ninsn 4 stc\ninsn 6 stc\nnode\nvars u8 s8 s8 u8 s8 s8\ncond true");
+    let long = bytes_of(
+        "repeat 3 {\ninsn +2 stc\n}\nnode\nvars repeat 2 { u8 repeat 2 { s8 } }\ncond true",
+    );
+    let same =
+        bytes_of("insn 2 stc\ninsn 4 stc\ninsn 6 stc\nnode\nvars u8 s8 s8 u8 s8 s8\ncond true");
     assert_eq!(long, same);
 }
 
@@ -82,13 +87,19 @@ fn writer_says_line_and_fault() {
     assert_eq!(message("insn zero stc"), "line 1: an address is expected, not 'zero'");
     assert_eq!(message("block 1"), "line 1: the line ends where an address is expected");
     assert_eq!(message("block 1 2 3"), "line 1: '3' is one word too many");
-    assert_eq!(message("block 1 2\n\ninsn 1 stc"), "line 3: instructions come first, then blocks, then nodes");
+    assert_eq!(
+        message("block 1 2\n\ninsn 1 stc"),
+        "line 3: instructions come first, then blocks, then nodes"
+    );
     assert_eq!(message("cond true"), "line 1: this line belongs into a node");
     assert_eq!(message("node\nvars u8\n"), "line 2: the node has no condition");
     assert_eq!(message("node\ncond (+ v0 w1)"), "line 2: unknown record 'w1'");
     assert_eq!(message("node\ncond (+ v0 v1"), "line 2: the line ends where ')' is expected");
     assert_eq!(message("node\ncond +"), "line 2: '+' needs parentheses around it");
-    assert_eq!(message("node\ncond true\nother"), "line 3: a node's parts are vars, statements, cond, addresses");
+    assert_eq!(
+        message("node\ncond true\nother"),
+        "line 3: a node's parts are vars, statements, cond, addresses"
+    );
     assert_eq!(message("raw 0x"), "line 1: '0x' is not pairs of hexadecimal digits");
     assert_eq!(message("repeat {"), "line 1: repeat needs a number and a {");
     assert_eq!(message("repeat 2 { insn 1 stc"), "line 1: this { has no }");
@@ -113,8 +124,16 @@ fn register_names_and_registers_agree() {
 fn static_types_by_pairs() {
     // Types 0 to 9 against 0 to 9: the common type of the two, by hand.
     let rows = [
-        "2223226772", "2223226772", "2223226772", "3333333773", "2223226772", "2223226772",
-        "6663666776", "7777777777", "7777777777", "2223226772",
+        "2223226772",
+        "2223226772",
+        "2223226772",
+        "3333333773",
+        "2223226772",
+        "2223226772",
+        "6663666776",
+        "7777777777",
+        "7777777777",
+        "2223226772",
     ];
     for (a, row) in rows.iter().enumerate() {
         for (b, wanted) in row.bytes().enumerate() {

@@ -10,7 +10,11 @@ const BOOL: u8 = 9;
 
 /// The pointer type counts as unsigned 64.
 pub fn plain(code: u8) -> u8 {
-    if code == POINTER { U64 } else { code }
+    if code == POINTER {
+        U64
+    } else {
+        code
+    }
 }
 
 /// Width in bits of types 0 to 8; types 0 to 3 are signed, 4 to 7 unsigned.
@@ -24,13 +28,21 @@ fn unsigned(code: u8) -> bool {
 
 /// Below 32 bits, and bool, an operand becomes signed 32.
 fn promoted(code: u8) -> u8 {
-    if code == BOOL || bits(code) < 32 { S32 } else { plain(code) }
+    if code == BOOL || bits(code) < 32 {
+        S32
+    } else {
+        plain(code)
+    }
 }
 
 /// The common type of two operands: the wider one, unsigned at a tie.
 fn common(a: u8, b: u8) -> u8 {
     let (a, b) = (promoted(a), promoted(b));
-    if bits(a) > bits(b) || (bits(a) == bits(b) && unsigned(a)) { a } else { b }
+    if bits(a) > bits(b) || (bits(a) == bits(b) && unsigned(a)) {
+        a
+    } else {
+        b
+    }
 }
 
 fn of_constant(width: u8) -> Option<u8> {
@@ -69,5 +81,9 @@ pub fn of_expression(records: &[Record], variables: &[u8]) -> Option<u8> {
         stack.truncate(base);
         stack.push(code);
     }
-    if stack.len() == 1 { stack.pop() } else { None }
+    if stack.len() == 1 {
+        stack.pop()
+    } else {
+        None
+    }
 }

@@ -123,9 +123,7 @@ fn check(case: &Case) -> Result<(), String> {
     let answer = read(&case.sheet);
     let found = match &answer {
         Ok(accepted) => Expected::Accepted(accepted.counts().map(|count| count as u16)),
-        Err(refusal) => {
-            Expected::Refused { number: refusal.number, place: refusal.place as u32 }
-        }
+        Err(refusal) => Expected::Refused { number: refusal.number, place: refusal.place as u32 },
     };
     if found == case.expected {
         return Ok(());
