@@ -188,15 +188,20 @@ pub fn parse_number(word: &str) -> Option<u64> {
         return parse_number(positive).map(u64::wrapping_neg);
     }
     match word.strip_prefix("0x") {
-        Some(digits) => u64::from_str_radix(digits, 16).ok(),
+        Some(digits) if hex_digits(digits) => u64::from_str_radix(digits, 16).ok(),
+        Some(_) => None,
         None if word.starts_with(|c: char| c.is_ascii_digit()) => word.parse().ok(),
         None => None,
     }
 }
 
+fn hex_digits(word: &str) -> bool {
+    word.bytes().all(|byte| byte.is_ascii_hexdigit())
+}
+
 /// Pairs of hexadecimal digits.
 pub fn parse_hex(word: &str) -> Option<Vec<u8>> {
-    if word.len() % 2 != 0 || !word.is_ascii() {
+    if !word.len().is_multiple_of(2) || !hex_digits(word) {
         return None;
     }
     (0..word.len()).step_by(2).map(|i| u8::from_str_radix(&word[i..i + 2], 16).ok()).collect()

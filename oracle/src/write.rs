@@ -224,7 +224,7 @@ impl Writer {
     fn assign(&mut self, line: &mut Line) -> Parsed<()> {
         self.statement(line)?;
         let word = line.next("a variable")?;
-        let Some(variable) = variable_number(word.trim_start_matches('v')) else {
+        let Some(variable) = variable_number(word.strip_prefix('v').unwrap_or(&word)) else {
             return line.error(format!("a variable is expected, not '{word}'"));
         };
         let (value, count) = expression(line)?;
