@@ -106,8 +106,12 @@ pub fn compare(program: &[String], count: u64, seed: u64) -> io::Result<bool> {
     Ok(tally.differences == 0)
 }
 
-/// The independent reader as a program of the same protocol.
-pub fn answer(input: &mut impl Read, output: &mut impl Write) -> io::Result<()> {
+/// Answers framed sheets, a line for each, until the input ends.
+pub fn serve(
+    input: &mut impl Read,
+    output: &mut impl Write,
+    line: impl Fn(&[u8]) -> String,
+) -> io::Result<()> {
     loop {
         let mut length = [0; 4];
         match input.read_exact(&mut length) {
@@ -116,6 +120,11 @@ pub fn answer(input: &mut impl Read, output: &mut impl Write) -> io::Result<()> 
         }
         let mut sheet = vec![0; u32::from_le_bytes(length) as usize];
         input.read_exact(&mut sheet)?;
-        writeln!(output, "{}", line(&read(&sheet)))?;
+        writeln!(output, "{}", line(&sheet))?;
     }
+}
+
+/// The independent reader as a program of the same protocol.
+pub fn answer(input: &mut impl Read, output: &mut impl Write) -> io::Result<()> {
+    serve(input, output, |sheet| line(&read(sheet)))
 }

@@ -1,22 +1,6 @@
-//! Tools for sheets: writer, dump, independent reader, comparison, stored
-//! cases, benchmark. README.md has an example of each command.
+//! The commands. README.md has an example of each.
 
-mod bench;
-mod compare;
-mod damage;
-mod dump;
-mod encode;
-mod format;
-mod generate;
-mod random;
-mod reader;
-#[cfg(test)]
-mod tests;
-mod types;
-mod vectors;
-mod words;
-mod write;
-
+use oracle::{bench, compare, dump, reader, vectors, words, write};
 use std::io::{self, BufReader, BufWriter, Read, Write};
 use std::process::ExitCode;
 

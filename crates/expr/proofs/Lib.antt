@@ -1,0 +1,6 @@
+pub mod Children
+pub mod Laws
+pub mod Parts
+pub mod Sameness
+pub mod Scans
+pub mod Stack

@@ -1,0 +1,4 @@
+pub mod Tree
+pub mod Scan
+pub mod Types
+pub mod Examples

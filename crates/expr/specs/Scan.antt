@@ -1,0 +1,89 @@
+-- What stands in a tree, and when two trees are the same.
+use mathlib.Core.Bool.{Bool, true, false, _&&_, _||_}
+use mathlib.Core.List.{List, [], _∷_}
+use Prim.Native.Nat.{ℕ, _/_, _%_}
+use lib.Dec.{eqb}
+use Rattle.expr.specs.Tree.{Expr, flat}
+use Rattle.expr.specs.Tree.Expr.{variable, constant, conditionTrue, conditionFalse, effect, load, cast, binary, ternary}
+
+-- a test that holds of a tree or of a tree below it, a load's address included
+unfoldable pub anyNode : (Expr → Bool) → Expr → Bool
+anyNode p (variable n) = p (variable n)
+anyNode p (constant w x) = p (constant w x)
+anyNode p conditionTrue = p conditionTrue
+anyNode p conditionFalse = p conditionFalse
+anyNode p (effect t) = p (effect t)
+anyNode p (load t a) = p (load t a) || anyNode p a
+anyNode p (cast t a) = p (cast t a) || anyNode p a
+anyNode p (binary o a b) = p (binary o a b) || (anyNode p a || anyNode p b)
+anyNode p (ternary c a b) = p (ternary c a b) || (anyNode p c || (anyNode p a || anyNode p b))
+
+unfoldable pub isEffect : Expr → Bool
+isEffect (variable n) = false
+isEffect (constant w x) = false
+isEffect conditionTrue = false
+isEffect conditionFalse = false
+isEffect (effect t) = true
+isEffect (load t a) = false
+isEffect (cast t a) = false
+isEffect (binary o a b) = false
+isEffect (ternary c a b) = false
+
+unfoldable pub isLoad : Expr → Bool
+isLoad (variable n) = false
+isLoad (constant w x) = false
+isLoad conditionTrue = false
+isLoad conditionFalse = false
+isLoad (effect t) = false
+isLoad (load t a) = true
+isLoad (cast t a) = false
+isLoad (binary o a b) = false
+isLoad (ternary c a b) = false
+
+unfoldable pub isVariable : ℕ → Expr → Bool
+isVariable v (variable n) = eqb n v
+isVariable v (constant w x) = false
+isVariable v conditionTrue = false
+isVariable v conditionFalse = false
+isVariable v (effect t) = false
+isVariable v (load t a) = false
+isVariable v (cast t a) = false
+isVariable v (binary o a b) = false
+isVariable v (ternary c a b) = false
+
+-- 'Expression', kind 4: an effect stands in the tree.
+abbrev pub hasEffect : Expr → Bool
+hasEffect e = anyNode isEffect e
+
+-- 'Expression', kind 5: a load stands in the tree.
+abbrev pub hasLoad : Expr → Bool
+hasLoad e = anyNode isLoad e
+
+-- 'Expression', kind 0: the variable of number v stands in the tree, under a load too.
+abbrev pub reads : ℕ → Expr → Bool
+reads v e = anyNode (isVariable v) e
+
+-- a test that holds of a record's tag word, over words in pairs
+unfoldable pub anyTag : (ℕ → Bool) → List ℕ → Bool
+anyTag p [] = false
+anyTag p (tag ∷ []) = p tag
+anyTag p (tag ∷ value ∷ ws) = p tag || anyTag p ws
+
+-- a tag word of kind k
+abbrev pub ofKind : ℕ → ℕ → Bool
+ofKind k tag = eqb (tag % 16) k
+
+-- a tag word of kind 0 with the number v
+abbrev pub ofVariable : ℕ → ℕ → Bool
+ofVariable v tag = eqb (tag % 16) 0 && eqb (tag / 16) v
+
+-- two lists of words, word for word
+unfoldable pub sameWords : List ℕ → List ℕ → Bool
+sameWords [] [] = true
+sameWords [] (y ∷ ys) = false
+sameWords (x ∷ xs) [] = false
+sameWords (x ∷ xs) (y ∷ ys) = eqb x y && sameWords xs ys
+
+-- 'Node verdicts', equal sides: two trees are the same where their records are, argument, width, type and value.
+unfoldable pub sameTree : Expr → Expr → Bool
+sameTree d e = sameWords (flat d) (flat e)

@@ -1,0 +1,4 @@
+-- laws of the definitions, which other proofs cite
+pub mod OneRecord
+pub mod Lists
+pub mod Accepted

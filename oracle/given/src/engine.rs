@@ -1,0 +1,241 @@
+//! From a sheet to the given source's types, and from its answers to a line.
+
+use crate::ast::{AstNode, BinaryOp};
+use crate::cfg::{Block, ProcedureCfg};
+use crate::cpu_context::{Access, DecodedInsn, Flow, Operand, RegisterUse};
+use crate::guard;
+use crate::lift::Statement;
+use crate::opaque;
+use crate::pipeline::Disasm;
+use crate::register::RegisterId;
+use oracle::format as sheet;
+use oracle::held;
+use oracle::reader;
+
+/// Records of a substituted expression beyond which a node is not judged:
+/// the given source has no limit, and expressions may double at each step.
+const MOST_RECORDS: u64 = 2_000;
+
+/// Which nodes are judged: those of the sheet, or those that have the
+/// answers of docs/DIFFERENCES.md by the given source's own steps.
+#[derive(Clone, Copy, PartialEq, Eq)]
+pub enum Nodes {
+    AsTheyAre,
+    WithDifferences,
+}
+
+/// The answer to one sheet.
+pub fn line(bytes: &[u8], nodes: Nodes) -> String {
+    let sheet = match reader::read(bytes) {
+        Ok(accepted) => accepted.sheet,
+        Err(refusal) => return refusal.to_string(),
+    };
+    let mut words = vec!["blocks".to_string()];
+    let disasm = Disasm { instructions: sheet.instructions.iter().map(instruction).collect() };
+    words.extend(sheet.blocks.iter().map(|block| block_answer(&disasm, *block)));
+    words.push("nodes".to_string());
+    words.extend(sheet.nodes.iter().map(|node| node_answer(node, nodes)));
+    words.join(" ")
+}
+
+fn answer(always: bool, reason: u8) -> String {
+    format!("{}{reason}", if always { 'a' } else { 'v' })
+}
+
+/// The source gives nothing both for an undecided branch and for none; which
+/// it is shows in the block's last instruction.
+fn block_answer(disasm: &Disasm, block: sheet::Block) -> String {
+    let sheet::Block { from, to } = block;
+    let graph = ProcedureCfg { blocks: vec![Block { from, to }] };
+    if let Some(found) = opaque::in_flags(disasm, &graph).first() {
+        return answer(found.always, 1);
+    }
+    let inside = |ins: &&DecodedInsn| from <= ins.address && ins.address < to;
+    let last = disasm.instructions.iter().rev().find(inside);
+    let branch = last.is_some_and(|ins| matches!(ins.flow, Flow::ConditionalBranch(_)));
+    if branch { "u" } else { "n" }.to_string()
+}
+
+fn instruction(insn: &sheet::Instruction) -> DecodedInsn {
+    let write = |r: &sheet::Register| RegisterUse { register: register(*r), access: Access::Write };
+    DecodedInsn {
+        address: insn.address,
+        length: 1,
+        mnemonic: insn.mnemonic.into(),
+        flow: flow(insn),
+        operands: [insn.first, insn.second].into_iter().flatten().map(operand).collect(),
+        register_uses: insn.written.iter().flatten().map(write).collect(),
+        rip_relative_address: None,
+        absolute_address: None,
+        switch_indices: false,
+        opcode: 0,
+        flags_read: 0,
+        flags_written: insn.flags.unwrap_or(0).into(),
+        rep: false,
+        delay_slot: false,
+    }
+}
+
+/// The sheet has one bit for the four call-like flows; each gets its turn.
+fn flow(insn: &sheet::Instruction) -> Flow {
+    let call_like = [Flow::Call(0), Flow::IndirectCall, Flow::Syscall, Flow::Interrupt];
+    match insn.target {
+        Some(target) => Flow::ConditionalBranch(target),
+        None if insn.call_like => call_like[(insn.address % 4) as usize],
+        None => Flow::Next,
+    }
+}
+
+fn register(r: sheet::Register) -> RegisterId {
+    RegisterId {
+        class: r.class.into(),
+        index: r.index.into(),
+        bit_size: r.size.into(),
+        bit_offset: r.offset.into(),
+    }
+}
+
+fn operand(operand: sheet::Operand) -> Operand {
+    let none = RegisterId { class: 0, index: 0, bit_size: 0, bit_offset: 0 };
+    match operand {
+        sheet::Operand::Register(r) => Operand::Register(register(r)),
+        sheet::Operand::Immediate(value) => Operand::Imm(value as i64 as i128),
+        _ => Operand::Mem { base: none, index: none, scale: 1, disp: 0, size: 0 },
+    }
+}
+
+/// `-` where the source was not run to its end.
+fn node_answer(node: &sheet::Node, nodes: Nodes) -> String {
+    let differ = nodes == Nodes::WithDifferences;
+    let plan = held::plan(node, differ);
+    if plan.most_records > MOST_RECORDS {
+        return "-".to_string();
+    }
+    let mut builder = Builder { effects: differ.then_some(0) };
+    let mut statements = Vec::new();
+    for (number, statement) in node.statements.iter().enumerate() {
+        let held = !plan.not_held.contains(&number);
+        statements.push(Statement { node: builder.statement(statement, held) });
+    }
+    let condition = builder.expression(&node.condition);
+    match guard::limited(|| opaque::node_verdict(&statements, &condition)) {
+        None => "-".to_string(),
+        Some(None) => "u".to_string(),
+        Some(Some((holds, why))) => answer(holds, reason(&why)),
+    }
+}
+
+/// The number of a sentence: its words tell the step it comes from.
+fn reason(why: &str) -> u8 {
+    let has = |words: &str| why.contains(words);
+    match () {
+        _ if has(", and ") => 7,
+        _ if has("both sides of") => 2,
+        _ if has("the carry is clear") => 3,
+        _ if has("is unsigned") => 4,
+        _ if has(guard::PARITY) => 6,
+        _ if has("is always") => 5,
+        _ => panic!("no step of the given source is known to say '{why}'"),
+    }
+}
+
+/// C names by type number. The source looks for `unsigned`, `*` and `bool`.
+const TYPES: [&str; 10] = [
+    "signed char",
+    "short",
+    "int",
+    "long",
+    "unsigned char",
+    "unsigned short",
+    "unsigned int",
+    "unsigned long",
+    "void *",
+    "bool",
+];
+
+const OPERATORS: [BinaryOp; 18] = [
+    BinaryOp::Add,
+    BinaryOp::Sub,
+    BinaryOp::Mul,
+    BinaryOp::Div,
+    BinaryOp::Mod,
+    BinaryOp::And,
+    BinaryOp::Or,
+    BinaryOp::Xor,
+    BinaryOp::Shl,
+    BinaryOp::Shr,
+    BinaryOp::Equal,
+    BinaryOp::NotEqual,
+    BinaryOp::Less,
+    BinaryOp::LessEqual,
+    BinaryOp::Greater,
+    BinaryOp::GreaterEqual,
+    BinaryOp::LogicalAnd,
+    BinaryOp::LogicalOr,
+];
+
+/// Builds trees. Where effects are counted each has a name of its own, so
+/// that no two of them are equal as trees.
+struct Builder {
+    effects: Option<u32>,
+}
+
+impl Builder {
+    /// An assignment that is not to be held gets a value that the source
+    /// does not hold.
+    fn statement(&mut self, statement: &sheet::Statement, held: bool) -> AstNode {
+        let sheet::Statement::Assign { variable, value } = statement else {
+            return AstNode::Call { callee: Box::new(AstNode::var("other")), args: Vec::new() };
+        };
+        let rhs = if held { self.expression(value) } else { self.effect(0) };
+        AstNode::Assign { lhs: Box::new(self.variable(*variable)), rhs: Box::new(rhs) }
+    }
+
+    fn variable(&self, number: u8) -> AstNode {
+        AstNode::var(format!("v{number}"))
+    }
+
+    fn effect(&mut self, code: u8) -> AstNode {
+        let mut name = format!("effect {code}");
+        if let Some(count) = &mut self.effects {
+            *count += 1;
+            name = format!("{name} {count}");
+        }
+        AstNode::Intrinsic { name, args: Vec::new() }
+    }
+
+    fn expression(&mut self, records: &[sheet::Record]) -> AstNode {
+        let mut stack: Vec<AstNode> = Vec::new();
+        for record in records {
+            let children = stack.split_off(stack.len() - record.children());
+            stack.push(self.record(*record, children));
+        }
+        stack.pop().expect("an accepted expression is one tree")
+    }
+
+    fn record(&mut self, record: sheet::Record, children: Vec<AstNode>) -> AstNode {
+        let mut children = children.into_iter().map(Box::new);
+        let mut child = || children.next().expect("an accepted record has its children");
+        match record {
+            sheet::Record::Variable(number) => self.variable(number),
+            sheet::Record::Constant { width, value } => AstNode::constant(value, width.into()),
+            sheet::Record::True => AstNode::ConditionTrue,
+            sheet::Record::False => AstNode::ConditionFalse,
+            sheet::Record::Effect(code) => self.effect(code),
+            sheet::Record::Load(code) => {
+                let ty = format!("{} *", TYPES[code as usize]);
+                AstNode::Deref { target: Box::new(AstNode::Cast { ty, target: child() }) }
+            }
+            sheet::Record::Cast(code) => {
+                AstNode::Cast { ty: TYPES[code as usize].to_string(), target: child() }
+            }
+            sheet::Record::Binary(code) => {
+                AstNode::Binary { lhs: child(), op: OPERATORS[code as usize], rhs: child() }
+            }
+            sheet::Record::Ternary => {
+                AstNode::Ternary { cond: child(), then: child(), otherwise: child() }
+            }
+            sheet::Record::Unknown(_) => unreachable!("an accepted record has a known kind"),
+        }
+    }
+}

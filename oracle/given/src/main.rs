@@ -1,0 +1,79 @@
+//! The given source as a program: it reads framed sheets from standard input
+//! and writes for each the verdicts on its blocks and nodes, or the refusal.
+//! oracle/README.md says what is changed in the source.
+
+#[cfg(given_source)]
+#[allow(warnings)]
+mod ast {
+    include!(concat!(env!("OUT_DIR"), "/ast.rs"));
+}
+#[cfg(given_source)]
+#[allow(warnings)]
+mod cpu_context {
+    include!(concat!(env!("OUT_DIR"), "/cpu_context.rs"));
+}
+#[cfg(given_source)]
+mod engine;
+#[cfg(given_source)]
+mod guard;
+#[cfg(given_source)]
+#[allow(warnings)]
+mod opaque {
+    use crate::iced_x86;
+
+    include!(concat!(env!("OUT_DIR"), "/opaque.rs"));
+
+    /// Whether the condition holds after the statements, and why.
+    pub fn node_verdict(
+        statements: &[crate::lift::Statement],
+        condition: &AstNode,
+    ) -> Option<(bool, String)> {
+        decide(&with_assignments(statements, condition))
+    }
+}
+#[cfg(given_source)]
+mod stand_ins;
+#[cfg(all(test, given_source))]
+mod tests;
+#[cfg(given_source)]
+use stand_ins::{asm, cfg, emit, emulate, iced_x86, lift, pipeline, register, structure};
+
+use std::io;
+use std::process::ExitCode;
+
+const USAGE: &str = "usage: given [--differences]
+Sheets are read from standard input, each as a length of 4 bytes and the bytes.
+--differences judges nodes with the entries of docs/DIFFERENCES.md.";
+
+fn main() -> ExitCode {
+    let args: Vec<String> = std::env::args().skip(1).collect();
+    let words: Vec<&str> = args.iter().map(String::as_str).collect();
+    let outcome = match words.as_slice() {
+        [] => run(false),
+        ["--differences"] => run(true),
+        _ => Err(io::Error::other(USAGE)),
+    };
+    match outcome {
+        Ok(()) => ExitCode::SUCCESS,
+        Err(error) => {
+            eprintln!("{error}");
+            ExitCode::from(2)
+        }
+    }
+}
+
+#[cfg(given_source)]
+fn run(differences: bool) -> io::Result<()> {
+    use engine::Nodes;
+    guard::hush();
+    let nodes = if differences { Nodes::WithDifferences } else { Nodes::AsTheyAre };
+    let mut input = io::BufReader::new(io::stdin());
+    let mut output = io::BufWriter::new(io::stdout());
+    oracle::compare::serve(&mut input, &mut output, |sheet| engine::line(sheet, nodes))
+}
+
+#[cfg(not(given_source))]
+fn run(_differences: bool) -> io::Result<()> {
+    println!("{}", oracle::verdicts::ABSENT);
+    io::copy(&mut io::stdin(), &mut io::sink()).map(|_| ())
+}

@@ -1,0 +1,20 @@
+//! Tools for sheets: writer, dump, independent reader, comparisons, stored
+//! cases, benchmark. README.md has an example of each command.
+
+pub mod bench;
+pub mod compare;
+pub mod damage;
+pub mod dump;
+pub mod encode;
+pub mod format;
+pub mod generate;
+pub mod held;
+pub mod random;
+pub mod reader;
+#[cfg(test)]
+mod tests;
+pub mod types;
+pub mod vectors;
+pub mod verdicts;
+pub mod words;
+pub mod write;

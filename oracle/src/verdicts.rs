@@ -1,0 +1,1 @@
+pub const ABSENT: &str = "not compared: source absent";
