@@ -30,11 +30,11 @@ impl Generator {
         Generator { random: Random::new(seed, index), slips }
     }
 
-    fn slip(&mut self) -> bool {
+    pub fn slip(&mut self) -> bool {
         self.slips != 0 && self.random.once_in(self.slips)
     }
 
-    fn upto(&mut self, most: usize) -> usize {
+    pub fn upto(&mut self, most: usize) -> usize {
         self.random.below(most + 1)
     }
 
@@ -61,7 +61,7 @@ impl Generator {
     }
 
     /// Often small, sometimes near a power of two, sometimes any number.
-    fn number(&mut self) -> u64 {
+    pub fn number(&mut self) -> u64 {
         match self.random.below(4) {
             0 => self.random.below(4) as u64,
             1 => self.random.below(0x1000) as u64,
@@ -71,7 +71,7 @@ impl Generator {
     }
 
     /// A register of class 1 that exists, of this size.
-    fn general(&mut self, size: u8) -> Register {
+    pub fn general(&mut self, size: u8) -> Register {
         let high = size == 8 && self.random.once_in(3);
         let index = self.random.below(if high { 4 } else { 16 }) as u8;
         let offset = if high { 8 } else { 0 };
@@ -91,17 +91,17 @@ impl Generator {
         }
     }
 
-    fn size(&mut self) -> u8 {
+    pub fn size(&mut self) -> u8 {
         self.random.pick(&[8, 16, 32, 64])
     }
 
-    fn outside_class(&mut self) -> Register {
+    pub fn outside_class(&mut self) -> Register {
         let class = self.random.pick(&[0, 2, 3, 255]);
         let [index, size, offset] = [self.random.byte(), self.random.byte(), self.random.byte()];
         Register { class, index, size, offset }
     }
 
-    fn any_register(&mut self) -> Register {
+    pub fn any_register(&mut self) -> Register {
         if self.random.once_in(4) {
             return self.outside_class();
         }
@@ -135,7 +135,7 @@ impl Generator {
         Operand::Register(self.general(size))
     }
 
-    fn instruction(&mut self, address: u64) -> Instruction {
+    pub fn instruction(&mut self, address: u64) -> Instruction {
         let mut insn = Instruction { address, ..Default::default() };
         self.lists(&mut insn);
         match self.random.below(9) {
@@ -153,7 +153,7 @@ impl Generator {
         insn
     }
 
-    fn lists(&mut self, insn: &mut Instruction) {
+    pub fn lists(&mut self, insn: &mut Instruction) {
         if self.random.once_in(4) {
             let most = if self.random.once_in(8) { 8 } else { 2 };
             let count = if self.slip() { 9 } else { self.upto(most) };
@@ -215,7 +215,7 @@ impl Generator {
         insn.second = Some(second);
     }
 
-    fn call_like(&mut self, insn: &mut Instruction) {
+    pub fn call_like(&mut self, insn: &mut Instruction) {
         insn.call_like = true;
         insn.mnemonic = self.random.below(35) as u8;
         self.any_operands(insn);
@@ -236,7 +236,7 @@ impl Generator {
         }
     }
 
-    fn any_operands(&mut self, insn: &mut Instruction) {
+    pub fn any_operands(&mut self, insn: &mut Instruction) {
         if self.random.once_in(2) {
             insn.first = Some(self.any_operand());
             if self.random.once_in(2) {

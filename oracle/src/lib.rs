@@ -11,6 +11,9 @@ pub mod generate;
 pub mod held;
 pub mod random;
 pub mod reader;
+pub mod replay;
+pub mod rich;
+pub mod rich_nodes;
 #[cfg(test)]
 mod tests;
 pub mod types;

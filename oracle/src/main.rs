@@ -1,6 +1,6 @@
 //! The commands. README.md has an example of each.
 
-use oracle::{bench, compare, dump, reader, vectors, words, write};
+use oracle::{bench, compare, dump, reader, replay, vectors, verdicts, words, write};
 use std::io::{self, BufReader, BufWriter, Read, Write};
 use std::process::ExitCode;
 
@@ -14,6 +14,10 @@ const USAGE: &str = "usage:
   oracle compare --stub [--sheets N] [--seed S]
   oracle vectors TEXT OUT          stored cases to one binary file
   oracle bench [--program PATH] [--save SHEET]
+  oracle replay-blocks TEXT OUT --given PATH
+                                   stored answers on blocks to one binary file
+  oracle verdicts --program PATH --given PATH [--sheets N] [--seed S] [--blocks-only]
+  oracle verdicts --stub --given PATH [--sheets N] [--seed S] [--blocks-only]
 A file name of - is standard input or output.";
 
 type Outcome = Result<bool, String>;
@@ -41,6 +45,10 @@ fn command(args: &[String]) -> Outcome {
         ["compare", options @ ..] => compare_program(&Options::parse(options)?),
         ["vectors", text, out] => make_vectors(text, out),
         ["bench", options @ ..] => bench_reader(&Options::parse(options)?),
+        ["replay-blocks", text, out, options @ ..] => {
+            make_replay(text, out, &Options::parse(options)?)
+        }
+        ["verdicts", options @ ..] => compare_verdicts(&Options::parse(options)?),
         _ => Err(USAGE.to_string()),
     }
 }
@@ -48,7 +56,9 @@ fn command(args: &[String]) -> Outcome {
 #[derive(Default)]
 struct Options {
     program: Option<String>,
+    given: Option<String>,
     stub: bool,
+    blocks_only: bool,
     sheets: Option<u64>,
     seed: Option<u64>,
     save: Option<String>,
@@ -59,14 +69,22 @@ impl Options {
         let mut options = Options::default();
         let mut words = words.iter();
         while let Some(word) = words.next() {
-            if *word == "--stub" {
-                options.stub = true;
-                continue;
+            match *word {
+                "--stub" => {
+                    options.stub = true;
+                    continue;
+                }
+                "--blocks-only" => {
+                    options.blocks_only = true;
+                    continue;
+                }
+                _ => {}
             }
             let value = words.next().ok_or_else(|| format!("{word} needs a value\n{USAGE}"))?;
             let number = || words::parse_number(value).ok_or(format!("{word} needs a number"));
             match *word {
                 "--program" => options.program = Some(value.to_string()),
+                "--given" => options.given = Some(value.to_string()),
                 "--save" => options.save = Some(value.to_string()),
                 "--sheets" => options.sheets = Some(number()?),
                 "--seed" => options.seed = Some(number()?),
@@ -153,11 +171,39 @@ fn compare_program(options: &Options) -> Outcome {
     compare::compare(&program, sheets, seed).map_err(|error| format!("{}: {error}", program[0]))
 }
 
+fn compare_verdicts(options: &Options) -> Outcome {
+    let Some(given) = &options.given else {
+        return Err(format!("verdicts needs --given\n{USAGE}"));
+    };
+    let program = if options.stub { Some(given) } else { options.program.as_ref() };
+    let Some(program) = program else {
+        return Err(format!("verdicts needs --program or --stub\n{USAGE}"));
+    };
+    let job = verdicts::Job {
+        program: std::slice::from_ref(program),
+        given: std::slice::from_ref(given),
+        sheets: options.sheets.unwrap_or(10_000),
+        seed: options.seed.unwrap_or(1),
+        blocks_only: options.blocks_only,
+    };
+    verdicts::compare(&job).map_err(|error| error.to_string())
+}
+
 fn make_vectors(text: &str, out: &str) -> Outcome {
     let cases = vectors::cases(&input_text(text)?)?;
     let bytes = vectors::encode(&cases);
     output(out, &bytes)?;
     println!("{} cases, {} bytes", cases.len(), bytes.len());
+    Ok(true)
+}
+
+fn make_replay(text: &str, out: &str, options: &Options) -> Outcome {
+    let Some(given) = &options.given else {
+        return Err(format!("replay-blocks needs --given\n{USAGE}"));
+    };
+    let (cases, bytes) = replay::make(&input_text(text)?, std::slice::from_ref(given))?;
+    output(out, &bytes)?;
+    println!("{cases} cases, {} bytes", bytes.len());
     Ok(true)
 }
 

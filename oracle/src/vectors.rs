@@ -23,13 +23,28 @@ pub struct Case {
 }
 
 /// The lines of one case, the first of them numbered `first_line`.
-struct Source<'a> {
-    name: &'a str,
-    first_line: usize,
+pub struct Source<'a> {
+    pub name: &'a str,
+    pub first_line: usize,
     lines: Vec<&'a str>,
 }
 
-fn sources(text: &str) -> Result<Vec<Source<'_>>, String> {
+impl Source<'_> {
+    /// The words of the one line `expect ...`, and the lines with an empty one
+    /// in its place, so that line numbers stay.
+    pub fn parts(&self) -> Result<(Vec<&str>, Vec<&str>), String> {
+        let is_expectation = |line: &&str| line.trim_start().starts_with("expect ");
+        let mut expectations = self.lines.iter().filter(|line| is_expectation(line));
+        let (Some(expectation), None) = (expectations.next(), expectations.next()) else {
+            return Err("one line 'expect ...' is needed".to_string());
+        };
+        let body =
+            self.lines.iter().map(|line| if is_expectation(line) { "" } else { *line }).collect();
+        Ok((expectation.split_whitespace().skip(1).collect(), body))
+    }
+}
+
+pub fn sources(text: &str) -> Result<Vec<Source<'_>>, String> {
     let mut list: Vec<Source> = Vec::new();
     for (index, line) in text.lines().enumerate() {
         let blank = line.split('#').next().unwrap_or("").trim().is_empty();
@@ -58,16 +73,8 @@ pub fn cases(text: &str) -> Result<Vec<Case>, String> {
 }
 
 fn one_source(source: &Source) -> Result<Vec<Case>, String> {
-    let is_expectation = |line: &&str| line.trim_start().starts_with("expect ");
-    let mut expectations = source.lines.iter().filter(|line| is_expectation(line));
-    let (Some(expectation), None) = (expectations.next(), expectations.next()) else {
-        return Err("one line 'expect ...' is needed".to_string());
-    };
-    // The expectation becomes an empty line, so that line numbers stay.
-    let body: Vec<&str> =
-        source.lines.iter().map(|line| if is_expectation(line) { "" } else { *line }).collect();
+    let (words, body) = source.parts()?;
     let (sheet, fields) = sheet_of(&body, source.first_line)?;
-    let words: Vec<&str> = expectation.split_whitespace().skip(1).collect();
     let (words, mut list) = match words.as_slice() {
         [_, .., "and", "cuts"] if fields.is_empty() => {
             return Err("cuts need a sheet as text, for its field starts".to_string());
@@ -80,7 +87,7 @@ fn one_source(source: &Source) -> Result<Vec<Case>, String> {
     Ok(list)
 }
 
-fn sheet_of(lines: &[&str], first_line: usize) -> Result<(Vec<u8>, Vec<Field>), String> {
+pub fn sheet_of(lines: &[&str], first_line: usize) -> Result<(Vec<u8>, Vec<Field>), String> {
     let content = |line: &str| line.split('#').next().unwrap_or("").trim().to_string();
     let filled: Vec<String> =
         lines.iter().map(|line| content(line)).filter(|line| !line.is_empty()).collect();

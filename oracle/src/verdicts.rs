@@ -1,1 +1,250 @@
+//! The comparison of a test program with the given source: both answer the
+//! same sheets, and their answers are compared block by block and node by
+//! node.
+//!
+//! A line is `blocks`, an answer for each block, `nodes`, an answer for each
+//! node; or the refusal. Answers are `n` (no branch at the block's end), `u`
+//! (undecided), `a` or `v` with the reason's number (always, never), and for
+//! nodes `r10` and `r11` (refused), and `-` where the given source was not
+//! run to its end.
+
+use crate::compare::{frame, run};
+use crate::dump;
+use crate::format::{Block, Sheet};
+use crate::reader::read;
+use crate::rich;
+use std::collections::BTreeMap;
+use std::io;
+
+/// What the driver says that was built without the source.
 pub const ABSENT: &str = "not compared: source absent";
+
+/// Sheets for which one process of each program is started.
+const BATCH: u64 = 5_000;
+
+/// Differences that are shown in full.
+const SHOWN: u64 = 10;
+
+pub struct Job<'a> {
+    pub program: &'a [String],
+    pub given: &'a [String],
+    pub sheets: u64,
+    pub seed: u64,
+    pub blocks_only: bool,
+}
+
+/// A program's line taken apart.
+#[derive(Debug, PartialEq, Eq)]
+pub enum Line {
+    Refused(String),
+    Answers { blocks: Vec<String>, nodes: Vec<String> },
+    Unclear,
+}
+
+impl Line {
+    pub fn parse(line: &str) -> Line {
+        if line.starts_with("refused ") {
+            return Line::Refused(line.to_string());
+        }
+        let mut words = line.split(' ');
+        if words.next() != Some("blocks") {
+            return Line::Unclear;
+        }
+        let words: Vec<String> = words.map(str::to_string).collect();
+        let mut parts = words.split(|word| word == "nodes");
+        let [blocks, nodes] = [(); 2].map(|()| parts.next().unwrap_or(&[]).to_vec());
+        if parts.next().is_some() {
+            return Line::Unclear;
+        }
+        Line::Answers { blocks, nodes }
+    }
+}
+
+/// An answer in words, for the counts.
+fn named(answer: &str) -> String {
+    let (verdict, reason) = answer.split_at(answer.len().min(1));
+    match verdict {
+        "a" => format!("always {reason}"),
+        "v" => format!("never {reason}"),
+        "u" => "undecided".to_string(),
+        "n" => "no branch".to_string(),
+        "r" => format!("refused {reason}"),
+        _ => "not judged by the given source".to_string(),
+    }
+}
+
+#[derive(Default)]
+struct Tally {
+    blocks: BTreeMap<String, u64>,
+    nodes: BTreeMap<String, u64>,
+    refused: u64,
+    compared: [u64; 2],
+    excused: u64,
+    differences: u64,
+}
+
+impl Tally {
+    fn difference(&mut self, index: u64, what: &str, answers: [&str; 2], text: &str) {
+        self.differences += 1;
+        if self.differences > SHOWN {
+            return;
+        }
+        println!("difference at sheet {index}, {what}");
+        println!("  given:   {}", answers[0]);
+        println!("  program: {}", answers[1]);
+        text.lines().for_each(|line| println!("    {line}"));
+    }
+
+    fn print(&self) {
+        for (what, counts) in [("blocks", &self.blocks), ("nodes", &self.nodes)] {
+            for (answer, count) in counts {
+                println!("{what} {answer}: {count}");
+            }
+        }
+        println!("sheets refused: {}", self.refused);
+        if self.excused > 0 {
+            println!("nodes that differ as docs/DIFFERENCES.md says: {}", self.excused);
+        }
+        let [blocks, nodes] = self.compared;
+        println!("compared {blocks} blocks, {nodes} nodes, differences {}", self.differences);
+    }
+}
+
+/// Compares; true if there was no difference, or nothing to compare with.
+pub fn compare(job: &Job) -> io::Result<bool> {
+    let mut tally = Tally::default();
+    let mut first = 0;
+    while first < job.sheets {
+        let end = job.sheets.min(first + BATCH);
+        let sheets: Vec<Vec<u8>> =
+            (first..end).map(|index| rich::sheet(job.seed, index, !job.blocks_only)).collect();
+        if !batch(job, first, &sheets, &mut tally)? {
+            println!("{ABSENT}");
+            return Ok(true);
+        }
+        first = end;
+    }
+    tally.print();
+    Ok(tally.differences == 0)
+}
+
+fn answers(program: &[String], sheets: &[Vec<u8>]) -> io::Result<Vec<String>> {
+    let mut input = Vec::new();
+    sheets.iter().for_each(|sheet| frame(&mut input, sheet));
+    run(program, input)
+}
+
+/// False if the source is absent.
+fn batch(job: &Job, first: u64, sheets: &[Vec<u8>], tally: &mut Tally) -> io::Result<bool> {
+    let given = answers(job.given, sheets)?;
+    if given.first().is_some_and(|line| line == ABSENT) {
+        return Ok(false);
+    }
+    if given.len() != sheets.len() {
+        return Err(io::Error::other("the given source's driver did not answer every sheet"));
+    }
+    let program = answers(job.program, sheets)?;
+    if program.len() > sheets.len() {
+        println!("the program wrote {} lines too many", program.len() - sheets.len());
+        tally.differences += 1;
+    }
+    let mut excuses = Excuses { job, sheets, lines: None };
+    for (number, sheet) in sheets.iter().enumerate() {
+        let index = first + number as u64;
+        let found = program.get(number).map_or("no line", String::as_str);
+        let pair = [given[number].as_str(), found];
+        let [left, right] = pair.map(Line::parse);
+        match (left, right) {
+            (Line::Refused(a), Line::Refused(b)) if a == b => tally.refused += 1,
+            (Line::Answers { blocks, nodes }, Line::Answers { blocks: blocks2, nodes: nodes2 }) => {
+                let sheet = read(sheet).expect("the driver accepts what the reader accepts").sheet;
+                compare_blocks(&sheet, index, &[blocks, blocks2], tally);
+                if !job.blocks_only {
+                    let mut excuse = |node: usize, answer: &str| excuses.hold(number, node, answer);
+                    compare_nodes(&sheet, index, &[nodes, nodes2], tally, &mut excuse)?;
+                }
+            }
+            _ => tally.difference(index, "the whole line", pair, &dump::dump(sheet)),
+        }
+    }
+    Ok(true)
+}
+
+fn compare_blocks(sheet: &Sheet, index: u64, lists: &[Vec<String>; 2], tally: &mut Tally) {
+    for (number, block) in sheet.blocks.iter().enumerate() {
+        let pair = [0, 1].map(|side| lists[side].get(number).map_or("no answer", String::as_str));
+        tally.compared[0] += 1;
+        *tally.blocks.entry(named(pair[0])).or_default() += 1;
+        if pair[0] != pair[1] {
+            let text = dump::text(&alone(sheet, *block));
+            tally.difference(index, &format!("block {number}"), pair, &text);
+        }
+    }
+    too_many(index, "blocks", lists, sheet.blocks.len(), tally);
+}
+
+fn too_many(index: u64, what: &str, lists: &[Vec<String>; 2], due: usize, tally: &mut Tally) {
+    let counts = [0, 1].map(|side| lists[side].len());
+    if counts.iter().any(|count| *count > due) {
+        let words = counts.map(|count| format!("{count} answers for {due} {what}"));
+        tally.difference(index, what, [&words[0], &words[1]], "");
+    }
+}
+
+/// A sheet of one block and its instructions.
+fn alone(sheet: &Sheet, block: Block) -> Sheet {
+    let inside = |address: u64| block.from <= address && address < block.to;
+    let chosen = sheet.instructions.iter().filter(|insn| inside(insn.address));
+    Sheet { instructions: chosen.cloned().collect(), blocks: vec![block], nodes: Vec::new() }
+}
+
+fn compare_nodes(
+    sheet: &Sheet,
+    index: u64,
+    lists: &[Vec<String>; 2],
+    tally: &mut Tally,
+    excuse: &mut dyn FnMut(usize, &str) -> io::Result<bool>,
+) -> io::Result<()> {
+    for (number, node) in sheet.nodes.iter().enumerate() {
+        let pair = [0, 1].map(|side| lists[side].get(number).map_or("no answer", String::as_str));
+        *tally.nodes.entry(named(pair[0])).or_default() += 1;
+        if pair[0] == "-" {
+            continue;
+        }
+        if pair[0] != pair[1] && excuse(number, pair[1])? {
+            tally.excused += 1;
+            continue;
+        }
+        tally.compared[1] += 1;
+        if pair[0] != pair[1] {
+            let text = dump::text(&Sheet { nodes: vec![node.clone()], ..Default::default() });
+            tally.difference(index, &format!("node {number}"), pair, &text);
+        }
+    }
+    too_many(index, "nodes", lists, sheet.nodes.len(), tally);
+    Ok(())
+}
+
+/// The given source's answers with the entries of docs/DIFFERENCES.md; asked
+/// for only if a node differs.
+struct Excuses<'a> {
+    job: &'a Job<'a>,
+    sheets: &'a [Vec<u8>],
+    lines: Option<Vec<String>>,
+}
+
+impl Excuses<'_> {
+    /// Whether the answer for the node is the one that the entries give.
+    fn hold(&mut self, sheet: usize, node: usize, answer: &str) -> io::Result<bool> {
+        if self.lines.is_none() {
+            let mut command = self.job.given.to_vec();
+            command.push("--differences".to_string());
+            self.lines = Some(answers(&command, self.sheets)?);
+        }
+        let line = self.lines.as_ref().and_then(|lines| lines.get(sheet));
+        Ok(match line.map(|line| Line::parse(line)) {
+            Some(Line::Answers { nodes, .. }) => nodes.get(node).is_some_and(|due| due == answer),
+            _ => false,
+        })
+    }
+}

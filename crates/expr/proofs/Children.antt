@@ -2,15 +2,15 @@
 -- record stands, m where the last child starts, and l where the one before starts.
 -- Assumes nothing.
 use mathlib.Core.Path.{_≡_, refl, sym, ap, ap₂, subst, _∙_}
-use mathlib.Core.List.{List, [], _∷_, _++_}
+use mathlib.Core.List.{List, [], _∷_}
 use Prim.Native.Nat.{ℕ, _+_, _/_, _%_, _-_, _≤_, _<_}
 use native.Mathlib.Omega.{arith}
 use lib.Dec.{lit≤}
 use lib.ListN.{length, getD, take, drop, length-take}
-use Rattle.expr.specs.Tree.{Expr, tagOf, valueOf, flat, flats, arityOf, child, nodes, node, parse, treeOf, treeCount, lastStart, Wf, Trees, Formed}
-use Rattle.expr.specs.Tree.Expr.{variable, constant, conditionTrue, conditionFalse, effect, load, cast, binary, ternary}
+use Rattle.expr.specs.Tree.{Expr, flat, flats, arityOf, child, nodes, node, treeOf, treeCount, lastStart, Wf, Trees, Formed}
+use Rattle.expr.specs.Tree.Expr.{conditionTrue, load, cast, binary, ternary}
 use Rattle.expr.proofs.Laws.{kids, kids-arity, formed-own, parse-of-flats, treeOf-flat, wf-flat, trees-flats, nine}
-use Rattle.expr.proofs.Parts.{Root, root, Split, split}
+use Rattle.expr.proofs.Parts.{root, Split, split}
 
 -- words that are a tree's
 part : (l : List ℕ) (e : Expr) → l ≡ flat e → Wf l × (treeOf l ≡ e)

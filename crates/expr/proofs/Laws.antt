@@ -4,8 +4,8 @@ use mathlib.Core.List.{List, [], _∷_, _++_, append-assoc, append-nil}
 use Prim.Native.Nat.{ℕ, zero, suc, _+_, _*_, _/_, _%_, _-_, _≤_, _<_}
 use native.Mathlib.Omega.{arith}
 use lib.Dec.{lit<, lit≤}
-use lib.ListN.{length, getD, take, drop, length-append, length-drop}
-use Rattle.expr.specs.Tree.{Expr, tagOf, valueOf, own, flat, arityOf, child, node, push, parse, treeOf, Wf, flats, Trees, treeCount, lastStart, Formed}
+use lib.ListN.{length, getD, drop, length-append, length-drop}
+use Rattle.expr.specs.Tree.{Expr, tagOf, valueOf, own, flat, arityOf, child, node, push, parse, treeOf, Wf, flats, Trees, treeCount, Formed}
 use Rattle.expr.specs.Tree.Expr.{variable, constant, conditionTrue, conditionFalse, effect, load, cast, binary, ternary}
 
 -- kind and argument of a tag word

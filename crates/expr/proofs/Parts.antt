@@ -2,13 +2,12 @@
 -- Assumes nothing.
 use mathlib.Core.Path.{_≡_, refl, sym, ap, ap₂, subst, _∙_}
 use mathlib.Core.List.{List, [], _∷_, _++_, append-assoc, append-nil, append-cancel-left}
-use Prim.Native.Nat.{ℕ, zero, suc, _+_, _*_, _/_, _%_, _-_, _≤_, _<_}
+use Prim.Native.Nat.{ℕ, zero, suc, _+_, _-_, _≤_, _<_}
 use native.Mathlib.Omega.{arith}
 use lib.ListN.{length, getD, take, drop, length-append, length-take}
 use lib.Seq.{take-length, length-take-le, take-take, take-at, getD-at, getD-take, take-add, drop-append-add}
-use Rattle.expr.specs.Tree.{Expr, tagOf, valueOf, own, flat, flats, arityOf, child, nodes, node, push, parse, treeOf, treeCount, lastStart, Wf, Trees}
-use Rattle.expr.specs.Tree.Expr.{variable, constant, conditionTrue, conditionFalse, effect, load, cast, binary, ternary}
-use Rattle.expr.proofs.Laws.{kids, kids-arity, push-own, flat-root, flat-two, flats-append, parse-of-flats, treeOf-flat, wf-flat, trees-flats}
+use Rattle.expr.specs.Tree.{Expr, tagOf, valueOf, own, flat, flats, arityOf, child, node, push, parse, treeOf, treeCount, lastStart, Wf, Trees}
+use Rattle.expr.proofs.Laws.{kids, kids-arity, push-own, flat-root, flat-two, flats-append, parse-of-flats, trees-flats, wf-two}
 
 -- the first n words end in a record
 pub record Ending (ws : List ℕ) (n : ℕ) (body : List ℕ) (tag value : ℕ) : Type 0 where
@@ -115,6 +114,10 @@ back-end rs at left h b =
     ∙ ap (λ (n : ℕ). length (flats (drop n (b .trees)))) none
     ∙ b .start
 
+-- where the root's record stands
+pub root-place : (ws : List ℕ) → Wf ws → length ws - 2 + 2 ≡ length ws
+root-place ws h = omega (arith, wf-two ws h)
+
 -- the root of a tree's words: its record, and its children's words in front of it
 pub record Root (ws : List ℕ) (n : ℕ) : Type 0 where
   pub size : 2 ≤ length ws
@@ -150,6 +153,10 @@ root ws n h e =
       count = ap treeCount body ∙ ap length (parse-of-flats (kids (treeOf ws))) ∙ kids-arity (treeOf ws) ∙ ap arityOf (sym tag);
       made = node-own (treeOf ws) ∙ ap₂ (λ (t v : ℕ). node t v (kids (treeOf ws))) (sym tag) (sym value);
     }
+
+-- where a last tree starts is a place of the words
+pub start-within : (ws : List ℕ) (n m : ℕ) → m ≡ lastStart (take n ws) → (m ≤ n) × (m ≡ length (take m ws))
+start-within ws n m h = (omega (arith, length-take n ws), omega (arith, length-take n ws, length-take m ws))
 
 -- the first n words are trees, and m is where the last of them starts
 pub record Split (ws : List ℕ) (n m : ℕ) (e : Expr) (st : List Expr) : Type 0 where

@@ -2,12 +2,12 @@
 use mathlib.Core.Path.{_≡_, refl, sym, ap, ap₂, _∙_}
 use mathlib.Core.Bool.{Bool, true, false, _&&_, _||_, or-false, or-assoc, or-comm}
 use mathlib.Core.List.{List, [], _∷_, _++_}
-use Prim.Native.Nat.{ℕ, zero, suc, _+_, _*_, _/_, _%_, _≤_, _<_}
+use Prim.Native.Nat.{ℕ, suc, _+_, _*_, _%_, _≤_, _<_}
 use native.Mathlib.Omega.{arith}
 use lib.Dec.{eqb, lit<}
 use lib.ListN.{length, getD, drop, drop-of-length-le}
 use lib.Seq.{drop-cons, drop-drop}
-use Rattle.expr.specs.Tree.{Expr, tagOf, valueOf, own, flat, treeOf, Wf}
+use Rattle.expr.specs.Tree.{Expr, tagOf, own, flat, treeOf, Wf}
 use Rattle.expr.specs.Tree.Expr.{variable, constant, conditionTrue, conditionFalse, effect, load, cast, binary, ternary}
 use Rattle.expr.specs.Scan.{anyNode, anyTag, isEffect, isLoad, isVariable, ofKind, ofVariable}
 use Rattle.expr.proofs.Laws.{kind-of, argument-of, flat-even}

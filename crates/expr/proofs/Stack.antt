@@ -2,15 +2,15 @@
 -- the trees. Assumes nothing.
 use mathlib.Core.Path.{_≡_, refl, sym, ap, ap₂, subst, _∙_}
 use mathlib.Core.List.{List, [], _∷_, _++_, append-assoc, append-nil}
-use Prim.Native.Nat.{ℕ, zero, suc, _+_, _*_, _/_, _%_, _-_, _≤_, _<_}
+use Prim.Native.Nat.{ℕ, zero, suc, _+_, _/_, _%_, _-_, _≤_, _<_}
 use native.Mathlib.Numerals.{add-one, add-two}
 use native.Mathlib.Omega.{arith}
 use lib.ListN.{length, getD, drop, set, length-append, length-drop, length-set, List·getD-map, drop-of-length-le}
-use lib.Seq.{drop-cons, drop-drop, getD-set-same, getD-set-other}
-use Rattle.expr.specs.Tree.{Expr, tagOf, valueOf, own, flat, arityOf, child, nodes, node, push, parse, treeOf, Wf, Formed}
+use lib.Seq.{getD-set-same, getD-set-other}
+use Rattle.expr.specs.Tree.{Expr, own, flat, arityOf, child, nodes, node, push, parse, treeOf, Wf, Formed}
 use Rattle.expr.specs.Tree.Expr.{variable, constant, conditionTrue, conditionFalse, effect, load, cast, binary, ternary}
-use Rattle.expr.specs.Types.{typeOf, recordTypes, recordType}
-use Rattle.expr.proofs.Laws.{kids, kids-arity, push-own, formed-own, length-push, parse-of-flat, wf-parse, nine}
+use Rattle.expr.specs.Types.{typeOf, recordType}
+use Rattle.expr.proofs.Laws.{kids, kids-arity, push-own, formed-own, length-push, wf-parse, nine}
 
 -- every record of the words is formed, and finds its children on the stack
 unfoldable pub Fed : List Expr → List ℕ → Type 0

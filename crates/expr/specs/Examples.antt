@@ -1,11 +1,11 @@
 -- Worked examples of the definitions.
 use mathlib.Core.Path.{_≡_, refl}
-use mathlib.Core.Bool.{Bool, true, false}
+use mathlib.Core.Bool.{true, false}
 use mathlib.Core.List.{List, [], _∷_}
 use Prim.Native.Nat.{ℕ}
-use Rattle.expr.specs.Tree.{Expr, tagOf, valueOf, flat, arityOf, node, push, parse, treeOf}
-use Rattle.expr.specs.Tree.Expr.{variable, constant, conditionTrue, conditionFalse, effect, load, cast, binary, ternary}
-use Rattle.expr.specs.Scan.{anyNode, isEffect, isLoad, isVariable, hasEffect, hasLoad, reads, sameWords, sameTree}
+use Rattle.expr.specs.Tree.{Expr, tagOf, valueOf, flat, arityOf, node, push, parse}
+use Rattle.expr.specs.Tree.Expr.{variable, constant, conditionTrue, load, cast, binary, ternary}
+use Rattle.expr.specs.Scan.{anyNode, isVariable, reads, sameWords, sameTree}
 use Rattle.expr.specs.Types.{promoted, common, constantType, binaryType, typeOf, plainType, sameType}
 
 -- x × (x + 1), with x the variable 0 and 1 a constant of width 4

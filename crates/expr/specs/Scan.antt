@@ -18,6 +18,7 @@ anyNode p (cast t a) = p (cast t a) || anyNode p a
 anyNode p (binary o a b) = p (binary o a b) || (anyNode p a || anyNode p b)
 anyNode p (ternary c a b) = p (ternary c a b) || (anyNode p c || (anyNode p a || anyNode p b))
 
+-- the tree is an effect
 unfoldable pub isEffect : Expr → Bool
 isEffect (variable n) = false
 isEffect (constant w x) = false
@@ -29,6 +30,7 @@ isEffect (cast t a) = false
 isEffect (binary o a b) = false
 isEffect (ternary c a b) = false
 
+-- the tree is a load
 unfoldable pub isLoad : Expr → Bool
 isLoad (variable n) = false
 isLoad (constant w x) = false
@@ -40,6 +42,7 @@ isLoad (cast t a) = false
 isLoad (binary o a b) = false
 isLoad (ternary c a b) = false
 
+-- the tree is the variable of number v
 unfoldable pub isVariable : ℕ → Expr → Bool
 isVariable v (variable n) = eqb n v
 isVariable v (constant w x) = false

@@ -1,5 +1,5 @@
 -- The static types of expressions. A type is its number: 0 to 3 signed 8, 16, 32, 64; 4 to 7 unsigned; 8 pointer; 9 bool.
-use mathlib.Core.Bool.{Bool, true, false, cond}
+use mathlib.Core.Bool.{Bool, cond}
 use mathlib.Core.List.{List, [], _∷_}
 use Prim.Native.Nat.{ℕ, _/_, _%_, max}
 use lib.Dec.{eqb, leb, ltb}
@@ -7,7 +7,8 @@ use lib.ListN.{getD}
 use Rattle.expr.specs.Tree.{Expr}
 use Rattle.expr.specs.Tree.Expr.{variable, constant, conditionTrue, conditionFalse, effect, load, cast, binary, ternary}
 
--- 'Values': what an operand's type becomes, type by type. Those below 32 bits and bool become signed 32, and a pointer is unsigned 64.
+-- 'Values', promotion: the type that an operand of each type is taken at. 8 and 16 bits and bool widen to signed 32, and a pointer counts as a
+-- 64-bit number without sign.
 unfoldable pub promoted : ℕ → ℕ
 promoted t = getD (2 ∷ 2 ∷ 2 ∷ 3 ∷ 2 ∷ 2 ∷ 6 ∷ 7 ∷ 7 ∷ 2 ∷ []) t t
 
@@ -19,12 +20,12 @@ common a b = cond (ltb (a % 4) (b % 4)) b (cond (ltb (b % 4) (a % 4)) a (max a b
 abbrev pub together : ℕ → ℕ → ℕ
 together a b = common (promoted a) (promoted b)
 
--- 'Values': constants are unsigned of their width, 1, 2, 4 or 8 bytes.
+-- 'Values', constants: the unsigned type that has as many bytes, 1, 2, 4 or 8.
 unfoldable pub constantType : ℕ → ℕ
 constantType w = cond (eqb w 1) 4 (cond (eqb w 2) 5 (cond (eqb w 4) 6 7))
 
--- 'Values': comparisons (operators 10 to 15) and logic (16, 17) are signed 32; a shift (8, 9) has the promoted left type; any other
--- operator (0 to 7) has the type of both operands together.
+-- 'Values', operators: from 10 up, comparisons and logic, the result is a signed 32-bit truth value; 8 and 9, the shifts, keep the type that
+-- their left operand is promoted to; below 8 both operands decide.
 unfoldable pub binaryType : ℕ → ℕ → ℕ → ℕ
 binaryType o a b = cond (leb 10 o) 2 (cond (leb 8 o) (promoted a) (together a b))
 
@@ -48,10 +49,10 @@ recordTypes types n a b = getD types n 0 ∷ constantType n ∷ 2 ∷ 2 ∷ n �
 unfoldable pub recordType : List ℕ → ℕ → ℕ → ℕ → ℕ
 recordType types tag a b = getD (recordTypes types (tag / 16) a b) (tag % 16) 2
 
--- 'Turned back', 9: pointer counts as unsigned 64.
+-- 'Turned back', 9: the type that stands for t in a comparison of types.
 unfoldable pub plainType : ℕ → ℕ
 plainType t = cond (eqb t 8) 7 t
 
--- 'Turned back', 9: a value's type is its variable's.
+-- 'Turned back', 9: two types between which an assignment is no fault.
 unfoldable pub sameType : ℕ → ℕ → Bool
 sameType a b = eqb (plainType a) (plainType b)

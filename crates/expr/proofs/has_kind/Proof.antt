@@ -1,18 +1,14 @@
 -- `expr::has_kind` meets its contract. The invariant: a scan of all the words is one of those from i on. The measure is what is left of them.
 -- Assumes nothing.
 use mathlib.Core.Path.{_≡_, refl, _∙_, sym}
-use mathlib.Core.Bool.{_&&_}
-use Prim.Native.Nat.{_-_, _%_, _/_}
+use Prim.Native.Nat.{_-_}
 use native.Mathlib.Omega.{arith}
-use borrow.Author.Needs.{needs}
 use borrow.Author.Tests.{eq-eqb, ne-eqb}
-use lib.ListN.{length, getD, drop}
-use Rattle.expr.specs.Scan.{anyTag, ofKind, ofVariable}
+use lib.ListN.{length, drop}
+use Rattle.expr.specs.Scan.{anyTag, ofKind}
 use Rattle.expr.proofs.Scans.{any-here, any-on, any-end}
 use Rattle.expr.proofs.has_kind.Statement.{statement}
 use Rattle.expr.proofs.has_kind.Tie as tie
-use Rattle.expr.proofs.has_kind.Reads as reads
-use Rattle.expr.proofs.has_kind.Lts as lts
 
 abbrev Inv-loop : tie.InvT-loop
 Inv-loop rs kind i₀ i = anyTag (ofKind kind) rs ≡ anyTag (ofKind kind) (drop i rs)
@@ -20,41 +16,33 @@ Inv-loop rs kind i₀ i = anyTag (ofKind kind) rs ≡ anyTag (ofKind kind) (drop
 abbrev μ-loop : tie.MeasureT-loop
 μ-loop rs kind i₀ i = length rs - i
 
--- src/lib.rt:23:5
 loop-holds : tie.Need-loop-holds Inv-loop μ-loop
 loop-holds c = refl
 
--- src/lib.rt:24:12
 mul-if1 : tie.Need-mul-if1 Inv-loop μ-loop
 mul-if1 c = omega arith
 
--- src/lib.rt:24:12
 shared-slice-read-if1 : tie.Need-shared-slice-read-if1 Inv-loop μ-loop
 shared-slice-read-if1 c = omega arith
 
--- src/lib.rt:25:13
 returns : tie.Need-returns Inv-loop μ-loop
 returns c =
     let l = c .before .before .before in
     let a = l .before .args in
     sym (l .loop .inv ∙ any-here (ofKind (a .kind)) (a .rs .now) (l .loop .i) (c .before .before .loop-test .taken) (eq-eqb _ _ (c .if1 .taken)))
 
--- src/lib.rt:27:9
 add-i : tie.Need-add-i Inv-loop μ-loop
 add-i c = omega arith
 
--- src/lib.rt:23:5
 loop-less : tie.Need-loop-less Inv-loop μ-loop
 loop-less c = omega arith
 
--- src/lib.rt:23:5
 loop-again : tie.Need-loop-again Inv-loop μ-loop
 loop-again c =
     let l = c .before .before .before in
     let a = l .before .args in
     l .loop .inv ∙ any-on (ofKind (a .kind)) (a .rs .now) (l .loop .i) (c .before .before .loop-test .taken) (ne-eqb _ _ (c .if1 .left))
 
--- src/lib.rt:19:1
 returns-2 : tie.Need-returns-2 Inv-loop μ-loop
 returns-2 c =
     let l = c .before in

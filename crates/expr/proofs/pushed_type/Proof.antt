@@ -1,10 +1,10 @@
 -- `expr::pushed_type` meets its contract: each arm reads the definition's list at its kinds.
 -- Assumes nothing.
 use mathlib.Core.Path.{_≡_, refl, sym}
-use mathlib.Core.List.{List, [], _∷_}
+use mathlib.Core.List.{List}
 use Prim.Native.Nat.{ℕ, _/_, _%_, _≤_, _<_}
 use native.Mathlib.Omega.{arith}
-use lib.ListN.{getD, List·getD-eq-default}
+use lib.ListN.{List·getD-eq-default}
 use Rattle.expr.specs.Types.{recordTypes, recordType}
 use Rattle.expr.proofs.Laws.{nine}
 use borrow.Author.Needs.{needs}

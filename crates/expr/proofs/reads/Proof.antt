@@ -1,18 +1,13 @@
 -- `expr::reads` meets its contract. The invariant: the answer is a scan of the words from i on. The measure is what is left of them.
 -- Assumes nothing.
 use mathlib.Core.Path.{_≡_, refl, _∙_, sym}
-use mathlib.Core.Bool.{_&&_}
-use Prim.Native.Nat.{_-_, _%_, _/_}
+use Prim.Native.Nat.{_-_}
 use native.Mathlib.Omega.{arith}
-use borrow.Author.Needs.{needs}
-use borrow.Author.Tests.{eq-eqb, ne-eqb}
-use lib.ListN.{length, getD, drop}
-use Rattle.expr.specs.Scan.{anyTag, isVariable, ofKind, ofVariable}
+use lib.ListN.{length, drop}
+use Rattle.expr.specs.Scan.{anyTag, isVariable, ofVariable}
 use Rattle.expr.proofs.Scans.{any-here, any-on, any-end, any-tree, variable-tag}
 use Rattle.expr.proofs.reads.Statement.{statement}
 use Rattle.expr.proofs.reads.Tie as tie
-use Rattle.expr.proofs.reads.Reads as reads
-use Rattle.expr.proofs.reads.Lts as lts
 
 abbrev Inv-loop : tie.InvT-loop
 Inv-loop rs v i₀ i = anyTag (ofVariable v) rs ≡ anyTag (ofVariable v) (drop i rs)
@@ -20,19 +15,15 @@ Inv-loop rs v i₀ i = anyTag (ofVariable v) rs ≡ anyTag (ofVariable v) (drop 
 abbrev μ-loop : tie.MeasureT-loop
 μ-loop rs v i₀ i = length rs - i
 
--- src/lib.rt:54:5
 loop-holds : tie.Need-loop-holds Inv-loop μ-loop
 loop-holds c = refl
 
--- src/lib.rt:55:19
 mul-tag : tie.Need-mul-tag Inv-loop μ-loop
 mul-tag c = omega arith
 
--- src/lib.rt:55:19
 shared-slice-read-tag : tie.Need-shared-slice-read-tag Inv-loop μ-loop
 shared-slice-read-tag c = omega arith
 
--- src/lib.rt:57:13
 returns : tie.Need-returns Inv-loop μ-loop
 returns c =
     let l = c .before .before .before in
@@ -41,22 +32,18 @@ returns c =
     sym (sym (any-tree (ofVariable v) (isVariable v) (variable-tag v) (a .rs .now) (l .before .pre)) ∙ l .loop .inv
     ∙ any-here (ofVariable v) (a .rs .now) (l .loop .i) (c .before .before .loop-test .taken) (c .if1 .taken))
 
--- src/lib.rt:59:9
 add-i : tie.Need-add-i Inv-loop μ-loop
 add-i c = omega arith
 
--- src/lib.rt:54:5
 loop-less : tie.Need-loop-less Inv-loop μ-loop
 loop-less c = omega arith
 
--- src/lib.rt:54:5
 loop-again : tie.Need-loop-again Inv-loop μ-loop
 loop-again c =
     let l = c .before .before .before in
     let a = l .before .args in
     l .loop .inv ∙ any-on (ofVariable (a .v)) (a .rs .now) (l .loop .i) (c .before .before .loop-test .taken) (c .if1 .left)
 
--- src/lib.rt:49:1
 returns-2 : tie.Need-returns-2 Inv-loop μ-loop
 returns-2 c =
     let l = c .before in

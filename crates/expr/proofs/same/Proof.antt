@@ -1,15 +1,13 @@
 -- `expr::same` meets its contract. The invariant: comparing all the words is comparing those from i on. The measure is what is left of them.
 -- Assumes nothing.
 use mathlib.Core.Path.{_≡_, refl, sym, _∙_}
-use Prim.Native.Nat.{_-_, _+_, _≤_}
+use Prim.Native.Nat.{_-_}
 use native.Mathlib.Omega.{arith}
-use lib.ListN.{length, getD, drop}
+use lib.ListN.{length, drop}
 use Rattle.expr.specs.Scan.{sameWords}
 use Rattle.expr.proofs.Sameness.{same-words, words-unlike, words-on, words-stop, words-end}
 use Rattle.expr.proofs.same.Statement.{statement}
 use Rattle.expr.proofs.same.Tie as tie
-use Rattle.expr.proofs.same.Reads as reads
-use Rattle.expr.proofs.same.Lts as lts
 
 abbrev Inv-loop : tie.InvT-loop
 Inv-loop a b i₀ i = sameWords a b ≡ sameWords (drop i a) (drop i b)
@@ -17,33 +15,26 @@ Inv-loop a b i₀ i = sameWords a b ≡ sameWords (drop i a) (drop i b)
 abbrev μ-loop : tie.MeasureT-loop
 μ-loop a b i₀ i = length a - i
 
--- src/lib.rt:195:9
 returns : tie.Need-returns Inv-loop μ-loop
 returns c =
     let s = c .before in
     sym (same-words (s .args .a .now) (s .args .b .now) (s .pre .0) (s .pre .1) ∙ words-unlike (s .args .a .now) (s .args .b .now) (c .if1 .taken))
 
--- src/lib.rt:198:5
 loop-holds : tie.Need-loop-holds Inv-loop μ-loop
 loop-holds c = refl
 
--- src/lib.rt:199:12
 mul-if2 : tie.Need-mul-if2 Inv-loop μ-loop
 mul-if2 c = omega arith
 
--- src/lib.rt:199:12
 shared-slice-read-if2 : tie.Need-shared-slice-read-if2 Inv-loop μ-loop
 shared-slice-read-if2 c = omega arith
 
--- src/lib.rt:199:20
 mul-if2-2 : tie.Need-mul-if2-2 Inv-loop μ-loop
 mul-if2-2 c = omega arith
 
--- src/lib.rt:199:20
 shared-slice-read-if2-2 : tie.Need-shared-slice-read-if2-2 Inv-loop μ-loop
 shared-slice-read-if2-2 c = omega arith
 
--- src/lib.rt:200:13
 returns-2 : tie.Need-returns-2 Inv-loop μ-loop
 returns-2 c =
     let l = c .before .before .before .before in
@@ -51,22 +42,18 @@ returns-2 c =
     sym (same-words (s .args .a .now) (s .args .b .now) (s .pre .0) (s .pre .1) ∙ l .loop .inv
     ∙ words-stop (s .args .a .now) (s .args .b .now) (l .loop .i) (omega arith) (omega arith) (c .if2 .taken))
 
--- src/lib.rt:202:9
 add-i : tie.Need-add-i Inv-loop μ-loop
 add-i c = omega arith
 
--- src/lib.rt:198:5
 loop-less : tie.Need-loop-less Inv-loop μ-loop
 loop-less c = omega arith
 
--- src/lib.rt:198:5
 loop-again : tie.Need-loop-again Inv-loop μ-loop
 loop-again c =
     let l = c .before .before .before .before in
     let s = l .before .before in
     l .loop .inv ∙ words-on (s .args .a .now) (s .args .b .now) (l .loop .i) (omega arith) (omega arith) (c .if2 .left)
 
--- src/lib.rt:189:1
 returns-3 : tie.Need-returns-3 Inv-loop μ-loop
 returns-3 c =
     let l = c .before in

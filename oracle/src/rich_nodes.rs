@@ -1,0 +1,235 @@
+//! Random nodes aimed at verdicts: conditions in which low bits, equal sides,
+//! signs and halves settle something, behind assignments that are carried to
+//! them.
+
+use crate::format::*;
+use crate::generate::{Generator, SMALL};
+use crate::types;
+
+const ADD: u8 = 0;
+const SUB: u8 = 1;
+const MUL: u8 = 2;
+const REM: u8 = 4;
+const AND: u8 = 5;
+const OR: u8 = 6;
+const XOR: u8 = 7;
+const SHL: u8 = 8;
+const EQUAL: u8 = 10;
+const NOT_EQUAL: u8 = 11;
+const BOTH: u8 = 16;
+const EITHER: u8 = 17;
+
+const MOST_RECORDS: usize = 120;
+
+pub fn node(generator: &mut Generator) -> Node {
+    if generator.random.once_in(10) {
+        return generator.node(SMALL, &[]);
+    }
+    let count = 1 + generator.random.below(3);
+    let mut variables: Vec<u8> = vec![generator.random.pick(&[6, 6, 7, 4, 2, 3]); count];
+    for code in &mut variables {
+        if generator.random.once_in(4) {
+            *code = generator.random.below(10) as u8;
+        }
+    }
+    let mut writer = Writer { generator, variables };
+    let count = writer.below(5);
+    let statements = (0..count).map(|_| writer.statement()).collect();
+    let condition = writer.limited(|writer| writer.condition(3));
+    Node { variables: writer.variables, statements, condition, addresses: Vec::new() }
+}
+
+struct Writer<'a> {
+    generator: &'a mut Generator,
+    variables: Vec<u8>,
+}
+
+fn join(mut a: Expression, operator: u8, b: Expression) -> Expression {
+    a.extend(b);
+    a.push(Record::Binary(operator));
+    a
+}
+
+fn inside(mut a: Expression, record: Record) -> Expression {
+    a.push(record);
+    a
+}
+
+impl Writer<'_> {
+    fn below(&mut self, limit: usize) -> usize {
+        self.generator.random.below(limit)
+    }
+
+    /// An expression that fits a sheet.
+    fn limited(&mut self, make: impl Fn(&mut Self) -> Expression) -> Expression {
+        let made = make(self);
+        if made.len() > MOST_RECORDS {
+            return vec![Record::True];
+        }
+        made
+    }
+
+    fn statement(&mut self) -> Statement {
+        if self.below(12) == 0 {
+            return Statement::Other;
+        }
+        let variable = self.below(self.variables.len()) as u8;
+        let declared = self.variables[variable as usize];
+        let mut value = self.limited(|writer| writer.value(2));
+        let found = types::of_expression(&value, &self.variables);
+        if found.is_none_or(|found| types::plain(found) != types::plain(declared)) {
+            value.push(Record::Cast(declared));
+        }
+        Statement::Assign { variable, value }
+    }
+
+    fn condition(&mut self, depth: usize) -> Expression {
+        match self.below(20) {
+            0..=5 if depth > 0 => {
+                let operator = self.generator.random.pick(&[BOTH, EITHER]);
+                join(self.condition(depth - 1), operator, self.condition(depth - 1))
+            }
+            6 => vec![self.generator.random.pick(&[Record::True, Record::False])],
+            7 => self.against_zero(),
+            8 => {
+                let side = self.value(2);
+                let operator = EQUAL + self.below(6) as u8;
+                join(side.clone(), operator, side)
+            }
+            9 => self.value(2),
+            10 => {
+                let operator = EQUAL + self.below(6) as u8;
+                join(self.value(2), operator, self.value(2))
+            }
+            _ => self.equality(),
+        }
+    }
+
+    fn equality(&mut self) -> Expression {
+        let operator = self.generator.random.pick(&[EQUAL, NOT_EQUAL]);
+        let (mut left, mut right) = match self.below(4) {
+            0 => (self.exact(), self.exact()),
+            1 => {
+                // Low bits that differ, or might.
+                let side = self.value(2);
+                let other = join(side.clone(), ADD, self.value(1));
+                (side, other)
+            }
+            2 => (self.value(2), self.constant()),
+            _ => (self.exact(), self.constant()),
+        };
+        if self.below(2) == 0 {
+            std::mem::swap(&mut left, &mut right);
+        }
+        join(left, operator, right)
+    }
+
+    /// A cast against 0, on either side.
+    fn against_zero(&mut self) -> Expression {
+        let operator = 12 + self.below(4) as u8;
+        let code = self.below(10) as u8;
+        let cast = inside(self.value(1), Record::Cast(code));
+        let zero = vec![Record::Constant { width: self.width(), value: 0 }];
+        if self.below(2) == 0 {
+            join(cast, operator, zero)
+        } else {
+            join(zero, operator, cast)
+        }
+    }
+
+    /// A side whose value may be known, in casts at times.
+    fn exact(&mut self) -> Expression {
+        let value = match self.below(7) {
+            0 | 1 => join(self.value(2), AND, self.one()),
+            2 => join(self.one(), AND, self.value(2)),
+            3 => join(self.value(2), REM, self.small(2)),
+            4 => {
+                let side = self.value(1);
+                join(side.clone(), self.generator.random.pick(&[SUB, XOR]), side)
+            }
+            5 => join(self.small(0), self.generator.random.pick(&[AND, MUL]), self.value(1)),
+            _ => self.constant(),
+        };
+        match self.below(3) {
+            0 => {
+                let code = self.below(10) as u8;
+                inside(value, Record::Cast(code))
+            }
+            _ => value,
+        }
+    }
+
+    fn width(&mut self) -> u8 {
+        self.generator.random.pick(&[1, 2, 4, 4, 4, 8])
+    }
+
+    fn small(&mut self, value: u64) -> Expression {
+        vec![Record::Constant { width: self.width(), value }]
+    }
+
+    fn one(&mut self) -> Expression {
+        self.small(1)
+    }
+
+    fn constant(&mut self) -> Expression {
+        let value = self.generator.random.pick(&[0, 0, 1, 1, 2, 3, 4, 5, 31, 32, 33, 64, 255]);
+        self.small(value)
+    }
+
+    fn value(&mut self, depth: usize) -> Expression {
+        if depth == 0 {
+            return self.leaf();
+        }
+        match self.below(16) {
+            0 | 1 => self.leaf(),
+            2 | 3 => self.even(depth),
+            4 => {
+                let code = self.below(10) as u8;
+                inside(self.value(depth - 1), Record::Cast(code))
+            }
+            5 => join(self.value(depth - 1), SHL, self.constant()),
+            6 => join(self.value(depth - 1), REM, self.constant()),
+            7 => {
+                let operator = self.below(18) as u8;
+                join(self.value(depth - 1), operator, self.value(depth - 1))
+            }
+            8 => {
+                let mut all = self.condition(0);
+                all.extend(self.value(depth - 1));
+                all.extend(self.value(depth - 1));
+                inside(all, Record::Ternary)
+            }
+            9 => {
+                let code = self.below(10) as u8;
+                inside(self.value(depth - 1), Record::Load(code))
+            }
+            _ => {
+                let operator = self.generator.random.pick(&[ADD, SUB, MUL, AND, OR, XOR]);
+                join(self.value(depth - 1), operator, self.value(depth - 1))
+            }
+        }
+    }
+
+    /// Products and sums that are even, whatever their parts are.
+    fn even(&mut self, depth: usize) -> Expression {
+        let part = self.value(depth - 1);
+        match self.below(4) {
+            0 => join(part.clone(), MUL, join(part, ADD, self.one())),
+            1 => join(join(part.clone(), MUL, part.clone()), ADD, part),
+            2 => join(self.small(2), MUL, part),
+            _ => join(part.clone(), ADD, part),
+        }
+    }
+
+    fn leaf(&mut self) -> Expression {
+        match self.below(12) {
+            0..=7 => vec![Record::Variable(self.below(self.variables.len()) as u8)],
+            8 => {
+                let code = self.below(10) as u8;
+                vec![Record::Effect(code)]
+            }
+            9 => vec![self.generator.random.pick(&[Record::True, Record::False])],
+            _ => self.constant(),
+        }
+    }
+}
