@@ -1,6 +1,7 @@
 //! Tools for sheets: writer, dump, independent reader, comparisons, stored
 //! cases, benchmark. README.md has an example of each command.
 
+pub mod assemble;
 pub mod bench;
 pub mod compare;
 pub mod damage;
@@ -9,11 +10,13 @@ pub mod encode;
 pub mod format;
 pub mod generate;
 pub mod held;
+pub mod processor;
 pub mod random;
 pub mod reader;
 pub mod replay;
 pub mod rich;
 pub mod rich_nodes;
+pub mod silicon;
 #[cfg(test)]
 mod tests;
 pub mod types;

@@ -1,6 +1,6 @@
 //! The commands. README.md has an example of each.
 
-use oracle::{bench, compare, dump, reader, replay, vectors, verdicts, words, write};
+use oracle::{bench, compare, dump, processor, reader, replay, vectors, verdicts, words, write};
 use std::io::{self, BufReader, BufWriter, Read, Write};
 use std::process::ExitCode;
 
@@ -14,10 +14,11 @@ const USAGE: &str = "usage:
   oracle compare --stub [--sheets N] [--seed S]
   oracle vectors TEXT OUT          stored cases to one binary file
   oracle bench [--program PATH] [--save SHEET]
-  oracle replay-blocks TEXT OUT --given PATH
+  oracle replay-blocks OUT --given PATH
                                    stored answers on blocks to one binary file
   oracle verdicts --program PATH --given PATH [--sheets N] [--seed S] [--blocks-only]
   oracle verdicts --stub --given PATH [--sheets N] [--seed S] [--blocks-only]
+  oracle processor --program PATH [--runs N] [--seed S]
 A file name of - is standard input or output.";
 
 type Outcome = Result<bool, String>;
@@ -45,9 +46,8 @@ fn command(args: &[String]) -> Outcome {
         ["compare", options @ ..] => compare_program(&Options::parse(options)?),
         ["vectors", text, out] => make_vectors(text, out),
         ["bench", options @ ..] => bench_reader(&Options::parse(options)?),
-        ["replay-blocks", text, out, options @ ..] => {
-            make_replay(text, out, &Options::parse(options)?)
-        }
+        ["processor", options @ ..] => judge_by_processor(&Options::parse(options)?),
+        ["replay-blocks", out, options @ ..] => make_replay(out, &Options::parse(options)?),
         ["verdicts", options @ ..] => compare_verdicts(&Options::parse(options)?),
         _ => Err(USAGE.to_string()),
     }
@@ -60,6 +60,7 @@ struct Options {
     stub: bool,
     blocks_only: bool,
     sheets: Option<u64>,
+    runs: Option<u64>,
     seed: Option<u64>,
     save: Option<String>,
 }
@@ -87,6 +88,7 @@ impl Options {
                 "--given" => options.given = Some(value.to_string()),
                 "--save" => options.save = Some(value.to_string()),
                 "--sheets" => options.sheets = Some(number()?),
+                "--runs" => options.runs = Some(number()?),
                 "--seed" => options.seed = Some(number()?),
                 _ => return Err(format!("unknown option {word}\n{USAGE}")),
             }
@@ -189,6 +191,14 @@ fn compare_verdicts(options: &Options) -> Outcome {
     verdicts::compare(&job).map_err(|error| error.to_string())
 }
 
+fn judge_by_processor(options: &Options) -> Outcome {
+    let Some(program) = &options.program else {
+        return Err(format!("processor needs --program\n{USAGE}"));
+    };
+    let (runs, seed) = (options.runs.unwrap_or(200_000), options.seed.unwrap_or(1));
+    processor::judge(std::slice::from_ref(program), runs, seed).map_err(|error| error.to_string())
+}
+
 fn make_vectors(text: &str, out: &str) -> Outcome {
     let cases = vectors::cases(&input_text(text)?)?;
     let bytes = vectors::encode(&cases);
@@ -197,11 +207,11 @@ fn make_vectors(text: &str, out: &str) -> Outcome {
     Ok(true)
 }
 
-fn make_replay(text: &str, out: &str, options: &Options) -> Outcome {
+fn make_replay(out: &str, options: &Options) -> Outcome {
     let Some(given) = &options.given else {
         return Err(format!("replay-blocks needs --given\n{USAGE}"));
     };
-    let (cases, bytes) = replay::make(&input_text(text)?, std::slice::from_ref(given))?;
+    let (cases, bytes) = replay::make(std::slice::from_ref(given))?;
     output(out, &bytes)?;
     println!("{cases} cases, {} bytes", bytes.len());
     Ok(true)

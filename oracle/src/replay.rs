@@ -47,11 +47,14 @@ fn generated() -> Vec<Case> {
     fit.take(SHEETS).map(case).collect()
 }
 
-/// The file's content: the cases of the text and the generated ones, with
-/// the answers of the given source. A case of the text that it answers
-/// otherwise is an error.
-pub fn make(text: &str, given: &[String]) -> Result<(usize, Vec<u8>), String> {
-    let mut list = cases(text)?;
+/// The cases worked out by hand.
+pub const BY_HAND: &str = include_str!("../vectors/blocks.txt");
+
+/// The file's content: the cases by hand and the generated ones, with the
+/// answers of the given source. A case by hand that it answers otherwise is
+/// an error.
+pub fn make(given: &[String]) -> Result<(usize, Vec<u8>), String> {
+    let mut list = cases(BY_HAND)?;
     list.extend(generated());
     let mut input = Vec::new();
     list.iter().for_each(|case| frame(&mut input, &case.sheet));

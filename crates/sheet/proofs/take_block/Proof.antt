@@ -1,0 +1,23 @@
+use Rattle.sheet.specs.Sheet.{blockAt}
+use borrow.Author.Needs.{needs}
+use Rattle.sheet.proofs.take_block.Statement.{statement}
+use Rattle.sheet.proofs.take_block.Tie as tie
+use Rattle.sheet.proofs.take_block.Reads as reads
+use Rattle.sheet.proofs.take_block.Lts as lts
+use Rattle.field.proofs.take_field.Reads as take-field-reads
+
+-- src/lib.rt:57:9
+take-field-requires : tie.Need-take-field-requires
+take-field-requires c κs = search needs
+
+-- src/lib.rt:59:9
+take-field-requires-2 : tie.Need-take-field-requires-2
+take-field-requires-2 c κs = search needs
+
+-- src/lib.rt:54:1
+returns : tie.Need-returns
+unfolding blockAt
+returns c = cc
+
+pub take-block-spec : {M : Type 1} → statement M
+take-block-spec = tie.close (tie.spec take-field-requires take-field-requires-2 returns)

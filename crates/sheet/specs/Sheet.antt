@@ -1,0 +1,124 @@
+-- The sheet: its three sections one after the other, and what reading any bytes answers.
+use Prim.Native.Nat.{ℕ, zero, suc, _+_, _*_}
+use mathlib.Core.Path.{_≡_}
+use mathlib.Core.List.{List, [], _∷_, _++_}
+use mathlib.Core.Bool.{Bool}
+use lib.Dec.{eqb, leb}
+use lib.ListN.{length}
+use Rattle.field.specs.declared.Place.{Place}
+use Rattle.field.specs.declared.Place.the-variants.{At, Refused}
+use Rattle.field.specs.Field.{fieldAt, startOf, judge, countAt}
+use Rattle.isa.specs.declared.Instruction.{Instruction}
+use Rattle.instructions.specs.Instruction.{instructionAt}
+use Rattle.nodes.specs.declared.NodeField.{NodeField}
+use Rattle.nodes.specs.Node.{Node, nodeAt, nodeOf}
+use Rattle.sheet.specs.declared.Section.{Section}
+use Rattle.sheet.specs.declared.Sheet.{Sheet}
+use Rattle.sheet.specs.declared.Reading.{Reading}
+use Rattle.sheet.specs.declared.Reading.the-variants as reading
+use Rattle.sheet.specs.declared.Instructions.{Instructions}
+use Rattle.sheet.specs.declared.BlockField.{BlockField}
+
+-- what instruction records that were read one after the other give: the instructions, the place of each, the last address,
+-- and the place after them
+pub record InstructionsRead : Type 0 where
+  pub list : List Instruction
+  pub places : List ℕ
+  pub last : ℕ
+  pub next : Place
+
+-- after the first k instructions, from a place on
+unfoldable pub instructionsFrom : List ℕ → Place → ℕ → InstructionsRead
+instructionsFrom s p zero = record { list = []; places = []; last = 0; next = p }
+instructionsFrom s p (suc k) =
+    let before = instructionsFrom s p k in
+    let r = instructionAt (eqb k 0) (before .last) s (before .next) in
+    record {
+      list = before .list ++ (r .instruction ∷ []);
+      places = before .places ++ (startOf (before .next) ∷ []);
+      last = r .instruction .address;
+      next = r .next;
+    }
+
+-- what a check of instructions leaves
+pub record Checked (f : Instructions) (r : InstructionsRead) : Type 0 where
+  pub last : f .last ≡ r .last
+  pub place : f .next ≡ r .next
+
+-- Block: from and to, 8 bytes each.
+unfoldable pub blockAt : List ℕ → Place → BlockField
+blockAt s p =
+    let from = fieldAt 8 s p in
+    let to = fieldAt 8 s (from .next) in
+    record { from = from .value; to = to .value; next = to .next }
+
+pub record Block : Type 0 where
+  pub from : ℕ
+  pub to : ℕ
+
+pub record BlocksRead : Type 0 where
+  pub list : List Block
+  pub next : Place
+
+-- after the first k blocks
+unfoldable pub blocksFrom : List ℕ → Place → ℕ → BlocksRead
+blocksFrom s p zero = record { list = []; next = p }
+blocksFrom s p (suc k) =
+    let before = blocksFrom s p k in
+    let b = blockAt s (before .next) in
+    record { list = before .list ++ (record { from = b .from; to = b .to } ∷ []); next = b .next }
+
+pub record NodesRead : Type 0 where
+  pub list : List Node
+  pub next : Place
+
+-- after the first k nodes
+unfoldable pub nodesFrom : List ℕ → Place → ℕ → NodesRead
+nodesFrom s p zero = record { list = []; next = p }
+nodesFrom s p (suc k) =
+    let before = nodesFrom s p k in
+    let n = nodeAt s (before .next) in
+    record { list = before .list ++ (nodeOf s n ∷ []); next = n .next }
+
+-- Turned back, 1: bytes left over; the refusal stands at the first of them.
+abbrev pub ended : List ℕ → Place → Place
+ended s p = judge (leb (length s) (startOf p)) 1 (startOf p) p
+
+-- A sheet as syntax, the places of its records, and the place that reading came to.
+pub record SheetRead : Type 0 where
+  pub instructions : InstructionsRead
+  pub blocks : BlocksRead
+  pub nodes : NodesRead
+  pub sheet : Sheet
+  pub end : Place
+
+-- The sheet: up to 2,048 instructions, 1,024 blocks and 1,024 nodes, each count (2 bytes) followed by its records, and
+-- nothing behind them.
+unfoldable pub sheetAt : List ℕ → SheetRead
+sheetAt s =
+    let i = countAt 0 2048 s (At 0) in
+    let instructions = instructionsFrom s (i .next) (i .value) in
+    let b = countAt 0 1024 s (instructions .next) in
+    let blocks = blocksFrom s (b .next) (b .value) in
+    let n = countAt 0 1024 s (blocks .next) in
+    let nodes = nodesFrom s (n .next) (n .value) in
+    record {
+      instructions = instructions;
+      blocks = blocks;
+      nodes = nodes;
+      sheet = record {
+        instructions = record { count = i .value; at = startOf (i .next) };
+        blocks = record { count = b .value; at = startOf (b .next) };
+        nodes = record { count = n .value; at = startOf (n .next) };
+      };
+      end = ended s (nodes .next);
+    }
+
+-- a sheet is accepted where reading came to its end
+abbrev pub answerOf : Place → Sheet → Reading
+answerOf (At at) sheet = reading.Accepted sheet
+answerOf (Refused number at) sheet = reading.Refused number at
+
+-- Reading: accepted, or the first refusal, its number and its place.
+unfoldable pub readingOf : List ℕ → Reading
+readingOf s = answerOf (sheetAt s .end) (sheetAt s .sheet)
