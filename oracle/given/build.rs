@@ -6,8 +6,10 @@
 use std::fs;
 use std::path::{Path, PathBuf};
 
-/// The folder of the source from this package's, if `GIVEN_SRC` names none.
-const DEFAULT: &str = "../../../shared/docs/src";
+/// The repository's root from this package's folder, and the folder of the
+/// source from the root, if `GIVEN_SRC` names none.
+const ROOT: &str = "../..";
+const DEFAULT: &str = "../shared/docs/src";
 
 /// Where the files stand in the folder.
 const INSIDE: &str = "crates/ag-engine/src";
@@ -31,7 +33,7 @@ fn main() {
 fn source_folder() -> PathBuf {
     let package = std::env::var("CARGO_MANIFEST_DIR").expect("cargo names the package's folder");
     let named = std::env::var("GIVEN_SRC").unwrap_or_else(|_| DEFAULT.to_string());
-    Path::new(&package).join(named)
+    Path::new(&package).join(ROOT).join(named)
 }
 
 fn store(name: &str, file: File) {

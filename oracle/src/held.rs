@@ -1,101 +1,101 @@
-//! Substitution measured, not carried out: how long the expressions of a node
-//! become where assigned values are written for the variables that they still
-//! stand for, and which values do not stand.
+//! Assigned values written for the variables that they still stand for.
 //!
 //! A value stands (it is held) from its assignment until one to a variable
 //! that it reads, or to its own; a value with a load or an effect in it never
 //! does. Substitution does not enter a load.
 
-use crate::format::{Node, Record, Statement};
+use crate::format::{Expression, Node, Record, Statement};
 
-/// What is known of an expression: its length in records, the variables that
-/// it reads as bits, and whether it is free of loads and effects.
-#[derive(Clone, Copy, Debug)]
-struct Measure {
-    records: u64,
-    reads: u64,
-    plain: bool,
-}
-
-/// What substitution does to a node.
-#[derive(Debug, Default, PartialEq, Eq)]
-pub struct Plan {
-    /// The length of the longest substituted value, or of the condition.
-    pub most_records: u64,
+/// What substitution makes of a node.
+#[derive(Debug, PartialEq, Eq)]
+pub struct Substituted {
+    pub condition: Expression,
     /// Statements whose value stands by the given source's rule and does not
     /// by the first entry of docs/DIFFERENCES.md.
     pub not_held: Vec<usize>,
 }
 
-fn bit(variable: u8) -> u64 {
-    1 << (variable & 63)
+/// Which rule says what stands.
+#[derive(Clone, Copy, Debug, PartialEq, Eq)]
+pub enum Rule {
+    /// The given source's.
+    Given,
+    /// The same with the first entry of docs/DIFFERENCES.md: a value that
+    /// reads another variable whose value ends with this assignment does not
+    /// stand.
+    Ours,
 }
 
-/// Measures a node; `with_difference` applies the first entry of
-/// docs/DIFFERENCES.md.
-pub fn plan(node: &Node, with_difference: bool) -> Plan {
-    let mut held: Vec<Option<Measure>> = vec![None; node.variables.len()];
-    let mut plan = Plan::default();
+/// Carries the substitution out; nothing if a value or the condition passes
+/// `most` records.
+pub fn substitute(node: &Node, rule: Rule, most: usize) -> Option<Substituted> {
+    let mut held: Vec<Option<Expression>> = vec![None; node.variables.len()];
+    let mut not_held = Vec::new();
     for (number, statement) in node.statements.iter().enumerate() {
         let Statement::Assign { variable, value } = statement else {
             held.fill(None);
             continue;
         };
-        let value = substituted(value, &held);
-        plan.most_records = plan.most_records.max(value.records);
-        let stopped = stop(&mut held, *variable);
-        let stale = with_difference && value.reads & stopped & !bit(*variable) != 0;
-        if stale && value.plain {
-            plan.not_held.push(number);
+        let value = written(value, &held);
+        if value.len() > most {
+            return None;
         }
-        if value.plain && !stale {
+        let ended = end(&mut held, *variable);
+        let stale = ended.iter().any(|other| other != variable && reads(&value, *other));
+        if !plain(&value) {
+            continue;
+        }
+        if stale && rule == Rule::Ours {
+            not_held.push(number);
+        } else {
             held[*variable as usize] = Some(value);
         }
     }
-    plan.most_records = plan.most_records.max(substituted(&node.condition, &held).records);
-    plan
+    let condition = written(&node.condition, &held);
+    (condition.len() <= most).then_some(Substituted { condition, not_held })
+}
+
+fn reads(value: &[Record], variable: u8) -> bool {
+    value.contains(&Record::Variable(variable))
+}
+
+fn plain(value: &[Record]) -> bool {
+    !value.iter().any(|record| matches!(record, Record::Load(_) | Record::Effect(_)))
 }
 
 /// Ends the values that read the variable, and its own; gives the variables
 /// whose values read it.
-fn stop(held: &mut [Option<Measure>], variable: u8) -> u64 {
-    let mut stopped = 0;
+fn end(held: &mut [Option<Expression>], variable: u8) -> Vec<u8> {
+    let mut ended = Vec::new();
     for (other, entry) in held.iter_mut().enumerate() {
-        if entry.is_some_and(|value| value.reads & bit(variable) != 0) {
-            stopped |= bit(other as u8);
+        if entry.as_ref().is_some_and(|value| reads(value, variable)) {
+            ended.push(other as u8);
             *entry = None;
         }
     }
     held[variable as usize] = None;
-    stopped
+    ended
 }
 
-/// The measure of an expression after substitution. Each part is measured
-/// both with and without, since what stands under a load is left as it is.
-fn substituted(records: &[Record], held: &[Option<Measure>]) -> Measure {
-    let mut stack: Vec<[Measure; 2]> = Vec::new();
-    for record in records {
+/// An expression with held values written for its variables. Each part on the
+/// stack has its start in the expression, since a load keeps what is under it.
+fn written(records: &[Record], held: &[Option<Expression>]) -> Expression {
+    let mut stack: Vec<(usize, Expression)> = Vec::new();
+    for (at, record) in records.iter().enumerate() {
         let children = stack.split_off(stack.len() - record.children());
-        let before = whole(*record, children.iter().map(|child| child[0]));
-        let after = match record {
-            Record::Variable(number) => held[*number as usize].unwrap_or(before),
-            Record::Load(_) => before,
-            _ => whole(*record, children.iter().map(|child| child[1])),
+        let start = children.first().map_or(at, |child| child.0);
+        let part = match record {
+            Record::Variable(number) => {
+                held[*number as usize].clone().unwrap_or_else(|| vec![*record])
+            }
+            Record::Load(_) => records[start..=at].to_vec(),
+            _ => {
+                let mut part: Expression = children.into_iter().flat_map(|child| child.1).collect();
+                part.push(*record);
+                part
+            }
         };
-        stack.push([before, after]);
+        stack.push((start, part));
     }
-    stack.pop().expect("an accepted expression is one tree")[1]
-}
-
-fn whole(record: Record, children: impl Iterator<Item = Measure>) -> Measure {
-    let own = Measure {
-        records: 1,
-        reads: if let Record::Variable(number) = record { bit(number) } else { 0 },
-        plain: !matches!(record, Record::Load(_) | Record::Effect(_)),
-    };
-    children.fold(own, |sum, child| Measure {
-        records: sum.records.saturating_add(child.records),
-        reads: sum.reads | child.reads,
-        plain: sum.plain && child.plain,
-    })
+    stack.pop().expect("an accepted expression is one tree").1
 }

@@ -10,6 +10,7 @@ pub mod encode;
 pub mod format;
 pub mod generate;
 pub mod held;
+pub mod limits;
 pub mod processor;
 pub mod random;
 pub mod reader;

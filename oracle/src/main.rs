@@ -177,12 +177,14 @@ fn compare_verdicts(options: &Options) -> Outcome {
     let Some(given) = &options.given else {
         return Err(format!("verdicts needs --given\n{USAGE}"));
     };
-    let program = if options.stub { Some(given) } else { options.program.as_ref() };
-    let Some(program) = program else {
-        return Err(format!("verdicts needs --program or --stub\n{USAGE}"));
+    // The driver with the differences stands in for a program of ours.
+    let program = match &options.program {
+        _ if options.stub => vec![given.clone(), "--differences".to_string()],
+        Some(path) => vec![path.clone()],
+        None => return Err(format!("verdicts needs --program or --stub\n{USAGE}")),
     };
     let job = verdicts::Job {
-        program: std::slice::from_ref(program),
+        program: &program,
         given: std::slice::from_ref(given),
         sheets: options.sheets.unwrap_or(10_000),
         seed: options.seed.unwrap_or(1),

@@ -264,7 +264,7 @@ fn start(random: &mut Random, body: &Body) -> Start {
         }
     }
     let same = random.next();
-    let mut value = |random: &mut Random| match random.below(4) {
+    let value = |random: &mut Random| match random.below(4) {
         0 | 1 => random.pick(&values),
         2 => same,
         _ => random.next() >> random.below(64),

@@ -25,6 +25,9 @@ pub fn node(generator: &mut Generator) -> Node {
     if generator.random.once_in(10) {
         return generator.node(SMALL, &[]);
     }
+    if generator.random.once_in(600) {
+        return wide_node(generator);
+    }
     let count = 1 + generator.random.below(3);
     let mut variables: Vec<u8> = vec![generator.random.pick(&[6, 6, 7, 4, 2, 3]); count];
     for code in &mut variables {
@@ -35,8 +38,49 @@ pub fn node(generator: &mut Generator) -> Node {
     let mut writer = Writer { generator, variables };
     let count = writer.below(5);
     let statements = (0..count).map(|_| writer.statement()).collect();
-    let condition = writer.limited(|writer| writer.condition(3));
+    let condition = writer.limited(|writer| writer.condition(2));
     Node { variables: writer.variables, statements, condition, addresses: Vec::new() }
+}
+
+/// Lengths of sums whose products come near the limits on terms.
+const FACTORS: [&[u8]; 8] = [
+    &[2, 2, 2, 2, 2, 2, 2, 2],
+    &[2, 2, 2, 2, 2, 2, 2, 2, 2],
+    &[16, 16],
+    &[16, 17],
+    &[3, 5, 17],
+    &[3, 3, 3, 3, 3, 3],
+    &[4, 4, 4, 3],
+    &[4, 4, 4, 4],
+];
+
+/// A product of sums over many variables.
+fn wide_node(generator: &mut Generator) -> Node {
+    let mut next = 0;
+    let mut sum = |terms: u8| {
+        let mut all = vec![Record::Variable(next % 32)];
+        for _ in 1..terms {
+            next += 1;
+            all = join(all, ADD, vec![Record::Variable(next % 32)]);
+        }
+        next += 1;
+        all
+    };
+    let sizes = generator.random.pick(&FACTORS);
+    let operator = generator.random.pick(&[MUL, AND, OR]);
+    let mut side = sum(sizes[0]);
+    for terms in &sizes[1..] {
+        side = join(side, operator, sum(*terms));
+    }
+    if generator.random.once_in(3) {
+        side = inside(side, Record::Cast(generator.random.below(10) as u8));
+    }
+    let low = Record::Constant { width: 4, value: 1 };
+    if generator.random.once_in(2) {
+        side = join(side, AND, vec![low]);
+    }
+    let condition = join(side, EQUAL, vec![low]);
+    Node { variables: vec![6; 32], condition, ..Default::default() }
 }
 
 struct Writer<'a> {

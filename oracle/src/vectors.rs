@@ -139,8 +139,8 @@ fn check(case: &Case) -> Result<(), String> {
     Err(format!("case {name}: expected {expected:?}, the reader says {}", line(&answer)))
 }
 
-/// For each case: length (4), sheet, number (1; 0 accepted), place (4),
-/// three counts (2 each). Numbers are little-endian.
+/// For each case: length, sheet, number (0 accepted), place, three counts.
+/// Numbers are little-endian, 4 bytes each.
 pub fn encode(cases: &[Case]) -> Vec<u8> {
     let mut out = Vec::new();
     for case in cases {
@@ -150,9 +150,11 @@ pub fn encode(cases: &[Case]) -> Vec<u8> {
         };
         out.extend_from_slice(&(case.sheet.len() as u32).to_le_bytes());
         out.extend_from_slice(&case.sheet);
-        out.push(number);
+        out.extend_from_slice(&u32::from(number).to_le_bytes());
         out.extend_from_slice(&place.to_le_bytes());
-        counts.iter().for_each(|count| out.extend_from_slice(&count.to_le_bytes()));
+        for count in counts {
+            out.extend_from_slice(&u32::from(count).to_le_bytes());
+        }
     }
     out
 }

@@ -7,6 +7,10 @@
 //! (undecided), `a` or `v` with the reason's number (always, never), and for
 //! nodes `r10` and `r11` (refused), and `-` where the given source was not
 //! run to its end.
+//!
+//! For nodes the given source answers twice: as it is, and with the entries
+//! of docs/DIFFERENCES.md and the refusals that it does not have. The second
+//! answers are the ones due; where they are not the first, that is counted.
 
 use crate::compare::{frame, run};
 use crate::dump;
@@ -79,7 +83,9 @@ struct Tally {
     nodes: BTreeMap<String, u64>,
     refused: u64,
     compared: [u64; 2],
+    /// Nodes for which another answer is due than the given source's.
     excused: u64,
+    limited: u64,
     differences: u64,
 }
 
@@ -102,8 +108,9 @@ impl Tally {
             }
         }
         println!("sheets refused: {}", self.refused);
-        if self.excused > 0 {
+        if self.compared[1] > 0 {
             println!("nodes that differ as docs/DIFFERENCES.md says: {}", self.excused);
+            println!("nodes refused for their size: {}", self.limited);
         }
         let [blocks, nodes] = self.compared;
         println!("compared {blocks} blocks, {nodes} nodes, differences {}", self.differences);
@@ -134,6 +141,16 @@ fn answers(program: &[String], sheets: &[Vec<u8>]) -> io::Result<Vec<String>> {
     run(program, input)
 }
 
+fn with_differences(job: &Job, sheets: &[Vec<u8>]) -> io::Result<Vec<String>> {
+    let mut command = job.given.to_vec();
+    command.push("--differences".to_string());
+    let lines = answers(&command, sheets)?;
+    if lines.len() != sheets.len() {
+        return Err(io::Error::other("the given source's driver did not answer every sheet"));
+    }
+    Ok(lines)
+}
+
 /// False if the source is absent.
 fn batch(job: &Job, first: u64, sheets: &[Vec<u8>], tally: &mut Tally) -> io::Result<bool> {
     let given = answers(job.given, sheets)?;
@@ -148,7 +165,7 @@ fn batch(job: &Job, first: u64, sheets: &[Vec<u8>], tally: &mut Tally) -> io::Re
         println!("the program wrote {} lines too many", program.len() - sheets.len());
         tally.differences += 1;
     }
-    let mut excuses = Excuses { job, sheets, lines: None };
+    let due = if job.blocks_only { given.clone() } else { with_differences(job, sheets)? };
     for (number, sheet) in sheets.iter().enumerate() {
         let index = first + number as u64;
         let found = program.get(number).map_or("no line", String::as_str);
@@ -159,9 +176,10 @@ fn batch(job: &Job, first: u64, sheets: &[Vec<u8>], tally: &mut Tally) -> io::Re
             (Line::Answers { blocks, nodes }, Line::Answers { blocks: blocks2, nodes: nodes2 }) => {
                 let sheet = read(sheet).expect("the driver accepts what the reader accepts").sheet;
                 compare_blocks(&sheet, index, &[blocks, blocks2], tally);
-                if !job.blocks_only {
-                    let mut excuse = |node: usize, answer: &str| excuses.hold(number, node, answer);
-                    compare_nodes(&sheet, index, &[nodes, nodes2], tally, &mut excuse)?;
+                if let (false, Line::Answers { nodes: due, .. }) =
+                    (job.blocks_only, Line::parse(&due[number]))
+                {
+                    compare_nodes(&sheet, index, &[nodes, due, nodes2], tally);
                 }
             }
             _ => tally.difference(index, "the whole line", pair, &dump::dump(sheet)),
@@ -180,11 +198,11 @@ fn compare_blocks(sheet: &Sheet, index: u64, lists: &[Vec<String>; 2], tally: &m
             tally.difference(index, &format!("block {number}"), pair, &text);
         }
     }
-    too_many(index, "blocks", lists, sheet.blocks.len(), tally);
+    too_many(index, "blocks", [&lists[0], &lists[1]], sheet.blocks.len(), tally);
 }
 
-fn too_many(index: u64, what: &str, lists: &[Vec<String>; 2], due: usize, tally: &mut Tally) {
-    let counts = [0, 1].map(|side| lists[side].len());
+fn too_many(index: u64, what: &str, lists: [&[String]; 2], due: usize, tally: &mut Tally) {
+    let counts = lists.map(<[String]>::len);
     if counts.iter().any(|count| *count > due) {
         let words = counts.map(|count| format!("{count} answers for {due} {what}"));
         tally.difference(index, what, [&words[0], &words[1]], "");
@@ -198,53 +216,27 @@ fn alone(sheet: &Sheet, block: Block) -> Sheet {
     Sheet { instructions: chosen.cloned().collect(), blocks: vec![block], nodes: Vec::new() }
 }
 
-fn compare_nodes(
-    sheet: &Sheet,
-    index: u64,
-    lists: &[Vec<String>; 2],
-    tally: &mut Tally,
-    excuse: &mut dyn FnMut(usize, &str) -> io::Result<bool>,
-) -> io::Result<()> {
+/// Answers of the given source, those due, and the program's.
+fn compare_nodes(sheet: &Sheet, index: u64, lists: &[Vec<String>; 3], tally: &mut Tally) {
     for (number, node) in sheet.nodes.iter().enumerate() {
-        let pair = [0, 1].map(|side| lists[side].get(number).map_or("no answer", String::as_str));
-        *tally.nodes.entry(named(pair[0])).or_default() += 1;
-        if pair[0] == "-" {
-            continue;
-        }
-        if pair[0] != pair[1] && excuse(number, pair[1])? {
-            tally.excused += 1;
+        let answer = |side: usize| lists[side].get(number).map_or("no answer", String::as_str);
+        let [given, due, found] = [answer(0), answer(1), answer(2)];
+        *tally.nodes.entry(named(due)).or_default() += 1;
+        if due == "-" {
             continue;
         }
         tally.compared[1] += 1;
-        if pair[0] != pair[1] {
+        match due {
+            _ if due == given => {}
+            "r10" | "r11" => tally.limited += 1,
+            _ => tally.excused += 1,
+        }
+        if due != found {
             let text = dump::text(&Sheet { nodes: vec![node.clone()], ..Default::default() });
-            tally.difference(index, &format!("node {number}"), pair, &text);
+            let both = format!("{due} (as it is: {given})");
+            tally.difference(index, &format!("node {number}"), [&both, found], &text);
         }
     }
-    too_many(index, "nodes", lists, sheet.nodes.len(), tally);
-    Ok(())
-}
-
-/// The given source's answers with the entries of docs/DIFFERENCES.md; asked
-/// for only if a node differs.
-struct Excuses<'a> {
-    job: &'a Job<'a>,
-    sheets: &'a [Vec<u8>],
-    lines: Option<Vec<String>>,
-}
-
-impl Excuses<'_> {
-    /// Whether the answer for the node is the one that the entries give.
-    fn hold(&mut self, sheet: usize, node: usize, answer: &str) -> io::Result<bool> {
-        if self.lines.is_none() {
-            let mut command = self.job.given.to_vec();
-            command.push("--differences".to_string());
-            self.lines = Some(answers(&command, self.sheets)?);
-        }
-        let line = self.lines.as_ref().and_then(|lines| lines.get(sheet));
-        Ok(match line.map(|line| Line::parse(line)) {
-            Some(Line::Answers { nodes, .. }) => nodes.get(node).is_some_and(|due| due == answer),
-            _ => false,
-        })
-    }
+    let [_, due, found] = lists;
+    too_many(index, "nodes", [due, found], sheet.nodes.len(), tally);
 }

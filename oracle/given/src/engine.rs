@@ -9,15 +9,17 @@ use crate::opaque;
 use crate::pipeline::Disasm;
 use crate::register::RegisterId;
 use oracle::format as sheet;
-use oracle::held;
+use oracle::held::{substitute, Rule};
+use oracle::limits;
 use oracle::reader;
 
 /// Records of a substituted expression beyond which a node is not judged:
 /// the given source has no limit, and expressions may double at each step.
-const MOST_RECORDS: u64 = 2_000;
+const MOST_RECORDS: usize = 2_000;
 
-/// Which nodes are judged: those of the sheet, or those that have the
-/// answers of docs/DIFFERENCES.md by the given source's own steps.
+/// Which nodes are judged: those of the sheet, or ones for which the given
+/// source's own steps give what docs/DIFFERENCES.md says, with the refusals
+/// 10 and 11.
 #[derive(Clone, Copy, PartialEq, Eq)]
 pub enum Nodes {
     AsTheyAre,
@@ -107,14 +109,17 @@ fn operand(operand: sheet::Operand) -> Operand {
 /// `-` where the source was not run to its end.
 fn node_answer(node: &sheet::Node, nodes: Nodes) -> String {
     let differ = nodes == Nodes::WithDifferences;
-    let plan = held::plan(node, differ);
-    if plan.most_records > MOST_RECORDS {
-        return "-".to_string();
+    if let (true, Some(number)) = (differ, limits::refusal(node)) {
+        return format!("r{number}");
     }
+    let rule = if differ { Rule::Ours } else { Rule::Given };
+    let Some(found) = substitute(node, rule, MOST_RECORDS) else {
+        return "-".to_string();
+    };
     let mut builder = Builder { effects: differ.then_some(0) };
     let mut statements = Vec::new();
     for (number, statement) in node.statements.iter().enumerate() {
-        let held = !plan.not_held.contains(&number);
+        let held = !found.not_held.contains(&number);
         statements.push(Statement { node: builder.statement(statement, held) });
     }
     let condition = builder.expression(&node.condition);

@@ -43,7 +43,8 @@ use std::process::ExitCode;
 
 const USAGE: &str = "usage: given [--differences]
 Sheets are read from standard input, each as a length of 4 bytes and the bytes.
---differences judges nodes with the entries of docs/DIFFERENCES.md.";
+--differences judges nodes with the entries of docs/DIFFERENCES.md and with the
+refusals 10 and 11.";
 
 fn main() -> ExitCode {
     let args: Vec<String> = std::env::args().skip(1).collect();

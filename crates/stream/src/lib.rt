@@ -1,0 +1,53 @@
+// For test programs: sheets from standard input, each behind its length, and words and numbers to standard output.
+use libc::{STDIN_FILENO, STDOUT_FILENO};
+ghost use mathlib.Core.Path.{_≡_};
+ghost use lib.ListN.{length};
+
+pub fn word(text: &[u8]) {
+    io::write_all(STDOUT_FILENO, text);
+}
+
+// A space and the number.
+pub fn number(n: u64) {
+    word(b" ");
+    io::print_decimal(STDOUT_FILENO, n);
+}
+
+// Room for the longest sheet that is read.
+pub fn room() -> [u8; 1048576]
+    ensures { λ r. ⌜ 1048576 ≡ length r ⌝ }
+{
+    [0; 1048576]
+}
+
+// A sheet of that length at the front of the room, or the end of the input.
+pub enum Next {
+    Sheet(usize),
+    End,
+}
+
+fn size(a: u8, b: u8, c: u8, d: u8) -> usize {
+    (a as usize) + 256 * ((b as usize) + 256 * ((c as usize) + 256 * (d as usize)))
+}
+
+// A number in four bytes, little-endian, read from standard input; the largest where the input ends.
+pub fn next_number() -> usize {
+    let mut head = [0u8; 4];
+    let got = io::read_full(STDIN_FILENO, &mut head);
+    if got < 4 {
+        return usize::MAX;
+    }
+    size(head[0], head[1], head[2], head[3])
+}
+
+pub fn next_sheet(buf: &mut [u8]) -> Next {
+    let n = next_number();
+    if n > buf.len() {
+        return Next::End;
+    }
+    let had = io::read_full(STDIN_FILENO, &mut buf[..n]);
+    if had < n {
+        return Next::End;
+    }
+    Next::Sheet(n)
+}

@@ -1,0 +1,87 @@
+use Prim.Native.Nat.{_≤_, _-_}
+use mathlib.Core.Path.{_≡_}
+use lib.ListN.{length}
+use borrow.Author.Needs.{needs}
+use Rattle.vectors.proofs.replay.Statement.{statement}
+use Rattle.vectors.proofs.replay.Tie as tie
+use Rattle.vectors.proofs.replay.Reads as reads
+use Rattle.vectors.proofs.replay.Lts as lts
+use Rattle.vectors.proofs.next_case.Reads as next-case-reads
+use Rattle.vectors.proofs.tell.Reads as tell-reads
+
+abbrev Inv-loop : tie.InvT-loop
+Inv-loop buf₀ cases₀ buf cases = (length buf ≡ length buf₀) × (cases ≤ 1000000)
+
+abbrev μ-loop : tie.MeasureT-loop
+μ-loop buf₀ cases₀ buf cases = 1000000 - cases
+
+-- src/main.rt:80:5
+loop-holds : tie.Need-loop-holds Inv-loop μ-loop
+loop-holds c = search needs
+
+-- src/main.rt:81:13
+next-case-requires : tie.Need-next-case-requires Inv-loop μ-loop
+next-case-requires c κs = search needs
+
+-- src/main.rt:83:26
+enum-told : tie.Need-enum-told Inv-loop μ-loop
+enum-told c = search needs
+
+-- src/main.rt:83:26
+same-length : tie.Need-same-length Inv-loop μ-loop
+same-length c = search needs
+
+-- src/main.rt:83:26
+returns : tie.Need-returns Inv-loop μ-loop
+returns c = search needs
+
+enum-told-2 : tie.Need-enum-told-2 Inv-loop μ-loop
+enum-told-2 c = search needs
+
+-- src/main.rt:85:28
+enum-told-3 : tie.Need-enum-told-3 Inv-loop μ-loop
+enum-told-3 c = search needs
+
+-- src/main.rt:85:28
+tell-requires : tie.Need-tell-requires Inv-loop μ-loop
+tell-requires c κs = search needs
+
+-- src/main.rt:87:9
+add-cases : tie.Need-add-cases Inv-loop μ-loop
+add-cases c = search needs
+
+-- src/main.rt:80:5
+loop-less : tie.Need-loop-less Inv-loop μ-loop
+loop-less c = search needs
+
+-- src/main.rt:80:5
+loop-again : tie.Need-loop-again Inv-loop μ-loop
+loop-again c = search needs
+
+-- src/main.rt:78:1
+same-length-2 : tie.Need-same-length-2 Inv-loop μ-loop
+same-length-2 c = search needs
+
+-- src/main.rt:78:1
+returns-2 : tie.Need-returns-2 Inv-loop μ-loop
+returns-2 c = search needs
+
+pub replay-spec : {M : Type 1} → statement M
+replay-spec =
+    tie.close
+    (tie.spec
+    Inv-loop
+    μ-loop
+    loop-holds
+    next-case-requires
+    enum-told
+    same-length
+    returns
+    enum-told-2
+    enum-told-3
+    tell-requires
+    add-cases
+    loop-less
+    loop-again
+    same-length-2
+    returns-2)
