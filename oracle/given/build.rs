@@ -51,8 +51,8 @@ impl File {
     fn read(folder: &Path, name: &'static str) -> File {
         let path = folder.join(name);
         println!("cargo::rerun-if-changed={}", path.display());
-        let text = fs::read_to_string(&path)
-            .unwrap_or_else(|error| panic!("{}: {error}", path.display()));
+        let text =
+            fs::read_to_string(&path).unwrap_or_else(|error| panic!("{}: {error}", path.display()));
         File { name, text }
     }
 
@@ -104,7 +104,10 @@ fn opaque(file: File) -> File {
         return Some((false, crate::guard::PARITY.to_string()));",
         )
         // Work without limit is stopped.
-        .replaced("for b in &other.0 {", "for b in &other.0 { crate::guard::spend(out.0.len() + 1);")
+        .replaced(
+            "for b in &other.0 {",
+            "for b in &other.0 { crate::guard::spend(out.0.len() + 1);",
+        )
 }
 
 /// The types of instructions alone; the decoder behind them is left out.

@@ -109,7 +109,7 @@ fn at_limit(generator: &mut Generator) -> Vec<u8> {
         9..=13 => node.variables = vec![generator.random.below(10) as u8; 32 + over],
         14..=18 => node.statements = vec![Statement::Other; 64 + over],
         19..=24 => node.condition = chain(128 + over),
-        _ => node.addresses = vec![generator.random.next(); 16 + over],
+        _ => node.addresses = vec![generator.random.draw(); 16 + over],
     }
     if sheet.nodes.is_empty() {
         sheet.nodes.push(node);

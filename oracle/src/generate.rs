@@ -66,7 +66,7 @@ impl Generator {
             0 => self.random.below(4) as u64,
             1 => self.random.below(0x1000) as u64,
             2 => (1u64 << self.random.below(64)).wrapping_sub(self.random.below(3) as u64),
-            _ => self.random.next(),
+            _ => self.random.draw(),
         }
     }
 

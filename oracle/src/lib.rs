@@ -22,6 +22,8 @@ pub mod silicon;
 mod tests;
 pub mod types;
 pub mod vectors;
+#[cfg(test)]
+mod verdict_tests;
 pub mod verdicts;
 pub mod words;
 pub mod write;

@@ -102,7 +102,7 @@ impl Writer {
             4 => most / 2 + 1,
             5 => self.random.below(8) as u64,
             6 => 1 << self.random.below(64),
-            _ => self.random.next(),
+            _ => self.random.draw(),
         };
         let unused = 64 - u32::from(size);
         let signed = ((value << unused) as i64 >> unused) as u64;
@@ -263,11 +263,11 @@ fn start(random: &mut Random, body: &Body) -> Start {
             values.extend([value, value.wrapping_neg(), value.wrapping_add(1)]);
         }
     }
-    let same = random.next();
+    let same = random.draw();
     let value = |random: &mut Random| match random.below(4) {
         0 | 1 => random.pick(&values),
         2 => same,
-        _ => random.next() >> random.below(64),
+        _ => random.draw() >> random.below(64),
     };
     let registers = std::array::from_fn(|_| value(random));
     let memory = value(random);
@@ -275,7 +275,7 @@ fn start(random: &mut Random, body: &Body) -> Start {
     let flags = match random.below(4) {
         0 => 0,
         1 => 0x8D5,
-        _ => random.next() & 0x8D5,
+        _ => random.draw() & 0x8D5,
     };
     Start { registers, flags: flags | 0x202, memory }
 }
@@ -396,7 +396,8 @@ fn judge_body(
         tally.runs += 1;
         for jump in 0..JUMPS {
             if verdicts[jump].is_some_and(|always| always != taken[jump]) {
-                let what = if taken[jump] { "never, and it jumps" } else { "always, and it does not" };
+                let what =
+                    if taken[jump] { "never, and it jumps" } else { "always, and it does not" };
                 tally.violation(body, jump, what, Some(&start));
             }
         }

@@ -39,7 +39,7 @@ fn code(generator: &mut Generator) -> Vec<Vec<Instruction>> {
     let mut address = match generator.random.below(8) {
         0 => 0,
         1 => u64::MAX - room,
-        _ => generator.random.next() >> generator.random.below(60),
+        _ => generator.random.draw() >> generator.random.below(60),
     };
     address = address.min(u64::MAX - room);
     for insn in pieces.iter_mut().flatten() {
@@ -169,10 +169,10 @@ impl Coder<'_> {
             5 => most / 2 + 1,
             6 => random.below(8) as u64,
             7 => 1 << random.below(64),
-            _ => random.next(),
+            _ => random.draw(),
         };
         let beyond = match random.below(4) {
-            0 => random.next(),
+            0 => random.draw(),
             1 => u64::MAX,
             _ => 0,
         };
@@ -227,8 +227,13 @@ impl Coder<'_> {
     fn with_itself(&mut self) -> Instruction {
         let size = self.size();
         let mnemonic = self.generator.random.pick(&[4, 6, 7, 7, 8, 8, 9, 10, 11, 11, 12]);
-        let register = Operand::Register(self.register(size));
-        binary(mnemonic, register, register)
+        let register = self.register(size);
+        let mut other = register;
+        if size == 8 && register.index < 4 && self.chance(3) {
+            // The other byte of the same register, which is not the same.
+            other.offset ^= 8;
+        }
+        binary(mnemonic, Operand::Register(register), Operand::Register(other))
     }
 
     fn one(&mut self) -> Instruction {

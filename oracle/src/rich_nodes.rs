@@ -4,6 +4,7 @@
 
 use crate::format::*;
 use crate::generate::{Generator, SMALL};
+use crate::held::{substitute, Rule};
 use crate::types;
 
 const ADD: u8 = 0;
@@ -38,8 +39,32 @@ pub fn node(generator: &mut Generator) -> Node {
     let mut writer = Writer { generator, variables };
     let count = writer.below(5);
     let statements = (0..count).map(|_| writer.statement()).collect();
-    let condition = writer.limited(|writer| writer.condition(2));
-    Node { variables: writer.variables, statements, condition, addresses: Vec::new() }
+    let mut node = Node { statements, ..Default::default() };
+    node.condition = match writer.below(6) {
+        0 => writer.limited(|writer| writer.value(2)),
+        _ => writer.limited(|writer| writer.condition(2)),
+    };
+    node.variables = writer.variables;
+    if generator.random.once_in(4) {
+        echo(generator, &mut node);
+    }
+    node
+}
+
+/// Compares the condition with what substitution makes of it, or with that
+/// and 1: equal, or of other low bits, if all of it is carried as it should.
+fn echo(generator: &mut Generator, node: &mut Node) {
+    let Some(found) = substitute(node, Rule::Ours, MOST_RECORDS / 2) else {
+        return;
+    };
+    let mut other = found.condition;
+    if generator.random.once_in(2) {
+        other = join(other, ADD, vec![Record::Constant { width: 4, value: 1 }]);
+    }
+    if node.condition.len() + other.len() < MOST_RECORDS {
+        let operator = generator.random.pick(&[EQUAL, NOT_EQUAL]);
+        node.condition = join(node.condition.clone(), operator, other);
+    }
 }
 
 /// Lengths of sums whose products come near the limits on terms.

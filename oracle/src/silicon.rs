@@ -38,8 +38,14 @@ mod here {
     use std::io;
 
     extern "C" {
-        fn mmap(at: *mut c_void, len: usize, prot: c_int, flags: c_int, fd: c_int, from: i64)
-            -> *mut c_void;
+        fn mmap(
+            at: *mut c_void,
+            len: usize,
+            prot: c_int,
+            flags: c_int,
+            fd: c_int,
+            from: i64,
+        ) -> *mut c_void;
         fn mprotect(at: *mut c_void, len: usize, prot: c_int) -> c_int;
         fn munmap(at: *mut c_void, len: usize) -> c_int;
     }
@@ -68,14 +74,7 @@ mod here {
         pub fn new() -> io::Result<Runner> {
             // A fresh private mapping, owned by the runner alone.
             let pages = unsafe {
-                mmap(
-                    std::ptr::null_mut(),
-                    2 * PAGE,
-                    READ | WRITE,
-                    PRIVATE | ANONYMOUS,
-                    -1,
-                    0,
-                )
+                mmap(std::ptr::null_mut(), 2 * PAGE, READ | WRITE, PRIVATE | ANONYMOUS, -1, 0)
             };
             if pages as isize == -1 {
                 return Err(io::Error::last_os_error());

@@ -1,3 +1,4 @@
 -- laws of the definitions, which other proofs cite
 pub mod Statements
 pub mod Nodes
+pub mod Accepted

@@ -1,0 +1,3 @@
+-- laws of the index, which other proofs cite
+pub mod Filling
+pub mod Rising

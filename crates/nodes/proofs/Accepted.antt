@@ -1,0 +1,72 @@
+-- Where reading goes on after a statement or a node, it went on before it.
+use Prim.Native.Nat.{ℕ, zero, suc, _+_}
+use mathlib.Core.Path.{_≡_, refl}
+use mathlib.Core.List.{List}
+use mathlib.Core.Bool.{Bool, true, false}
+use lib.Dec.{eqb}
+use lib.ListN.{length}
+use Rattle.field.specs.declared.Place.{Place}
+use Rattle.field.specs.declared.Place.the-variants.{At}
+use Rattle.field.specs.Field.{fieldAt, startOf, codeAt, countAt}
+use Rattle.field.proofs.Fields.{judge-at, check-at, field-at, code-at, count-at}
+use Rattle.expressions.specs.Expression.{expressionAt}
+use Rattle.expressions.proofs.Accepted.{one-tree}
+use Rattle.nodes.specs.Node.{mapAt, assignmentAt, statementAt, statementsFrom, typesFrom, typesOf, addressesFrom, nodeAt}
+
+-- reading went on at a place
+abbrev pub WentOn : Place → Type 0
+WentOn p = (b : ℕ) × (p ≡ At b)
+
+count-on : (least most : ℕ) (s : List ℕ) (p : Place) {a : ℕ} → countAt least most s p .next ≡ At a → WentOn p
+count-on least most s p e = let w = count-at least most s p e .whole in (w .from, w .there)
+
+map-on : (s : List ℕ) (p : Place) {a : ℕ} → mapAt s p .next ≡ At a → WentOn p
+unfolding mapAt
+map-on s p e = let w = field-at 1 s p (check-at _ 2 (startOf p) (fieldAt 1 s p) e .1) in (w .from, w .there)
+
+assignment-on : (types : List ℕ) (begin : ℕ) (s : List ℕ) (p : Place) {a : ℕ} → assignmentAt types begin s p .next ≡ At a → WentOn p
+unfolding assignmentAt
+assignment-on types begin s p e =
+    let value = one-tree (length types) s _ (judge-at _ 9 begin _ e .1) in
+    let w = code-at (length types) s p (value .there) .whole in
+    (w .from, w .there)
+
+pub statement-on : (types s : List ℕ) (p : Place) {a : ℕ} → statementAt types s p .next ≡ At a → WentOn p
+unfolding statementAt
+statement-on types s p e = go (eqb (mapAt s p .value) 3) refl
+  where
+    go : (t : Bool) → eqb (mapAt s p .value) 3 ≡ t → WentOn p
+    go true q = map-on s p (assignment-on types (startOf p) s (mapAt s p .next) (rw q at e) .1)
+    go false q = map-on s p (rw q at e)
+
+pub statements-on : (types s : List ℕ) (p : Place) (k : ℕ) {a : ℕ} → statementsFrom types s p k .next ≡ At a → WentOn p
+unfolding statementsFrom
+statements-on types s p zero {a} e = (a, e)
+statements-on types s p (suc k) e = statements-on types s p k (statement-on types s (statementsFrom types s p k .next) e .1)
+
+types-on : (s : List ℕ) (p : Place) (k : ℕ) {a : ℕ} → typesFrom s p k ≡ At a → WentOn p
+unfolding typesFrom
+types-on s p zero {a} e = (a, e)
+types-on s p (suc k) e = types-on s p k (code-at 10 s (typesFrom s p k) e .whole .there)
+
+addresses-on : (s : List ℕ) (p : Place) (k : ℕ) {a : ℕ} → addressesFrom s p k .next ≡ At a → WentOn p
+unfolding addressesFrom
+addresses-on s p zero {a} e = (a, e)
+addresses-on s p (suc k) e = addresses-on s p k (field-at 8 s (addressesFrom s p k .next) e .there)
+
+pub node-on : (s : List ℕ) (p : Place) {a : ℕ} → nodeAt s p .next ≡ At a → WentOn p
+unfolding nodeAt
+node-on s p e =
+    let v = countAt 0 32 s p in
+    let typesEnd = typesFrom s (v .next) (v .value) in
+    let types = typesOf typesEnd (startOf (v .next)) (v .value) s in
+    let k = countAt 0 64 s typesEnd in
+    let condition = statementsFrom types s (k .next) (k .value) .next in
+    let conditionEnd = expressionAt (length types) s condition .next in
+    let a = countAt 0 16 s conditionEnd in
+    let sites = addresses-on s (a .next) (a .value) e in
+    let judged = count-on 0 16 s conditionEnd (sites .1) in
+    let one = one-tree (length types) s condition (judged .1) in
+    let body = statements-on types s (k .next) (k .value) (one .there) in
+    let counted = count-on 0 64 s typesEnd (body .1) in
+    count-on 0 32 s p (types-on s (v .next) (v .value) (counted .1) .1)
