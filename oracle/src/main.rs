@@ -70,16 +70,14 @@ impl Options {
         let mut options = Options::default();
         let mut words = words.iter();
         while let Some(word) = words.next() {
-            match *word {
-                "--stub" => {
-                    options.stub = true;
-                    continue;
-                }
-                "--blocks-only" => {
-                    options.blocks_only = true;
-                    continue;
-                }
-                _ => {}
+            let plain = match *word {
+                "--stub" => Some(&mut options.stub),
+                "--blocks-only" => Some(&mut options.blocks_only),
+                _ => None,
+            };
+            if let Some(plain) = plain {
+                *plain = true;
+                continue;
             }
             let value = words.next().ok_or_else(|| format!("{word} needs a value\n{USAGE}"))?;
             let number = || words::parse_number(value).ok_or(format!("{word} needs a number"));
@@ -190,7 +188,8 @@ fn compare_verdicts(options: &Options) -> Outcome {
         seed: options.seed.unwrap_or(1),
         blocks_only: options.blocks_only,
     };
-    verdicts::compare(&job).map_err(|error| error.to_string())
+    let programs = format!("{} or {given}", program[0]);
+    verdicts::compare(&job).map_err(|error| format!("{programs}: {error}"))
 }
 
 fn judge_by_processor(options: &Options) -> Outcome {
@@ -198,7 +197,8 @@ fn judge_by_processor(options: &Options) -> Outcome {
         return Err(format!("processor needs --program\n{USAGE}"));
     };
     let (runs, seed) = (options.runs.unwrap_or(200_000), options.seed.unwrap_or(1));
-    processor::judge(std::slice::from_ref(program), runs, seed).map_err(|error| error.to_string())
+    let judged = processor::judge(std::slice::from_ref(program), runs, seed);
+    judged.map_err(|error| format!("{program}: {error}"))
 }
 
 fn make_vectors(text: &str, out: &str) -> Outcome {

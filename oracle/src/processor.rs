@@ -9,7 +9,7 @@ use crate::encode::encode;
 use crate::format::*;
 use crate::random::Random;
 use crate::silicon::{Runner, Start, FIRST_JUMP, JUMPS, MISSING};
-use crate::verdicts::{Line, ABSENT};
+use crate::verdicts::{alone, Line, ABSENT};
 use std::io;
 
 /// Start states for each body.
@@ -297,10 +297,7 @@ impl Tally {
         }
         println!("violation: {what}");
         let whole = sheet(body);
-        let block = whole.blocks[jump];
-        let inside = |insn: &&Instruction| block.from <= insn.address && insn.address < block.to;
-        let instructions = whole.instructions.iter().filter(inside).cloned().collect();
-        let alone = Sheet { instructions, blocks: vec![block], nodes: Vec::new() };
+        let alone = alone(&whole, whole.blocks[jump]);
         dump::text(&alone).lines().for_each(|line| println!("    {line}"));
         for code in &body.code {
             println!("    code {}", hex(&code.bytes));

@@ -84,16 +84,14 @@ pub fn piece(generator: &mut Generator) -> Vec<Instruction> {
     if (32..=34).contains(&jump.mnemonic) {
         coder.pool[0] = 1;
     }
-    let length = 1 + coder.generator.random.below(7);
     let mut list: Vec<Instruction> = Vec::new();
     for number in coder.pool {
-        if list.len() < length && !coder.generator.random.once_in(4) {
+        if !coder.generator.random.once_in(4) {
             list.push(coder.set(number));
         }
     }
-    while list.len() < length {
-        let insn = coder.instruction();
-        list.push(insn);
+    for _ in 0..1 + coder.generator.random.below(4) {
+        list.push(coder.instruction());
     }
     list.push(jump);
     list

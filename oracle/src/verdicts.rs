@@ -62,6 +62,16 @@ impl Line {
         }
         Line::Answers { blocks, nodes }
     }
+
+    /// The answers for blocks and nodes, if they are as many as these.
+    fn complete(self, counts: [usize; 2]) -> Option<[Vec<String>; 2]> {
+        match self {
+            Line::Answers { blocks, nodes } if [blocks.len(), nodes.len()] == counts => {
+                Some([blocks, nodes])
+            }
+            _ => None,
+        }
+    }
 }
 
 /// An answer in words, for the counts.
@@ -141,14 +151,14 @@ fn answers(program: &[String], sheets: &[Vec<u8>]) -> io::Result<Vec<String>> {
     run(program, input)
 }
 
-fn with_differences(job: &Job, sheets: &[Vec<u8>]) -> io::Result<Vec<String>> {
+/// The answers due on nodes; for blocks alone the driver is not asked again.
+fn due_answers(job: &Job, sheets: &[Vec<u8>], given: &[String]) -> io::Result<Vec<String>> {
+    if job.blocks_only {
+        return Ok(given.to_vec());
+    }
     let mut command = job.given.to_vec();
     command.push("--differences".to_string());
-    let lines = answers(&command, sheets)?;
-    if lines.len() != sheets.len() {
-        return Err(io::Error::other("the given source's driver did not answer every sheet"));
-    }
-    Ok(lines)
+    answers(&command, sheets)
 }
 
 /// False if the source is absent.
@@ -157,7 +167,8 @@ fn batch(job: &Job, first: u64, sheets: &[Vec<u8>], tally: &mut Tally) -> io::Re
     if given.first().is_some_and(|line| line == ABSENT) {
         return Ok(false);
     }
-    if given.len() != sheets.len() {
+    let due = due_answers(job, sheets, &given)?;
+    if [given.len(), due.len()] != [sheets.len(); 2] {
         return Err(io::Error::other("the given source's driver did not answer every sheet"));
     }
     let program = answers(job.program, sheets)?;
@@ -165,32 +176,49 @@ fn batch(job: &Job, first: u64, sheets: &[Vec<u8>], tally: &mut Tally) -> io::Re
         println!("the program wrote {} lines too many", program.len() - sheets.len());
         tally.differences += 1;
     }
-    let due = if job.blocks_only { given.clone() } else { with_differences(job, sheets)? };
     for (number, sheet) in sheets.iter().enumerate() {
-        let index = first + number as u64;
         let found = program.get(number).map_or("no line", String::as_str);
-        let pair = [given[number].as_str(), found];
-        let [left, right] = pair.map(Line::parse);
-        match (left, right) {
-            (Line::Refused(a), Line::Refused(b)) if a == b => tally.refused += 1,
-            (Line::Answers { blocks, nodes }, Line::Answers { blocks: blocks2, nodes: nodes2 }) => {
-                let sheet = read(sheet).expect("the driver accepts what the reader accepts").sheet;
-                compare_blocks(&sheet, index, &[blocks, blocks2], tally);
-                if let (false, Line::Answers { nodes: due, .. }) =
-                    (job.blocks_only, Line::parse(&due[number]))
-                {
-                    compare_nodes(&sheet, index, &[nodes, due, nodes2], tally);
-                }
-            }
-            _ => tally.difference(index, "the whole line", pair, &dump::dump(sheet)),
-        }
+        let lines = [given[number].as_str(), due[number].as_str(), found];
+        compare_sheet(job, first + number as u64, sheet, lines, tally)?;
     }
     Ok(true)
 }
 
-fn compare_blocks(sheet: &Sheet, index: u64, lists: &[Vec<String>; 2], tally: &mut Tally) {
+/// The lines are those of the given source, the one due, and the program's.
+fn compare_sheet(
+    job: &Job,
+    index: u64,
+    sheet: &[u8],
+    lines: [&str; 3],
+    tally: &mut Tally,
+) -> io::Result<()> {
+    let Ok(accepted) = read(sheet) else {
+        tally.refused += 1;
+        if lines[0] != lines[2] {
+            tally.difference(index, "a refused sheet", [lines[0], lines[2]], &dump::dump(sheet));
+        }
+        return Ok(());
+    };
+    let [given, due, found] = lines.map(Line::parse);
+    let counts = [accepted.sheet.blocks.len(), accepted.sheet.nodes.len()];
+    let (Some(given), Some(due)) = (given.complete(counts), due.complete(counts)) else {
+        return Err(io::Error::other("the given source's driver did not answer in full"));
+    };
+    let Line::Answers { blocks, nodes } = found else {
+        let pair = [lines[0], lines[2]];
+        tally.difference(index, "the whole line", pair, &dump::dump(sheet));
+        return Ok(());
+    };
+    compare_blocks(&accepted.sheet, index, [&given[0], &blocks], tally);
+    if !job.blocks_only {
+        compare_nodes(&accepted.sheet, index, [&given[1], &due[1], &nodes], tally);
+    }
+    Ok(())
+}
+
+fn compare_blocks(sheet: &Sheet, index: u64, lists: [&[String]; 2], tally: &mut Tally) {
     for (number, block) in sheet.blocks.iter().enumerate() {
-        let pair = [0, 1].map(|side| lists[side].get(number).map_or("no answer", String::as_str));
+        let pair = lists.map(|list| list.get(number).map_or("no answer", String::as_str));
         tally.compared[0] += 1;
         *tally.blocks.entry(named(pair[0])).or_default() += 1;
         if pair[0] != pair[1] {
@@ -198,7 +226,7 @@ fn compare_blocks(sheet: &Sheet, index: u64, lists: &[Vec<String>; 2], tally: &m
             tally.difference(index, &format!("block {number}"), pair, &text);
         }
     }
-    too_many(index, "blocks", [&lists[0], &lists[1]], sheet.blocks.len(), tally);
+    too_many(index, "blocks", lists, sheet.blocks.len(), tally);
 }
 
 fn too_many(index: u64, what: &str, lists: [&[String]; 2], due: usize, tally: &mut Tally) {
@@ -210,17 +238,17 @@ fn too_many(index: u64, what: &str, lists: [&[String]; 2], due: usize, tally: &m
 }
 
 /// A sheet of one block and its instructions.
-fn alone(sheet: &Sheet, block: Block) -> Sheet {
+pub fn alone(sheet: &Sheet, block: Block) -> Sheet {
     let inside = |address: u64| block.from <= address && address < block.to;
     let chosen = sheet.instructions.iter().filter(|insn| inside(insn.address));
     Sheet { instructions: chosen.cloned().collect(), blocks: vec![block], nodes: Vec::new() }
 }
 
 /// Answers of the given source, those due, and the program's.
-fn compare_nodes(sheet: &Sheet, index: u64, lists: &[Vec<String>; 3], tally: &mut Tally) {
+fn compare_nodes(sheet: &Sheet, index: u64, lists: [&[String]; 3], tally: &mut Tally) {
     for (number, node) in sheet.nodes.iter().enumerate() {
-        let answer = |side: usize| lists[side].get(number).map_or("no answer", String::as_str);
-        let [given, due, found] = [answer(0), answer(1), answer(2)];
+        let [given, due, found] =
+            lists.map(|list| list.get(number).map_or("no answer", String::as_str));
         *tally.nodes.entry(named(due)).or_default() += 1;
         if due == "-" {
             continue;

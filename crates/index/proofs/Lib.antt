@@ -1,3 +1,4 @@
 -- laws of the index, which other proofs cite
 pub mod Filling
 pub mod Rising
+pub mod Again

@@ -7,9 +7,10 @@ use lib.Dec.{eqb, ltb}
 use borrow.Author.Tests.{ltb-true}
 use Rattle.isa.specs.Modelled.{atFault}
 use Rattle.field.specs.declared.Place.{Place}
-use Rattle.field.specs.declared.Place.the-variants.{At}
-use Rattle.field.specs.Field.{fieldAt, startOf, codeAt, countAt}
-use Rattle.field.proofs.Fields.{judge-at, check-at, field-at, code-at, count-at}
+use Rattle.field.specs.declared.Place.the-variants.{At, Refused}
+use Rattle.field.specs.declared.Field.{Field}
+use Rattle.field.specs.Field.{fieldAt, startOf, codeAt, countAt, checkField, judge, keep}
+use Rattle.field.proofs.Fields.{judge-at, check-at, field-at, code-at, count-at, not-both}
 use Rattle.instructions.specs.Instruction.{registerAt, operandAt, withRegister, registersFrom, registersAt, optionalRegisters, optionalOperand, optionalField, optionalCode, bitOf, mapAt, addressAt, headAt, tailAt, instructionAt}
 
 -- reading went on at a place
@@ -80,6 +81,24 @@ pub record Taken (first : Bool) (last : ℕ) (s : List ℕ) (p : Place) : Type 0
   pub from : ℕ
   pub there : p ≡ At from
   pub above : first ≡ false → last < instructionAt first last s p .instruction .address
+  pub again : instructionAt true 0 s p ≡ instructionAt first last s p
+
+-- a field that was read whole passes a check that holds
+check-true : (k at : ℕ) (f : Field) {a : ℕ} → f .next ≡ At a → checkField true k at f ≡ f
+unfolding checkField
+check-true k at f e = go (f .next) e
+  where
+    go : {a : ℕ} (p : Place) → p ≡ At a → _≡_ {A = Field} (record { value = keep (judge true k at p) (f .value); next = judge true k at p }) (record { value = f .value; next = p })
+    go (At b) q = refl
+    go (Refused n b) q = absurd (not-both q)
+
+-- an address is read alike where any would do
+address-again : (first : Bool) (last : ℕ) (s : List ℕ) (p : Place) {a : ℕ} → addressAt first last s p .next ≡ At a
+    → addressAt true 0 s p ≡ addressAt first last s p
+unfolding addressAt
+address-again first last s p e =
+    let c = check-at _ 4 (startOf p) (fieldAt 8 s p) e in
+    check-true 4 (startOf p) (fieldAt 8 s p) (c .1) ∙ sym (c .2)
 
 other-true : (a b : Bool) → (a || b) ≡ true → a ≡ false → b ≡ true
 other-true true b e q = cc
@@ -102,4 +121,5 @@ instruction-on first last s p e =
       from = w .0;
       there = w .1;
       above = λ q. rw (rises .2) (ltb-true last _ (other-true first _ (rises .0) q));
+      again = rw (address-again first last s (map .next) (mnemonic .1));
     }

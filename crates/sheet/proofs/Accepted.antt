@@ -1,11 +1,14 @@
 -- An accepted sheet: reading went on through every section, and the addresses rise strictly.
-use Prim.Native.Nat.{ℕ, zero, suc, _+_, _-_, _≤_, _<_}
+use Prim.Native.Nat.{ℕ, zero, suc, _+_, _-_, _*_, _≤_, _<_}
 use mathlib.Core.Path.{_≡_, refl, sym, ap, _∙_}
 use mathlib.Core.List.{List, [], _∷_, _++_, map}
 use mathlib.Core.Bool.{Bool, true, false}
+use mathlib.Core.Logic.{⊎-elim}
 use native.Mathlib.Omega.{arith}
+use native.Mathlib.Nat.{eq-or-lt-of-le}
 use lib.Dec.{eqb}
-use lib.ListN.{length, getD, length-append}
+use lib.ListN.{length, getD, length-append, List·getD-append}
+use lib.Seq.{getD-at}
 use borrow.Author.Tests.{ne-eqb}
 use Rattle.field.specs.declared.Place.{Place}
 use Rattle.field.specs.declared.Place.the-variants.{At, Refused}
@@ -18,7 +21,8 @@ use Rattle.nodes.specs.Node.{nodeAt}
 use Rattle.nodes.proofs.Accepted.{node-on}
 use Rattle.sheet.specs.declared.Sheet.{Sheet}
 use Rattle.sheet.specs.declared.Reading.the-variants as reading
-use Rattle.sheet.specs.Sheet.{instructionsFrom, blockAt, blocksFrom, nodesFrom, sheetAt, answerOf, readingOf}
+use Rattle.sheet.specs.declared.BlockField.{BlockField}
+use Rattle.sheet.specs.Sheet.{Block, instructionsFrom, blockAt, blocksFrom, nodesFrom, sheetAt, answerOf, readingOf}
 
 -- reading went on at a place
 abbrev pub WentOn : Place → Type 0
@@ -61,6 +65,7 @@ pub record Accepted (s : List ℕ) (sheet : Sheet) : Type 0 where
   pub afterBlocks : WentOn (sheetAt s .blocks .next)
   pub afterNodes : WentOn (sheetAt s .nodes .next)
   pub few : sheet .instructions .count ≤ 2048
+  pub graph : WentOn (countAt 0 1024 s (sheetAt s .blocks .next) .next)
 
 never : {k at : ℕ} {sheet : Sheet} → reading.Refused k at ≡ reading.Accepted sheet → ⊥
 never e = let z : _≡_ {A = ℕ} 0 1 = cc in omega arith
@@ -97,4 +102,71 @@ accepted s sheet e =
       afterBlocks = n-on;
       afterNodes = (whole .0 .0, end .1);
       few = count-most 0 2048 s (At 0);
+      graph = graph-on;
     }
+
+block-next : (s : List ℕ) (b : ℕ) {a : ℕ} → blockAt s (At b) .next ≡ At a → a ≡ b + 16
+unfolding blockAt
+block-next s b {a} e =
+    let to = field-at 8 s _ e in
+    let from = field-at 8 s (At b) (to .there) in
+    let same : b ≡ from .from = cc (from .there) in
+    omega (arith, to .after, from .after)
+
+-- the blocks stand 16 bytes apart
+pub blocks-place : (s : List ℕ) (b k : ℕ) {a : ℕ} → blocksFrom s (At b) k .next ≡ At a → a ≡ b + 16 * k
+unfolding blocksFrom
+blocks-place s b zero {a} e = let same : b ≡ a = cc in omega arith
+blocks-place s b (suc k) e =
+    let w = block-on s (blocksFrom s (At b) k .next) e in
+    let before = blocks-place s b k (w .1) in
+    omega (arith, before, block-next s (w .0) (rw (w .1) at e))
+
+pub blocks-back : (s : List ℕ) (p : Place) (k j : ℕ) {a : ℕ} → blocksFrom s p k .next ≡ At a → j ≤ k → WentOn (blocksFrom s p j .next)
+unfolding blocksFrom
+blocks-back s p zero j {a} e le = let z : j ≡ 0 = omega arith in (a, rw z e)
+blocks-back s p (suc k) j {a} e le =
+    ⊎-elim (λ (z : j ≡ suc k). (a, rw z e)) (λ (lt : j < suc k). blocks-back s p k j (block-on s (blocksFrom s p k .next) e .1) (omega arith)) (eq-or-lt-of-le le)
+
+pub blocks-length : (s : List ℕ) (p : Place) (k : ℕ) → length (blocksFrom s p k .list) ≡ k
+unfolding blocksFrom
+blocks-length s p zero = refl
+blocks-length s p (suc k) = rw (length-append, blocks-length s p k) (omega arith)
+
+abbrev pub blockOf : BlockField → Block
+blockOf f = record { from = f .from; to = f .to }
+
+pub blocks-nth : (s : List ℕ) (p : Place) (k j : ℕ) (none : Block) → j < k
+    → getD (blocksFrom s p k .list) j none ≡ blockOf (blockAt s (blocksFrom s p j .next))
+unfolding blocksFrom
+blocks-nth s p zero j none lt = absurd (omega arith)
+blocks-nth s p (suc k) j none lt =
+    let l = blocksFrom s p k .list in
+    ⊎-elim
+    (λ (z : j ≡ k). rw z (getD-at l _ [] none k (blocks-length s p k)))
+    (λ (below : j < k). List·getD-append l _ none j (rw (blocks-length s p k) below) ∙ blocks-nth s p k j none below)
+    (eq-or-lt-of-le (omega arith))
+
+-- the block of a number stands at its place
+pub block-at : (s : List ℕ) (b k j : ℕ) (none : Block) {a : ℕ} → blocksFrom s (At b) k .next ≡ At a → j < k
+    → getD (blocksFrom s (At b) k .list) j none ≡ blockOf (blockAt s (At (b + 16 * j)))
+block-at s b k j none e lt =
+    let w = blocks-back s (At b) k j e (omega arith) in
+    let here : blocksFrom s (At b) j .next ≡ At (b + 16 * j) = w .1 ∙ ap At (blocks-place s b j (w .1)) in
+    rw (← here) (blocks-nth s (At b) k j none lt)
+
+-- a count that was read whole stands inside the sheet
+nodes-count : (s : List ℕ) (a : ℕ) {p : Place} → WentOn (countAt 0 1024 s p .next) → p ≡ At a → a + 2 ≤ length s
+nodes-count s a {p} on there =
+    let w = count-at 0 1024 s p (on .1) .whole in
+    let same : w .from ≡ a = cc (w .there) in
+    omega (arith, w .inside)
+
+-- the blocks of an accepted sheet stand inside it
+pub blocks-inside : (s : List ℕ) (sheet : Sheet) → readingOf s ≡ reading.Accepted sheet
+    → sheet .blocks .at + 16 * sheet .blocks .count + 2 ≤ length s
+blocks-inside s sheet e =
+    let acc = accepted s sheet e in
+    let place = blocks-place s (sheet .blocks .at) (sheet .blocks .count) {a = acc .afterBlocks .0} (rw (acc .blocks) (acc .afterBlocks .1)) in
+    let w = nodes-count s (acc .afterBlocks .0) (acc .graph) (acc .afterBlocks .1) in
+    omega (arith, place, w)

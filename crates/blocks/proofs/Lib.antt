@@ -1,0 +1,4 @@
+-- laws of the definitions, which other proofs cite
+pub mod Between
+pub mod Ranges
+pub mod OnSheet
