@@ -2,3 +2,4 @@
 pub mod Filling
 pub mod Rising
 pub mod Again
+pub mod Fronts

@@ -1,0 +1,62 @@
+// The public operations: each takes any bytes, refuses what reading refuses, and answers by the rules.
+use blocks::BlockVerdict;
+use sheet::Reading;
+use sheet::Sheet;
+ghost use mathlib.Core.Path.{_≡_};
+ghost use Prim.Native.Nat.{_<_};
+ghost use Rattle.sheet.specs.declared.Reading.the-variants.{Accepted};
+ghost use Rattle.sheet.specs.Sheet.{readingOf};
+ghost use Rattle.blocks.specs.Verdict.{verdictOn};
+ghost use Rattle.verdict.specs.Block.{blockAnswer, answerFor, withVerdict};
+
+pub enum BlockAnswer {
+    // the block does not end in a conditional branch
+    NoBranch,
+    Undecided,
+    Always,
+    Never,
+    // the refusal's number and place
+    Refused(u64, usize),
+}
+
+fn answer(v: BlockVerdict) -> BlockAnswer
+    ensures { λ r. ⌜ r ≡ withVerdict v ⌝ }
+{
+    match v {
+        BlockVerdict::NoBranch => BlockAnswer::NoBranch,
+        BlockVerdict::Undecided => BlockAnswer::Undecided,
+        BlockVerdict::Always => BlockAnswer::Always,
+        BlockVerdict::Never => BlockAnswer::Never,
+    }
+}
+
+// The block of that number of an accepted sheet.
+fn judge_block(s: &[u8], sheet: Sheet, number: u64) -> BlockVerdict
+    requires { ⌜ readingOf (now s) ≡ Accepted sheet ⌝ }
+    requires { ⌜ number < sheet .blocks .count ⌝ }
+    ensures { λ r. ⌜ r ≡ verdictOn (now (s .entry)) number ⌝ }
+{
+    let mut addresses = [0u64; 2048];
+    let mut places = [0u64; 2048];
+    index::fill(s, sheet, &mut addresses, &mut places);
+    let section = sheet.instructions;
+    let n = section.count as usize;
+    blocks::verdict_on(s, sheet, &addresses[..n], &places[..n], number)
+}
+
+// The verdict on the block of that number, from 0.
+pub fn block_verdict(s: &[u8], number: u64) -> BlockAnswer
+    ensures { λ r. ⌜ answerFor r ≡ blockAnswer (now (s .entry)) number ⌝ }
+{
+    let reading = sheet::read(s);
+    match reading {
+        Reading::Refused(k, at) => BlockAnswer::Refused(k, at),
+        Reading::Accepted(sheet) => {
+            let section = sheet.blocks;
+            if number < section.count {
+                return answer(judge_block(s, sheet, number));
+            }
+            BlockAnswer::Refused(13, 0)
+        }
+    }
+}
