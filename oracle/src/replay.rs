@@ -8,7 +8,7 @@ use crate::vectors::{sheet_of, sources, Source};
 use crate::verdicts::{Line, ABSENT};
 
 /// Generated sheets in the file, and the seed that they depend on.
-const SHEETS: usize = 3_000;
+const SHEETS: usize = 1_000;
 const SEED: u64 = 2_016;
 
 /// Longer sheets are passed over.
@@ -70,7 +70,7 @@ pub fn make(given: &[String]) -> Result<(usize, Vec<u8>), String> {
     Ok((list.len(), out))
 }
 
-/// Length (4), sheet, number of blocks (2), a byte for each block.
+/// Length (4), sheet, number of blocks (4), a byte for each block.
 fn record(case: &Case, line: &str) -> Result<Vec<u8>, String> {
     let Line::Answers { blocks, .. } = Line::parse(line) else {
         return Err(format!("the given source says '{line}'"));
@@ -80,7 +80,7 @@ fn record(case: &Case, line: &str) -> Result<Vec<u8>, String> {
     }
     let mut out = Vec::new();
     frame(&mut out, &case.sheet);
-    out.extend_from_slice(&(blocks.len() as u16).to_le_bytes());
+    out.extend_from_slice(&(blocks.len() as u32).to_le_bytes());
     for answer in &blocks {
         out.push(code(answer).ok_or_else(|| format!("the given source says '{answer}'"))?);
     }

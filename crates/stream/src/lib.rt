@@ -40,14 +40,16 @@ pub fn next_number() -> usize {
     size(head[0], head[1], head[2], head[3])
 }
 
-pub fn next_sheet(buf: &mut [u8]) -> Next {
-    let n = next_number();
+// Reads n bytes to the front of the room, and says whether there were as many, and room for them.
+pub fn next_bytes(buf: &mut [u8], n: usize) -> bool {
     if n > buf.len() {
-        return Next::End;
+        return false;
     }
     let had = io::read_full(STDIN_FILENO, &mut buf[..n]);
-    if had < n {
-        return Next::End;
-    }
-    Next::Sheet(n)
+    n <= had
+}
+
+pub fn next_sheet(buf: &mut [u8]) -> Next {
+    let n = next_number();
+    if next_bytes(buf, n) { Next::Sheet(n) } else { Next::End }
 }

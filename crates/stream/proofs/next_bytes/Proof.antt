@@ -2,16 +2,11 @@ use mathlib.Core.Path.{sym}
 use native.Mathlib.Omega.{arith}
 use lib.Seq.{length-take-le}
 use borrow.Author.Needs.{needs}
-use Rattle.stream.proofs.next_sheet.Statement.{statement}
-use Rattle.stream.proofs.next_sheet.Tie as tie
-use Rattle.stream.proofs.next_sheet.Reads as reads
-use Rattle.stream.proofs.next_sheet.Lts as lts
+use Rattle.stream.proofs.next_bytes.Statement.{statement}
+use Rattle.stream.proofs.next_bytes.Tie as tie
+use Rattle.stream.proofs.next_bytes.Reads as reads
+use Rattle.stream.proofs.next_bytes.Lts as lts
 use Rattle.io.proofs.read_full.Reads as read-full-reads
-use Rattle.stream.proofs.next_number.Reads as next-number-reads
-
--- src/lib.rt:44:9
-next-number-requires : tie.Need-next-number-requires
-next-number-requires c κs = search needs
 
 -- src/lib.rt:46:9
 returns : tie.Need-returns
@@ -29,32 +24,21 @@ slice-aggregate-read-full c = sym (length-take-le _ _ (omega arith))
 read-full-requires : tie.Need-read-full-requires
 read-full-requires c κs = search needs
 
--- src/lib.rt:50:9
+-- src/lib.rt:44:1
 same-length : tie.Need-same-length
 same-length c = search needs
 
--- src/lib.rt:50:9
+-- src/lib.rt:44:1
 returns-2 : tie.Need-returns-2
 returns-2 c = search needs
 
--- src/lib.rt:43:1
-same-length-2 : tie.Need-same-length-2
-same-length-2 c = search needs
-
--- src/lib.rt:43:1
-returns-3 : tie.Need-returns-3
-returns-3 c = search needs
-
-pub next-sheet-spec : {M : Type 1} → statement M
-next-sheet-spec =
+pub next-bytes-spec : {M : Type 1} → statement M
+next-bytes-spec =
     tie.close
     (tie.spec
-    next-number-requires
     returns
     slice-relend-prefix-read-full
     slice-aggregate-read-full
     read-full-requires
     same-length
-    returns-2
-    same-length-2
-    returns-3)
+    returns-2)
