@@ -1,6 +1,7 @@
 // A test program: it reads sheets from standard input, each behind its length in 4 bytes, little-endian, and writes one
 // line for each: what reading it answers.
-use sheet::{Reading, Sheet};
+use sheet::Reading;
+use sheet::Sheet;
 use stream::Next;
 
 // The three counts, and where the records start.

@@ -46,6 +46,7 @@ range-is from to (i ∷ l) up = go (ltb (i .address) from) (ltb (i .address) to)
   where
     past : (x : ℕ) → ltb (i .address) x ≡ false → Above x (addressesOf l)
     past x q = above-rest (i .address) (addressesOf l) x up (ltb-false _ _ q)
+
     go : (a b : Bool) → ltb (i .address) from ≡ a → ltb (i .address) to ≡ b
         → within from to l ≡ slice (countBelow (addressesOf l) from) (countBelow (addressesOf l) to) l
         → within from to (i ∷ l) ≡ slice (countBelow (addressesOf (i ∷ l)) from) (countBelow (addressesOf (i ∷ l)) to) (i ∷ l)

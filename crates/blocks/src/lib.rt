@@ -68,7 +68,13 @@ fn verdict_between(s: &[u8], places: &[u64], first: usize, end: usize) -> BlockV
 }
 
 // The block of that number, of an accepted sheet with its index.
-pub fn verdict_on(s: &[u8], sheet: Sheet, addresses: &[u64], places: &[u64], number: u64) -> BlockVerdict
+pub fn verdict_on(
+    s: &[u8],
+    sheet: Sheet,
+    addresses: &[u64],
+    places: &[u64],
+    number: u64,
+) -> BlockVerdict
     requires { ⌜ readingOf (now s) ≡ Accepted sheet ⌝ }
     requires { ⌜ number < sheet .blocks .count ⌝ }
     requires { ⌜ now addresses ≡ addressesOf (sheetAt (now s) .instructions .list) ⌝ }

@@ -72,11 +72,11 @@ record-at variables depth left s p e =
       from = code .whole .from;
       there = code .whole .there;
       well = formed (kind .value) (argument .value) (value .value)
-        (omega (arith, code .below))
-        (λ q. argument-zero variables (kind .value) s (kind .next) (rw q))
-        (λ q. argument-zero variables (kind .value) s (kind .next) (rw q))
-        (λ q. argument-zero variables (kind .value) s (kind .next) (rw q))
-        (λ q. constant-zero (kind .value) s (argument .next) q);
+          (omega (arith, code .below))
+          (λ q. argument-zero variables (kind .value) s (kind .next) (rw q))
+          (λ q. argument-zero variables (kind .value) s (kind .next) (rw q))
+          (λ q. argument-zero variables (kind .value) s (kind .next) (rw q))
+          (λ q. constant-zero (kind .value) s (argument .next) q);
       kids = leb-true _ _ (whole .0);
       one = λ q. eqb-true _ 1 (last-one left _ (last .0) q);
       after = refl;

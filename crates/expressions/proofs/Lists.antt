@@ -41,7 +41,7 @@ pub stored-two : (front rest : List ℕ) (n a b : ℕ) → length front ≡ n �
 stored-two front rest n a b e fits =
     let two : n + 2 ≡ suc (suc n) = omega arith in
     let d : drop n rest ≡ getD rest n 0 ∷ getD rest (suc n) 0 ∷ drop (n + 2) rest =
-        drop-cons rest n 0 (omega arith) ∙ rw two (ap (λ (l : List ℕ). getD rest n 0 ∷ l) (drop-cons rest (suc n) 0 (omega arith))) in
+    drop-cons rest n 0 (omega arith) ∙ rw two (ap (λ (l : List ℕ). getD rest n 0 ∷ l) (drop-cons rest (suc n) 0 (omega arith))) in
     rw (d, set-at front _ _ a n e) (second front (drop (n + 2) rest) n a b (getD rest (suc n) 0) e)
 
 -- one record more keeps what a loop over the records leaves

@@ -90,8 +90,8 @@ pub record-is : (variables depth left : ℕ) (s : List ℕ) (p : Place) {kind ar
     → fits ≡ fitsWidth (kind .value) (argument .value) (value .value)
     → behind ≡ startOf (argument .next) → last ≡ judge fits 8 behind one
     → _≡_ {A = RecordField}
-      (record { tag = kind .value + 16 * argument .value; value = value .value; depth = after; next = last })
-      (recordAt variables depth left s p)
+    (record { tag = kind .value + 16 * argument .value; value = value .value; depth = after; next = last })
+    (recordAt variables depth left s p)
 unfolding recordAt
 record-is variables depth left s p kind-is argument-is value-is arity-is after-is begin-is whole-is end-is one-is fits-is behind-is last-is =
     rw (last-is, one-is, whole-is, begin-is, end-is, behind-is, fits-is, after-is, arity-is, value-is, argument-is, kind-is)

@@ -1,6 +1,8 @@
 // Expression records of a sheet: one reader, which checks an expression and takes its records as words, two a record
 // (see the crate expr).
-use field::{Field, Place, Width};
+use field::Field;
+use field::Place;
+use field::Width;
 ghost use mathlib.Core.Path.{_≡_};
 ghost use Prim.Native.Nat.{_*_, _≤_};
 ghost use lib.ListN.{length};

@@ -28,7 +28,7 @@ again s p (suc k) e =
     let taken = instruction-on (eqb k 0) (t .last) s (t .next) e in
     let here : At (startOf (t .next)) ≡ t .next = rw (taken .there) in
     let one : reread s (startOf (t .next)) ≡ instructionAt (eqb k 0) (t .last) s (t .next) .instruction =
-        ap (λ (q : Place). instructionAt true 0 s q .instruction) here ∙ rw (taken .again) in
+    ap (λ (q : Place). instructionAt true 0 s q .instruction) here ∙ rw (taken .again) in
     map-append (reread s) (t .places) (startOf (t .next) ∷ [])
     ∙ ap (λ (l : List Instruction). l ++ (reread s (startOf (t .next)) ∷ [])) (again s p k (taken .there))
     ∙ ap (λ (i : Instruction). t .list ++ (i ∷ [])) one

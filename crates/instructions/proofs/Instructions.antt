@@ -56,8 +56,8 @@ pub tail-is : (map : ℕ) (s : List ℕ) (p : Place) {b4 b8 b16 b32 : Bool} {one
     → b16 ≡ bitOf map 16 → written ≡ optionalRegisters b16 s (two .next)
     → b32 ≡ bitOf map 32 → flags ≡ optionalCode b32 32 s (written .next)
     → _≡_ {A = Tail}
-      (record { first = one .operand; second = two .operand; written = written .list; count = written .count; flags = flags .value; next = flags .next })
-      (tailAt map s p)
+    (record { first = one .operand; second = two .operand; written = written .list; count = written .count; flags = flags .value; next = flags .next })
+    (tailAt map s p)
 unfolding tailAt
 tail-is map s p e4 one-is e8 two-is e16 written-is e32 flags-is =
     rw (flags-is, written-is, two-is, one-is, e4, e8, e16, e32)
@@ -69,11 +69,11 @@ pub instruction-is : (first : Bool) (last : ℕ) (s : List ℕ) (p : Place) {hea
     → fault ≡ atFault (record { address = head .address; mnemonic = head .mnemonic; branch = branch; target = head .target; call = call; first = tail .first; second = tail .second; written = tail .written; count = tail .count; flags = tail .flags })
     → start ≡ startOf p → next ≡ judge (not fault) 6 start (tail .next)
     → _≡_ {A = InstructionField}
-      (record {
-        instruction = record { address = head .address; mnemonic = head .mnemonic; branch = branch; target = head .target; call = call; first = tail .first; second = tail .second; written = tail .written; count = tail .count; flags = tail .flags };
-        next = next;
-      })
-      (instructionAt first last s p)
+    (record {
+      instruction = record { address = head .address; mnemonic = head .mnemonic; branch = branch; target = head .target; call = call; first = tail .first; second = tail .second; written = tail .written; count = tail .count; flags = tail .flags };
+      next = next;
+    })
+    (instructionAt first last s p)
 unfolding instructionAt
 instruction-is first last s p head-is tail-is branch-is call-is fault-is start-is next-is =
     rw (next-is, start-is, fault-is, branch-is, call-is, tail-is, head-is)

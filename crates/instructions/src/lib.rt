@@ -1,6 +1,10 @@
 // Instruction records: one reader, which both checks a record and takes its content.
-use isa::{Instruction, Operand, Register};
-use field::{Field, Place, Width};
+use field::Field;
+use field::Place;
+use field::Width;
+use isa::Instruction;
+use isa::Operand;
+use isa::Register;
 ghost use mathlib.Core.Path.{_≡_};
 ghost use Prim.Native.Nat.{_<_, _≤_};
 ghost use Rattle.instructions.specs.Instruction.{registerAt, operandAt, withRegister, registersFrom, registersAt, optionalRegisters, bitOf, mapOk, mapAt, addressAt, optionalField, optionalCode, optionalOperand, headAt, tailAt, instructionAt};

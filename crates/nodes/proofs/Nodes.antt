@@ -43,8 +43,8 @@ pub types-inside : (s : List ℕ) (p : Place) {v : Field} {end : Place} {start :
     → end ≡ typesFrom s (v .next) (v .value) → start ≡ startOf (v .next) → (a : ℕ) → end ≡ At a → start + v .value ≤ length s
 types-inside s p {v} v-is end-is start-is a e =
     let inside : (b : ℕ) → v .next ≡ At b → b ≤ length s = λ b q.
-        let w = count-at 0 32 s p (ap (λ (x : Field). x .next) (sym v-is) ∙ q) .whole in
-        omega (arith, w .after, w .inside) in
+    let w = count-at 0 32 s p (ap (λ (x : Field). x .next) (sym v-is) ∙ q) .whole in
+    omega (arith, w .after, w .inside) in
     let r = types-end s (v .next) (v .value) a inside (sym end-is ∙ e) in
     omega (arith, r .0, r .1, start-is)
 
@@ -61,8 +61,8 @@ pub node-is : (s : List ℕ) (p : Place) {v k a : Field} {typesEnd condition con
     → conditionEnd ≡ expressionAt (length types) s condition .next
     → a ≡ countAt 0 16 s conditionEnd → next ≡ addressesFrom s (a .next) (a .value) .next
     → _≡_ {A = NodeField}
-      (record { variables = v .value; types = v .next; statements = k .value; body = k .next; condition = condition; addresses = a .value; sites = a .next; next = next })
-      (nodeAt s p)
+    (record { variables = v .value; types = v .next; statements = k .value; body = k .next; condition = condition; addresses = a .value; sites = a .next; next = next })
+    (nodeAt s p)
 unfolding nodeAt
 node-is s p v-is typesEnd-is start-is types-is k-is condition-is conditionEnd-is a-is next-is =
     rw (next-is, a-is, conditionEnd-is, condition-is, k-is, types-is, start-is, typesEnd-is, v-is)

@@ -1,6 +1,8 @@
 // Node records of a sheet: one reader, which checks a record, says where its parts stand, and takes each statement's
 // content.
-use field::{Field, Place, Width};
+use field::Field;
+use field::Place;
+use field::Width;
 ghost use mathlib.Core.Path.{_≡_};
 ghost use Prim.Native.Nat.{ℕ, _+_, _*_, _<_, _≤_};
 ghost use lib.ListN.{length};
@@ -56,7 +58,13 @@ fn typed(end: Place, begin: usize, words: &[u64], types: &[u8], variable: u64) -
 }
 
 // The rest of an assignment behind its map byte; begin is the statement's place.
-fn take_assignment(s: &[u8], p: Place, begin: usize, types: &[u8], out: &mut [u64]) -> StatementField
+fn take_assignment(
+    s: &[u8],
+    p: Place,
+    begin: usize,
+    types: &[u8],
+    out: &mut [u64],
+) -> StatementField
     requires { ⌜ (length (now types) ≤ 32) × (256 ≤ length (now out)) ⌝ }
     ensures { λ r. ⌜ TookStatement r (now (out .entry)) (now (out .exit)) (assignmentAt (now (types .entry)) begin (now (s .entry)) p) ⌝ }
 {

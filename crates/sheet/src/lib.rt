@@ -1,5 +1,6 @@
 // The sheet: read whole, it is accepted, with the counts of its records and where they start, or refused.
-use field::{Place, Width};
+use field::Place;
+use field::Width;
 ghost use mathlib.Core.Path.{_≡_};
 ghost use Rattle.sheet.specs.Sheet.{instructionsFrom, Checked, blockAt, blocksFrom, nodesFrom, ended, answerOf, readingOf};
 

@@ -1,5 +1,6 @@
 // For test programs: sheets from standard input, each behind its length, and words and numbers to standard output.
-use libc::{STDIN_FILENO, STDOUT_FILENO};
+use libc::STDIN_FILENO;
+use libc::STDOUT_FILENO;
 ghost use mathlib.Core.Path.{_≡_};
 ghost use lib.ListN.{length};
 
@@ -51,5 +52,9 @@ pub fn next_bytes(buf: &mut [u8], n: usize) -> bool {
 
 pub fn next_sheet(buf: &mut [u8]) -> Next {
     let n = next_number();
-    if next_bytes(buf, n) { Next::Sheet(n) } else { Next::End }
+    if next_bytes(buf, n) {
+        Next::Sheet(n)
+    } else {
+        Next::End
+    }
 }

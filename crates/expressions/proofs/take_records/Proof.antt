@@ -22,7 +22,7 @@ abbrev μ-loop : tie.MeasureT-loop
 long : (c : tie.At-loop Inv-loop μ-loop) → length (c .loop .out) ≡ length (c .before .before .before .args .out .now)
 long c =
     let fits : length (takenFrom (c .before .before .before .args .variables) (c .before .before .before .args .total) (c .before .before .before .args .s .now) (c .before .before .before .args .p) (c .loop .i) .words) ≤ length (c .before .before .before .args .out .now) =
-        rw (taken-length _ _ _ _ _) (omega arith) in
+    rw (taken-length _ _ _ _ _) (omega arith) in
     took-length (c .loop .inv .1) fits
 
 shallow : (c : tie.At-loop Inv-loop μ-loop) → c .loop .depth ≤ c .loop .i
