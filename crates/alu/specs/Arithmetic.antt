@@ -1,12 +1,11 @@
 -- Machine: what an operation on known values gives, result and flags. a and b are values of the width.
 use Prim.Native.Nat.{ℕ, _+_, _-_, _%_, _^_}
-use mathlib.Core.Bool.{Bool, true, false, not, _&&_, _||_}
+use mathlib.Core.Bool.{Bool, false, not, _&&_, _||_}
 use lib.Dec.{leb, ltb, eqb}
 use lib.Bits.{bitAnd, bitOr, bitXor}
 use lib.Count.{ones}
 use Rattle.alu.specs.declared.Width.{Width}
-use Rattle.alu.specs.declared.Flag.{Flag}
-use Rattle.alu.specs.declared.Flag.the-variants.{Known, Unknown}
+use Rattle.alu.specs.declared.Flag.the-variants.{Known}
 use Rattle.alu.specs.declared.Flags.{Flags}
 use Rattle.alu.specs.declared.Operation.{Operation}
 use Rattle.alu.specs.declared.Operation.the-variants.{Add, Sub, And, Or, Xor}

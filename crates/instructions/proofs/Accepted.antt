@@ -4,7 +4,10 @@ use mathlib.Core.Path.{_≡_, refl, sym, _∙_}
 use mathlib.Core.List.{List}
 use mathlib.Core.Bool.{Bool, true, false, not, _||_}
 use lib.Dec.{eqb, ltb}
-use borrow.Author.Tests.{ltb-true}
+use borrow.Author.Tests.{ltb-true, not-true}
+use Rattle.isa.specs.declared.Operand.{Operand}
+use Rattle.isa.specs.declared.Operand.the-variants.{Absent, Reg, Imm, Mem}
+use Rattle.isa.specs.Register.{wellFormed}
 use Rattle.isa.specs.Modelled.{atFault}
 use Rattle.field.specs.declared.Place.{Place}
 use Rattle.field.specs.declared.Place.the-variants.{At, Refused}
@@ -30,6 +33,30 @@ register-on s p e =
     let size = field-on 1 s _ (offset .1) in
     let index = field-on 1 s _ (size .1) in
     field-on 1 s p (index .1)
+
+register-well : (s : List ℕ) (p : Place) {a : ℕ} → registerAt s p .next ≡ At a → wellFormed (registerAt s p .register) ≡ true
+unfolding registerAt
+register-well s p e =
+    let class = fieldAt 1 s p in
+    let index = fieldAt 1 s (class .next) in
+    let size = fieldAt 1 s (index .next) in
+    judge-at _ 5 (startOf p) (fieldAt 1 s (size .next) .next) e .0
+
+-- a register in an operand is well formed
+abbrev pub Well : Operand → Type 0
+Well Absent = Unit {0}
+Well (Reg r) = wellFormed r ≡ true
+Well (Imm x) = Unit {0}
+Well Mem = Unit {0}
+
+operand-well : (s : List ℕ) (p : Place) {a : ℕ} → operandAt s p .next ≡ At a → Well (operandAt s p .operand)
+unfolding operandAt
+operand-well s p e = zero-or (eqb (codeAt 3 s p .value) 0) (eqb (codeAt 3 s p .value) 1) refl refl
+  where
+    zero-or : (t u : Bool) → eqb (codeAt 3 s p .value) 0 ≡ t → eqb (codeAt 3 s p .value) 1 ≡ u → Well (operandAt s p .operand)
+    zero-or true u q r = rw q (register-well s (codeAt 3 s p .next) (rw q at e))
+    zero-or false true q r = rw (q, r) tt
+    zero-or false false q r = rw (q, r) tt
 
 operand-on : (s : List ℕ) (p : Place) {a : ℕ} → operandAt s p .next ≡ At a → WentOn p
 unfolding operandAt
@@ -60,6 +87,10 @@ optional-operand-on : (there : Bool) (s : List ℕ) (p : Place) {a : ℕ} → op
 optional-operand-on true s p e = operand-on s p e
 optional-operand-on false s p {a} e = (a, e)
 
+optional-operand-well : (there : Bool) (s : List ℕ) (p : Place) {a : ℕ} → optionalOperand there s p .next ≡ At a → Well (optionalOperand there s p .operand)
+optional-operand-well true s p e = operand-well s p e
+optional-operand-well false s p e = tt
+
 optional-field-on : (there : Bool) (s : List ℕ) (p : Place) {a : ℕ} → optionalField there s p .next ≡ At a → WentOn p
 optional-field-on true s p e = field-on 8 s p e
 optional-field-on false s p {a} e = (a, e)
@@ -76,12 +107,24 @@ tail-on map s p e =
     let one = optional-operand-on (bitOf map 8) s _ (two .1) in
     optional-operand-on (bitOf map 4) s p (one .1)
 
+tail-well : (map : ℕ) (s : List ℕ) (p : Place) {a : ℕ} → tailAt map s p .next ≡ At a
+    → Well (tailAt map s p .first) × Well (tailAt map s p .second)
+unfolding tailAt
+tail-well map s p e =
+    let written = optional-code-on (bitOf map 32) 32 s _ e in
+    let two = optional-registers-on (bitOf map 16) s _ (written .1) in
+    let one = optional-operand-on (bitOf map 8) s _ (two .1) in
+    (optional-operand-well (bitOf map 4) s p (one .1), optional-operand-well (bitOf map 8) s _ (two .1))
+
 -- what an instruction that was read whole is
 pub record Taken (first : Bool) (last : ℕ) (s : List ℕ) (p : Place) : Type 0 where
   pub from : ℕ
   pub there : p ≡ At from
   pub above : first ≡ false → last < instructionAt first last s p .instruction .address
   pub again : instructionAt true 0 s p ≡ instructionAt first last s p
+  pub one : Well (instructionAt first last s p .instruction .first)
+  pub two : Well (instructionAt first last s p .instruction .second)
+  pub sound : atFault (instructionAt first last s p .instruction) ≡ false
 
 -- a field that was read whole passes a check that holds
 check-true : (k at : ℕ) (f : Field) {a : ℕ} → f .next ≡ At a → checkField true k at f ≡ f
@@ -121,5 +164,8 @@ instruction-on first last s p e =
       from = w .0;
       there = w .1;
       above = λ q. rw (rises .2) (ltb-true last _ (other-true first _ (rises .0) q));
+      one = tail-well (head .map) s (head .next) (judge-at _ 6 (startOf p) _ e .1) .0;
+      two = tail-well (head .map) s (head .next) (judge-at _ 6 (startOf p) _ e .1) .1;
+      sound = not-true _ (judge-at _ 6 (startOf p) (tailAt (head .map) s (head .next) .next) e .0);
       again = rw (address-again first last s (map .next) (mnemonic .1));
     }

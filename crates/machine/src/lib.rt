@@ -1,18 +1,17 @@
 // A state of registers and flags, as far as they are known; stepping over an instruction; what is known of a jump.
 use alu::Flag;
 use alu::Flags;
-use alu::Operation;
-use alu::Outcome;
-use alu::Width;
+use effects::Effect;
+use effects::Value;
 use isa::Instruction;
 use isa::Operand;
 use isa::Register;
 ghost use mathlib.Core.Path.{_≡_};
-ghost use Prim.Native.Nat.{min, _≤_};
-ghost use Rattle.machine.specs.Registers.{nothingKnown, contents, slotOf, wholeOf, replaced, extracted, inserted, onValue, readOf, onto, merged, written, operandOf, withFlags, withCarry, forgetRegisters, forgetFlag, forgetFlags, forgotten};
 ghost use mathlib.Core.Bool.{cond};
-ghost use Rattle.machine.specs.Rules.{carryRule, complement, operationOf, sameRegister, settled, unsettled, performed, onOperands, arithEffect, finished, arithStep, unaryOutcome, keptCarry, unaryEffect, unaryUnknown, unaryOn, unaryStep, registerStep, onFirst, modelledStep, stepped};
-ghost use Rattle.machine.specs.Conditions.{tested, flagCondition, countSize, isZero, verdictOf, decided};
+ghost use Prim.Native.Nat.{min, _≤_};
+ghost use Rattle.machine.specs.Registers.{nothingKnown, contents, slotOf, wholeOf, replaced, readOf, written, operandOf, withFlags, forgetRegisters, forgotten};
+ghost use Rattle.machine.specs.Rules.{sameRegister, finished, arithStep, unaryUnknown, unaryOn, unaryStep, registerStep, onFirst, modelledStep, stepped};
+ghost use Rattle.machine.specs.Conditions.{countSize, verdictOf, decided};
 
 // A register's value, which means nothing where it is not marked as known; then it is 0.
 pub struct Slot {
@@ -21,14 +20,8 @@ pub struct Slot {
 }
 
 pub struct State {
-    pub registers: [Slot; 16],
+    pub registers: [Slot; State::REGISTERS],
     pub flags: Flags,
-}
-
-// A value that is read or written: known or not.
-pub enum Value {
-    Known(u64),
-    Unknown,
 }
 
 impl State {
@@ -105,80 +98,15 @@ fn replace(s: State, index: u64, v: Value) -> State
     }
 }
 
-// The part of a whole register that a width and an offset name. Offset 8 counts at 8 bits alone.
-fn extract(w: Width, offset: u64, x: u64) -> u64
-    ensures { λ r. ⌜ r ≡ extracted w offset x ⌝ }
-{
-    match w {
-        Width::Byte => { if offset == 8 { x / 256 % 256 } else { x % 256 } }
-        Width::Word => x % 65536,
-        Width::Double => x % 4294967296,
-        Width::Quad => x,
-    }
-}
-
-// The whole register with another part.
-fn insert(w: Width, offset: u64, old: u64, x: u64) -> u64
-    ensures { λ r. ⌜ r ≡ inserted w offset old x ⌝ }
-{
-    match w {
-        Width::Byte => {
-            if offset == 8 {
-                old - old / 256 % 256 * 256 + x % 256 * 256
-            } else {
-                old - old % 256 + x % 256
-            }
-        }
-        Width::Word => old - old % 65536 + x % 65536,
-        Width::Double => old - old % 4294967296 + x % 4294967296,
-        Width::Quad => x,
-    }
-}
-
-// The part of a whole register, where the whole is known.
-fn part(w: Width, offset: u64, v: Value) -> Value
-    ensures { λ r. ⌜ r ≡ onValue (extracted w offset) v ⌝ }
-{
-    match v {
-        Value::Known(x) => Value::Known(extract(w, offset, x)),
-        Value::Unknown => Value::Unknown,
-    }
-}
-
 pub fn read(s: State, r: Register) -> Value
     ensures { λ v. ⌜ v ≡ readOf s r ⌝ }
 {
     if r.class == 1 {
         let w = alu::width_of(r.size);
         let v = whole(s, r.index);
-        part(w, r.offset, v)
+        effects::part(w, r.offset, v)
     } else {
         Value::Unknown
-    }
-}
-
-// A part written onto a whole register.
-fn onto_whole(w: Width, offset: u64, x: u64, old: Value) -> Value
-    ensures { λ v. ⌜ v ≡ onto w offset x old ⌝ }
-{
-    match old {
-        Value::Known(y) => Value::Known(insert(w, offset, y, x)),
-        Value::Unknown => Value::Unknown,
-    }
-}
-
-// The whole register after a write to it.
-fn merge(w: Width, offset: u64, old: Value, v: Value) -> Value
-    ensures { λ r. ⌜ r ≡ merged w offset old v ⌝ }
-{
-    match v {
-        Value::Unknown => Value::Unknown,
-        Value::Known(x) => match w {
-            Width::Byte => onto_whole(Width::Byte, offset, x, old),
-            Width::Word => onto_whole(Width::Word, offset, x, old),
-            Width::Double => Value::Known(x % 4294967296),
-            Width::Quad => Value::Known(x),
-        },
     }
 }
 
@@ -188,7 +116,7 @@ pub fn write(s: State, r: Register, v: Value) -> State
     if r.class == 1 {
         let w = alu::width_of(r.size);
         let old = whole(s, r.index);
-        let new = merge(w, r.offset, old, v);
+        let new = effects::merge(w, r.offset, old, v);
         replace(s, r.index, new)
     } else {
         s
@@ -217,16 +145,6 @@ fn with_flags(s: State, flags: Flags) -> State
     State { registers, flags }
 }
 
-fn with_carry(f: Flags, cf: Flag) -> Flags
-    ensures { λ g. ⌜ g ≡ withCarry f cf ⌝ }
-{
-    let pf = f.pf;
-    let zf = f.zf;
-    let sf = f.sf;
-    let of = f.of;
-    Flags { cf, pf, zf, sf, of }
-}
-
 fn at_most_eight(count: u64) -> u64
     ensures { λ n. ⌜ n ≡ min count 8 ⌝ }
 {
@@ -248,29 +166,6 @@ fn forget_registers(s: State, registers: [Register; 8], n: u64) -> State
     state
 }
 
-fn forget_flag(bit: u64, f: Flag) -> Flag
-    ensures { λ g. ⌜ g ≡ forgetFlag bit f ⌝ }
-{
-    if bit == 1 { Flag::Unknown } else { f }
-}
-
-fn forget_flags(declared: u64, f: Flags) -> Flags
-    ensures { λ g. ⌜ g ≡ forgetFlags declared f ⌝ }
-{
-    let cf = f.cf;
-    let pf = f.pf;
-    let zf = f.zf;
-    let sf = f.sf;
-    let of = f.of;
-    Flags {
-        cf: forget_flag(declared % 2, cf),
-        pf: forget_flag(declared / 2 % 2, pf),
-        zf: forget_flag(declared / 4 % 2, zf),
-        sf: forget_flag(declared / 8 % 2, sf),
-        of: forget_flag(declared / 16 % 2, of),
-    }
-}
-
 // Forget what the instruction declares as written.
 fn forget(s: State, i: Instruction) -> State
     ensures { λ t. ⌜ t ≡ forgotten s i ⌝ }
@@ -279,48 +174,8 @@ fn forget(s: State, i: Instruction) -> State
     let n = at_most_eight(i.count);
     let after = forget_registers(s, registers, n);
     let flags = after.flags;
-    let left = forget_flags(i.flags, flags);
+    let left = effects::forget_flags(i.flags, flags);
     with_flags(after, left)
-}
-
-// stc, clc, cmc.
-fn carry_rule(m: u64, cf: Flag) -> Flag
-    ensures { λ f. ⌜ f ≡ carryRule m cf ⌝ }
-{
-    if m == 1 {
-        return Flag::Known(true);
-    }
-    if m == 2 {
-        return Flag::Known(false);
-    }
-    alu::not(cf)
-}
-
-fn complement_of(v: Value) -> Value
-    ensures { λ r. ⌜ r ≡ complement v ⌝ }
-{
-    match v {
-        Value::Known(x) => Value::Known(18446744073709551615 - x),
-        Value::Unknown => Value::Unknown,
-    }
-}
-
-fn operation(m: u64) -> Operation
-    ensures { λ op. ⌜ op ≡ operationOf m ⌝ }
-{
-    if m == 6 {
-        return Operation::Add;
-    }
-    if (m == 7) | (m == 8) {
-        return Operation::Sub;
-    }
-    if (m == 9) | (m == 12) {
-        return Operation::And;
-    }
-    if m == 10 {
-        return Operation::Or;
-    }
-    Operation::Xor
 }
 
 fn is_same(d: Register, o: Operand) -> bool
@@ -334,81 +189,6 @@ fn is_same(d: Register, o: Operand) -> bool
             & (r.offset == d.offset),
         Operand::Imm(_) => false,
         Operand::Mem => false,
-    }
-}
-
-// What an instruction leaves: a value for its register, and the flags.
-pub struct Effect {
-    pub value: Value,
-    pub flags: Flags,
-}
-
-// A register with itself.
-fn settle(w: Width) -> Effect
-    ensures { λ e. ⌜ e ≡ settled w ⌝ }
-{
-    let flags = alu::result_flags(w, 0, false, false);
-    let value = Value::Known(0);
-    Effect { value, flags }
-}
-
-// An operand is unknown.
-fn unsettle(m: u64) -> Effect
-    ensures { λ e. ⌜ e ≡ unsettled m ⌝ }
-{
-    let value = Value::Unknown;
-    if 9 <= m {
-        let cleared = Flags {
-            cf: Flag::Known(false),
-            pf: Flag::Unknown,
-            zf: Flag::Unknown,
-            sf: Flag::Unknown,
-            of: Flag::Known(false),
-        };
-        return Effect {
-            value,
-            flags: cleared,
-        };
-    }
-    let none = Flags {
-        cf: Flag::Unknown,
-        pf: Flag::Unknown,
-        zf: Flag::Unknown,
-        sf: Flag::Unknown,
-        of: Flag::Unknown,
-    };
-    Effect { value, flags: none }
-}
-
-fn perform_on(m: u64, w: Width, a: u64, b: u64) -> Effect
-    ensures { λ e. ⌜ e ≡ performed m w a b ⌝ }
-{
-    let op = operation(m);
-    let o = alu::perform(op, w, a, b);
-    let flags = o.flags;
-    let value = Value::Known(o.value);
-    Effect { value, flags }
-}
-
-fn on_operands(m: u64, w: Width, a: Value, b: Value) -> Effect
-    ensures { λ e. ⌜ e ≡ onOperands m w a b ⌝ }
-{
-    match a {
-        Value::Known(x) => match b {
-            Value::Known(y) => perform_on(m, w, x, y),
-            Value::Unknown => unsettle(m),
-        },
-        Value::Unknown => unsettle(m),
-    }
-}
-
-fn arith_effect(m: u64, w: Width, same: bool, a: Value, b: Value) -> Effect
-    ensures { λ e. ⌜ e ≡ arithEffect m w same a b ⌝ }
-{
-    if ((m == 7) | (m == 8) | (m == 11)) & same {
-        settle(w)
-    } else {
-        on_operands(m, w, a, b)
     }
 }
 
@@ -436,37 +216,8 @@ fn arith(s: State, m: u64, d: Register, o: Operand) -> State
     let same = is_same(d, o);
     let a = read(s, d);
     let b = operand(s, size, o);
-    let e = arith_effect(m, w, same, a, b);
+    let e = effects::arith_effect(m, w, same, a, b);
     finish(s, !((m == 8) | (m == 12)), d, e)
-}
-
-fn unary_outcome(m: u64, w: Width, a: u64) -> Outcome
-    ensures { λ o. ⌜ o ≡ unaryOutcome m w a ⌝ }
-{
-    if m == 13 {
-        return alu::perform(Operation::Add, w, a, 1);
-    }
-    if m == 14 {
-        return alu::perform(Operation::Sub, w, a, 1);
-    }
-    alu::perform(Operation::Sub, w, 0, a)
-}
-
-// inc and dec keep CF, neg does not.
-fn keep_carry(m: u64, cf: Flag, f: Flags) -> Flags
-    ensures { λ g. ⌜ g ≡ keptCarry m cf f ⌝ }
-{
-    if m == 15 { f } else { with_carry(f, cf) }
-}
-
-fn unary_effect(m: u64, w: Width, cf: Flag, a: u64) -> Effect
-    ensures { λ e. ⌜ e ≡ unaryEffect m w cf a ⌝ }
-{
-    let o = unary_outcome(m, w, a);
-    let flags = o.flags;
-    let kept = keep_carry(m, cf, flags);
-    let value = Value::Known(o.value);
-    Effect { value, flags: kept }
 }
 
 fn unary_unknown(s: State, i: Instruction) -> State
@@ -476,8 +227,8 @@ fn unary_unknown(s: State, i: Instruction) -> State
     let cf = before.cf;
     let after = forget(s, i);
     let flags = after.flags;
-    let kept = keep_carry(i.mnemonic, cf, flags);
-    with_flags(after, kept)
+    let carry = effects::unknown_carry(i.mnemonic, cf);
+    with_flags(after, effects::with_carry(flags, carry))
 }
 
 fn unary_on(s: State, i: Instruction, d: Register, v: Value) -> State
@@ -488,7 +239,7 @@ fn unary_on(s: State, i: Instruction, d: Register, v: Value) -> State
             let w = alu::width_of(d.size);
             let flags = s.flags;
             let cf = flags.cf;
-            let e = unary_effect(i.mnemonic, w, cf, a);
+            let e = effects::unary_effect(i.mnemonic, w, cf, a);
             finish(s, true, d, e)
         }
         Value::Unknown => unary_unknown(s, i),
@@ -513,7 +264,7 @@ fn on_register(s: State, i: Instruction, d: Register) -> State
         return write(s, d, v);
     }
     if m == 5 {
-        let v = complement_of(read(s, d));
+        let v = effects::complement_of(read(s, d));
         return write(s, d, v);
     }
     if m <= 12 {
@@ -539,8 +290,8 @@ fn step_modelled(s: State, i: Instruction) -> State
     if i.mnemonic <= 3 {
         let flags = s.flags;
         let cf = flags.cf;
-        let new = carry_rule(i.mnemonic, cf);
-        return with_flags(s, with_carry(flags, new));
+        let new = effects::carry_rule(i.mnemonic, cf);
+        return with_flags(s, effects::with_carry(flags, new));
     }
     let first = i.first;
     on_first(s, i, first)
@@ -565,45 +316,6 @@ pub enum Decided {
     Undecided,
 }
 
-fn test(pair: u64, f: Flags) -> Flag
-    ensures { λ r. ⌜ r ≡ tested pair f ⌝ }
-{
-    let cf = f.cf;
-    let zf = f.zf;
-    let sf = f.sf;
-    let of = f.of;
-    if pair == 8 {
-        return zf;
-    }
-    if pair == 9 {
-        return alu::differ_in(sf, of);
-    }
-    if pair == 10 {
-        return alu::or(zf, alu::differ_in(sf, of));
-    }
-    if pair == 11 {
-        return cf;
-    }
-    if pair == 12 {
-        return alu::or(cf, zf);
-    }
-    if pair == 13 {
-        return sf;
-    }
-    if pair == 14 {
-        return f.pf;
-    }
-    of
-}
-
-// The condition of a jump on flags.
-fn holds(m: u64, f: Flags) -> Flag
-    ensures { λ r. ⌜ r ≡ flagCondition m f ⌝ }
-{
-    let t = test(m / 2, f);
-    if m % 2 == 1 { alu::not(t) } else { t }
-}
-
 fn count_size(m: u64) -> u64
     ensures { λ r. ⌜ r ≡ countSize m ⌝ }
 {
@@ -614,15 +326,6 @@ fn count_size(m: u64) -> u64
         return 32;
     }
     16
-}
-
-fn is_zero(v: Value) -> Flag
-    ensures { λ r. ⌜ r ≡ isZero v ⌝ }
-{
-    match v {
-        Value::Known(x) => Flag::Known(x == 0),
-        Value::Unknown => Flag::Unknown,
-    }
 }
 
 fn verdict(f: Flag) -> Decided
@@ -640,7 +343,7 @@ pub fn condition(s: State, m: u64) -> Decided
 {
     if (16 <= m) & (m <= 31) {
         let flags = s.flags;
-        return verdict(holds(m, flags));
+        return verdict(effects::holds(m, flags));
     }
     if (32 <= m) & (m <= 34) {
         let r = Register {
@@ -649,7 +352,7 @@ pub fn condition(s: State, m: u64) -> Decided
             size: count_size(m),
             offset: 0,
         };
-        return verdict(is_zero(read(s, r)));
+        return verdict(effects::is_zero(read(s, r)));
     }
     Decided::Undecided
 }

@@ -5,7 +5,7 @@ use Rattle.machine.proofs.arith.Tie as tie
 use Rattle.machine.proofs.arith.Reads as reads
 use Rattle.machine.proofs.arith.Lts as lts
 use Rattle.alu.proofs.width_of.Reads as width-of-reads
-use Rattle.machine.proofs.arith_effect.Reads as arith-effect-reads
+use Rattle.effects.proofs.arith_effect.Reads as arith-effect-reads
 use Rattle.machine.proofs.finish.Reads as finish-reads
 use Rattle.machine.proofs.is_same.Reads as is-same-reads
 use Rattle.machine.proofs.operand.Reads as operand-reads

@@ -5,8 +5,8 @@ use Rattle.machine.proofs.condition.Tie as tie
 use Rattle.machine.proofs.condition.Reads as reads
 use Rattle.machine.proofs.condition.Lts as lts
 use Rattle.machine.proofs.count_size.Reads as count-size-reads
-use Rattle.machine.proofs.holds.Reads as holds-reads
-use Rattle.machine.proofs.is_zero.Reads as is-zero-reads
+use Rattle.effects.proofs.holds.Reads as holds-reads
+use Rattle.effects.proofs.is_zero.Reads as is-zero-reads
 use Rattle.machine.proofs.read.Reads as read-reads
 use Rattle.machine.proofs.verdict.Reads as verdict-reads
 

@@ -5,7 +5,7 @@ use Rattle.machine.proofs.forget.Tie as tie
 use Rattle.machine.proofs.forget.Reads as reads
 use Rattle.machine.proofs.forget.Lts as lts
 use Rattle.machine.proofs.at_most_eight.Reads as at-most-eight-reads
-use Rattle.machine.proofs.forget_flags.Reads as forget-flags-reads
+use Rattle.effects.proofs.forget_flags.Reads as forget-flags-reads
 use Rattle.machine.proofs.forget_registers.Reads as forget-registers-reads
 use Rattle.machine.proofs.with_flags.Reads as with-flags-reads
 

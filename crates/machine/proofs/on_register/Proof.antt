@@ -7,7 +7,7 @@ use Rattle.machine.proofs.on_register.Tie as tie
 use Rattle.machine.proofs.on_register.Reads as reads
 use Rattle.machine.proofs.on_register.Lts as lts
 use Rattle.machine.proofs.arith.Reads as arith-reads
-use Rattle.machine.proofs.complement_of.Reads as complement-of-reads
+use Rattle.effects.proofs.complement_of.Reads as complement-of-reads
 use Rattle.machine.proofs.operand.Reads as operand-reads
 use Rattle.machine.proofs.read.Reads as read-reads
 use Rattle.machine.proofs.unary.Reads as unary-reads

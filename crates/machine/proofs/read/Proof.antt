@@ -6,7 +6,7 @@ use Rattle.machine.proofs.read.Tie as tie
 use Rattle.machine.proofs.read.Reads as reads
 use Rattle.machine.proofs.read.Lts as lts
 use Rattle.alu.proofs.width_of.Reads as width-of-reads
-use Rattle.machine.proofs.part.Reads as part-reads
+use Rattle.effects.proofs.part.Reads as part-reads
 use Rattle.machine.proofs.whole.Reads as whole-reads
 
 -- src/lib.rt:149:13

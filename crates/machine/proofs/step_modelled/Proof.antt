@@ -5,9 +5,9 @@ use Rattle.machine.proofs.step_modelled.Statement.{statement}
 use Rattle.machine.proofs.step_modelled.Tie as tie
 use Rattle.machine.proofs.step_modelled.Reads as reads
 use Rattle.machine.proofs.step_modelled.Lts as lts
-use Rattle.machine.proofs.carry_rule.Reads as carry-rule-reads
+use Rattle.effects.proofs.carry_rule.Reads as carry-rule-reads
 use Rattle.machine.proofs.on_first.Reads as on-first-reads
-use Rattle.machine.proofs.with_carry.Reads as with-carry-reads
+use Rattle.effects.proofs.with_carry.Reads as with-carry-reads
 use Rattle.machine.proofs.with_flags.Reads as with-flags-reads
 
 -- src/lib.rt:539:13

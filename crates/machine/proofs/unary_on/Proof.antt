@@ -5,7 +5,7 @@ use Rattle.machine.proofs.unary_on.Reads as reads
 use Rattle.machine.proofs.unary_on.Lts as lts
 use Rattle.alu.proofs.width_of.Reads as width-of-reads
 use Rattle.machine.proofs.finish.Reads as finish-reads
-use Rattle.machine.proofs.unary_effect.Reads as unary-effect-reads
+use Rattle.effects.proofs.unary_effect.Reads as unary-effect-reads
 use Rattle.machine.proofs.unary_unknown.Reads as unary-unknown-reads
 
 -- src/lib.rt:484:22

@@ -6,7 +6,7 @@ use Rattle.machine.proofs.write.Tie as tie
 use Rattle.machine.proofs.write.Reads as reads
 use Rattle.machine.proofs.write.Lts as lts
 use Rattle.alu.proofs.width_of.Reads as width-of-reads
-use Rattle.machine.proofs.merge.Reads as merge-reads
+use Rattle.effects.proofs.merge.Reads as merge-reads
 use Rattle.machine.proofs.replace.Reads as replace-reads
 use Rattle.machine.proofs.whole.Reads as whole-reads
 

@@ -1,0 +1,2 @@
+pub mod Concrete
+pub mod Agreement
