@@ -72,5 +72,5 @@ rows =
 
 -- The marked rows hold.
 pub marked : Yields rows
-unfolding rows verdictFrom Rattle.machine.specs.Conditions.tested Rattle.machine.specs.Conditions.flagCondition Rattle.machine.specs.Conditions.decided Rattle.machine.specs.Registers.nothingKnown Rattle.machine.specs.Registers.wholeOf Rattle.machine.specs.Registers.replaced Rattle.machine.specs.Registers.extracted Rattle.machine.specs.Registers.inserted Rattle.machine.specs.Registers.readOf Rattle.machine.specs.Registers.merged Rattle.machine.specs.Registers.written Rattle.machine.specs.Registers.operandOf Rattle.machine.specs.Registers.forgetRegisters Rattle.machine.specs.Registers.forgetFlags Rattle.machine.specs.Registers.forgotten Rattle.machine.specs.Rules.carryRule Rattle.machine.specs.Rules.operationOf Rattle.machine.specs.Rules.settled Rattle.machine.specs.Rules.unsettled Rattle.machine.specs.Rules.performed Rattle.machine.specs.Rules.arithEffect Rattle.machine.specs.Rules.finished Rattle.machine.specs.Rules.arithStep Rattle.machine.specs.Rules.unaryOutcome Rattle.machine.specs.Rules.keptCarry Rattle.machine.specs.Rules.unaryEffect Rattle.machine.specs.Rules.unaryUnknown Rattle.machine.specs.Rules.unaryStep Rattle.machine.specs.Rules.registerStep Rattle.machine.specs.Rules.modelledStep Rattle.machine.specs.Rules.stepped Rattle.alu.specs.Arithmetic.result Rattle.alu.specs.Arithmetic.carry Rattle.alu.specs.Arithmetic.overflow Rattle.alu.specs.Arithmetic.resultFlags Rattle.alu.specs.Arithmetic.outcome
+unfolding rows verdictFrom Rattle.machine.specs.Conditions.decided Rattle.machine.specs.Rules.finished Rattle.machine.specs.Rules.arithStep Rattle.machine.specs.Rules.unaryUnknown Rattle.machine.specs.Rules.unaryStep Rattle.machine.specs.Rules.registerStep Rattle.machine.specs.Rules.modelledStep Rattle.machine.specs.Rules.stepped Rattle.machine.specs.Registers.nothingKnown Rattle.machine.specs.Registers.wholeOf Rattle.machine.specs.Registers.replaced Rattle.machine.specs.Registers.readOf Rattle.machine.specs.Registers.written Rattle.machine.specs.Registers.operandOf Rattle.machine.specs.Registers.forgetRegisters Rattle.machine.specs.Registers.forgotten Rattle.effects.specs.Operations.carryRule Rattle.effects.specs.Operations.operationOf Rattle.effects.specs.Operations.settled Rattle.effects.specs.Operations.unsettled Rattle.effects.specs.Operations.performed Rattle.effects.specs.Operations.arithEffect Rattle.effects.specs.Operations.unaryOutcome Rattle.effects.specs.Operations.keptCarry Rattle.effects.specs.Operations.unaryEffect Rattle.effects.specs.Operations.forgetFlags Rattle.effects.specs.Conditions.tested Rattle.effects.specs.Conditions.flagCondition Rattle.effects.specs.Values.extracted Rattle.effects.specs.Values.inserted Rattle.effects.specs.Values.merged Rattle.alu.specs.Arithmetic.result Rattle.alu.specs.Arithmetic.carry Rattle.alu.specs.Arithmetic.overflow Rattle.alu.specs.Arithmetic.resultFlags Rattle.alu.specs.Arithmetic.outcome
 marked = (refl, (refl, (refl, (refl, (refl, (refl, tt))))))
