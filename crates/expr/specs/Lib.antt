@@ -1,4 +1,5 @@
 pub mod Tree
+pub mod Statement
 pub mod Scan
 pub mod Types
 pub mod Examples

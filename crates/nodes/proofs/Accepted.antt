@@ -1,17 +1,23 @@
 -- Where reading goes on after a statement or a node, it went on before it.
-use Prim.Native.Nat.{ℕ, zero, suc, _+_}
-use mathlib.Core.Path.{_≡_, refl}
-use mathlib.Core.List.{List}
-use mathlib.Core.Bool.{Bool, true, false}
+use Prim.Native.Nat.{ℕ, zero, suc, _+_, _≤_, _<_}
+use mathlib.Core.Path.{_≡_, refl, _∙_}
+use mathlib.Core.List.{List, []}
+use mathlib.Core.Logic.{⊎-elim}
+use native.Mathlib.Omega.{arith}
+use native.Mathlib.Nat.{eq-or-lt-of-le}
+use mathlib.Core.Bool.{Bool, true, false, false≢true}
 use lib.Dec.{eqb}
-use lib.ListN.{length}
+use lib.ListN.{length, getD, length-append, List·getD-append}
+use lib.Seq.{getD-at}
+use Rattle.expr.specs.Tree.{Wf}
+use Rattle.expr.specs.Statement.{Statement}
 use Rattle.field.specs.declared.Place.{Place}
 use Rattle.field.specs.declared.Place.the-variants.{At}
 use Rattle.field.specs.Field.{fieldAt, startOf, codeAt, countAt}
 use Rattle.field.proofs.Fields.{judge-at, check-at, field-at, code-at, count-at}
 use Rattle.expressions.specs.Expression.{expressionAt}
 use Rattle.expressions.proofs.Accepted.{one-tree}
-use Rattle.nodes.specs.Node.{mapAt, assignmentAt, statementAt, statementsFrom, typesFrom, typesOf, addressesFrom, nodeAt}
+use Rattle.nodes.specs.Node.{mapAt, assignmentAt, statementAt, statementOf, statementsFrom, typesFrom, typesOf, addressesFrom, nodeAt}
 
 -- reading went on at a place
 abbrev pub WentOn : Place → Type 0
@@ -70,3 +76,49 @@ node-on s p e =
     let body = statements-on types s (k .next) (k .value) (one .there) in
     let counted = count-on 0 64 s typesEnd (body .1) in
     count-on 0 32 s p (types-on s (v .next) (v .value) (counted .1) .1)
+
+-- statements that were read whole were so one by one
+pub statements-back : (types s : List ℕ) (p : Place) (k j : ℕ) {a : ℕ} → statementsFrom types s p k .next ≡ At a → j ≤ k
+    → WentOn (statementsFrom types s p j .next)
+unfolding statementsFrom
+statements-back types s p zero j {a} e le = let z : j ≡ 0 = omega arith in (a, rw z e)
+statements-back types s p (suc k) j {a} e le =
+    ⊎-elim
+    (λ (z : j ≡ suc k). (a, rw z e))
+    (λ (lt : j < suc k). statements-back types s p k j (statement-on types s (statementsFrom types s p k .next) e .1) (omega arith))
+    (eq-or-lt-of-le le)
+
+pub statements-length : (types s : List ℕ) (p : Place) (k : ℕ) → length (statementsFrom types s p k .list) ≡ k
+unfolding statementsFrom
+statements-length types s p zero = refl
+statements-length types s p (suc k) = rw (length-append, statements-length types s p k) (omega arith)
+
+pub statements-nth : (types s : List ℕ) (p : Place) (k j : ℕ) (d : Statement) → j < k
+    → getD (statementsFrom types s p k .list) j d ≡ statementOf (statementAt types s (statementsFrom types s p j .next))
+unfolding statementsFrom
+statements-nth types s p zero j d lt = absurd (omega arith)
+statements-nth types s p (suc k) j d lt =
+    let l = statementsFrom types s p k .list in
+    ⊎-elim
+    (λ (z : j ≡ k). rw z (getD-at l _ [] d k (statements-length types s p k)))
+    (λ (below : j < k). List·getD-append l _ d j (rw (statements-length types s p k) below) ∙ statements-nth types s p k j d below)
+    (eq-or-lt-of-le (omega arith))
+
+-- an assignment that was read whole has one tree of at most 128 records, and its variable is declared
+pub record Assigned (types s : List ℕ) (p : Place) : Type 0 where
+  pub tree : Wf (statementAt types s p .words)
+  pub short : length (statementAt types s p .words) ≤ 256
+  pub declared : statementAt types s p .variable < length types
+
+pub assigned : (types s : List ℕ) (p : Place) {a : ℕ} → statementAt types s p .next ≡ At a → statementAt types s p .assigned ≡ true
+    → Assigned types s p
+unfolding statementAt assignmentAt
+assigned types s p e there = go (eqb (mapAt s p .value) 3) refl
+  where
+    go : (t : Bool) → eqb (mapAt s p .value) 3 ≡ t → Assigned types s p
+    go true q =
+        let v = codeAt (length types) s (mapAt s p .next) in
+        let value = one-tree (length types) s (v .next) (judge-at _ 9 (startOf p) _ (rw q at e) .1) in
+        let code = code-at (length types) s (mapAt s p .next) (value .there) in
+        record { tree = rw q (value .tree); short = rw q (value .short); declared = rw q (code .below) }
+    go false q = let z : false ≡ true = rw q at there in absurd (false≢true z)

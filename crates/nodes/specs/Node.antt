@@ -10,15 +10,12 @@ use Rattle.field.specs.declared.Place.the-variants.{At, Refused}
 use Rattle.field.specs.declared.Field.{Field}
 use Rattle.field.specs.Field.{fieldAt, startOf, judge, checkField, codeAt, countAt}
 use Rattle.expr.specs.Tree.{Expr, treeOf}
+use Rattle.expr.specs.Statement.{Statement}
+use Rattle.expr.specs.Statement.Statement.{assignment, other}
 use Rattle.expr.specs.Types.{typeOf, sameType}
 use Rattle.expressions.specs.Expression.{expressionAt}
 use Rattle.nodes.specs.declared.StatementField.{StatementField}
 use Rattle.nodes.specs.declared.NodeField.{NodeField}
-
--- Statement: an assignment to a variable, or anything else.
-pub data Statement : Type 0 where
-  assignment : (variable : ℕ) (value : Expr) → Statement
-  other : Statement
 
 -- what reading a statement gives: whether it is an assignment, its variable, its value's words, and the place after it
 pub record StatementRead : Type 0 where

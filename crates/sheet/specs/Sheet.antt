@@ -68,17 +68,19 @@ blocksFrom s p (suc k) =
     let b = blockAt s (before .next) in
     record { list = before .list ++ (record { from = b .from; to = b .to } ∷ []); next = b .next }
 
+-- the nodes, the place of each, and the place after them
 pub record NodesRead : Type 0 where
   pub list : List Node
+  pub places : List ℕ
   pub next : Place
 
 -- after the first k nodes
 unfoldable pub nodesFrom : List ℕ → Place → ℕ → NodesRead
-nodesFrom s p zero = record { list = []; next = p }
+nodesFrom s p zero = record { list = []; places = []; next = p }
 nodesFrom s p (suc k) =
     let before = nodesFrom s p k in
     let n = nodeAt s (before .next) in
-    record { list = before .list ++ (nodeOf s n ∷ []); next = n .next }
+    record { list = before .list ++ (nodeOf s n ∷ []); places = before .places ++ (startOf (before .next) ∷ []); next = n .next }
 
 -- Turned back, 1: bytes left over; the refusal stands at the first of them.
 abbrev pub ended : List ℕ → Place → Place

@@ -54,7 +54,13 @@ all-read s p (suc k) e =
     all-append (t .list) (i ∷ []) (all-read s p k (r .there))
     (record { first = well (i .first) (r .one); second = well (i .second) (r .two); sound = r .sound }, tt)
 
-all-within : (from to : ℕ) (l : List Instruction) → AllAccepted l → AllAccepted (within from to l)
+pub all-of-sheet : (s : List ℕ) (sheet : Sheet) → readingOf s ≡ reading.Accepted sheet → AllAccepted (sheetAt s .instructions .list)
+all-of-sheet s sheet read =
+    let acc = accepted s sheet read in
+    rw (← acc .instructions)
+    (all-read s (At (sheet .instructions .at)) (sheet .instructions .count) {a = acc .afterInstructions .0} (rw (acc .instructions) (acc .afterInstructions .1)))
+
+pub all-within : (from to : ℕ) (l : List Instruction) → AllAccepted l → AllAccepted (within from to l)
 unfolding within
 all-within from to [] a = tt
 all-within from to (i ∷ l) a = kept (leb from (i .address) && ltb (i .address) to) (all-within from to l (a .1))
@@ -91,10 +97,6 @@ pub blocks-right : (s : List ℕ) (sheet : Sheet) → readingOf s ≡ reading.Ac
     → (start : Processor) (free : ℕ → Choice) (last : Bool) → NotAgainst (verdictOn s number) (runOn s number start free last)
 unfolding verdictOn runOn
 blocks-right s sheet read number start free last =
-    let acc = accepted s sheet read in
     let block = getD (sheetAt s .blocks .list) number noBlock in
-    let all : AllAccepted (sheetAt s .instructions .list) =
-        rw (← acc .instructions)
-        (all-read s (At (sheet .instructions .at)) (sheet .instructions .count) {a = acc .afterInstructions .0} (rw (acc .instructions) (acc .afterInstructions .1))) in
     from-right nothingKnown start (within (block .from) (block .to) (sheetAt s .instructions .list)) free last
-    (all-within (block .from) (block .to) (sheetAt s .instructions .list) all) (nothing-known start)
+    (all-within (block .from) (block .to) (sheetAt s .instructions .list) (all-of-sheet s sheet read)) (nothing-known start)

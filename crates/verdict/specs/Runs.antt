@@ -7,6 +7,10 @@ use lib.ListN.{getD}
 use Rattle.isa.specs.declared.Instruction.{Instruction}
 use Rattle.sheet.specs.Sheet.{sheetAt}
 use Rattle.runs.specs.Concrete.{Processor, Choice, executed, outcome}
+use Rattle.runs.specs.Agreement.{Agrees}
+use Rattle.machine.specs.declared.State.{State}
+use Rattle.machine.specs.Registers.{nothingKnown}
+use Rattle.machine.specs.Rules.{stepped}
 use Rattle.blocks.specs.declared.BlockVerdict.{BlockVerdict}
 use Rattle.blocks.specs.declared.BlockVerdict.the-variants as verdict
 use Rattle.blocks.specs.Verdict.{within, noBlock}
@@ -35,3 +39,24 @@ NotAgainst verdict.NoBranch o = Unit {0}
 NotAgainst verdict.Undecided o = Unit {0}
 NotAgainst verdict.Always o = o ≡ jumped true
 NotAgainst verdict.Never o = o ≡ jumped false
+
+-- Flag branch (a term of the scope document): a conditional branch that ends a block, with what is known there.
+pub data AtEnd : Type 0 where
+  branch : (known : State) (mnemonic : ℕ) → AtEnd
+  none : AtEnd
+
+unfoldable pub endFrom : State → List Instruction → AtEnd
+endFrom s [] = none
+endFrom s (i ∷ []) = cond (i .branch) (branch s (i .mnemonic)) none
+endFrom s (i ∷ j ∷ l) = endFrom (stepped s i) (j ∷ l)
+
+-- the end of the block of that number, from nothing known
+unfoldable pub endOf : List ℕ → ℕ → AtEnd
+endOf s number =
+    let block = getD (sheetAt s .blocks .list) number noBlock in
+    endFrom nothingKnown (within (block .from) (block .to) (sheetAt s .instructions .list))
+
+-- Forced (a term of the scope document) one way: the branch jumps, or does not, in every concrete state that agrees with
+-- what is known, whatever is unknown.
+abbrev pub Forced : State → ℕ → Bool → Type 0
+Forced known mnemonic b = (q : Processor) (free : Bool) → Agrees known q → outcome mnemonic q free ≡ b

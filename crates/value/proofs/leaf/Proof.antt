@@ -1,0 +1,89 @@
+-- `value::leaf` meets its contract: by the root's kind.
+-- Assumes nothing.
+use mathlib.Core.Path.{_≡_, refl}
+use Prim.Native.Nat.{ℕ, _+_, _-_, _/_, _%_}
+use native.Mathlib.Omega.{arith}
+use lib.ListN.{length, getD}
+use borrow.Author.Needs.{needs}
+use Rattle.expr.proofs.Children.{root-kind}
+use Rattle.expr.proofs.Laws.{wf-two}
+use Rattle.expr.proofs.Parts.{root-place}
+use Rattle.expr.specs.Tree.{treeOf}
+use Rattle.value.proofs.Laws.{at-variable, at-constant, at-true, at-false, at-effect, last-leaf}
+use Rattle.value.specs.Evaluation.{evaluated}
+use Rattle.value.specs.Root.{rootTag}
+use Rattle.value.specs.declared.Value.the-variants.{Of}
+use Rattle.value.proofs.leaf.Statement.{statement}
+use Rattle.value.proofs.leaf.Tie as tie
+
+sub-n : tie.Need-sub-n
+sub-n c = omega (arith, wf-two (c .before .before .before .args .rs .now) (c .before .before .before .pre .0))
+
+mul-tag : tie.Need-mul-tag
+mul-tag c = search needs
+
+shared-slice-read-tag : tie.Need-shared-slice-read-tag
+shared-slice-read-tag c = omega (arith, wf-two (c .before .before .before .before .args .rs .now) (c .before .before .before .before .pre .0))
+
+static-type-requires : tie.Need-static-type-requires
+static-type-requires c κs = search needs
+
+lent-requires : tie.Need-lent-requires
+lent-requires c κs = search needs
+
+cut-requires : tie.Need-cut-requires
+cut-requires c κs = search needs
+
+add-cut : tie.Need-add-cut
+add-cut c = search needs
+
+mul-cut : tie.Need-mul-cut
+mul-cut c = search needs
+
+shared-slice-read-cut : tie.Need-shared-slice-read-cut
+shared-slice-read-cut c =
+    let s = c .before .before .before .before .before .before .before in
+    omega (arith, wf-two (s .args .rs .now) (s .pre .0))
+
+cut-requires-2 : tie.Need-cut-requires-2
+cut-requires-2 c κs = search needs
+
+returns : tie.Need-returns
+returns c =
+    let s = c .before .before .before .before .before .before .before .before in
+    at-variable (s .args .types .now) (s .args .values .now) (treeOf (s .args .rs .now)) (rootTag (s .args .rs .now) / 16) (c .before .before .before .static-type .result) (c .before .lent .result) (c .cut .result) (root-kind (s .args .rs .now) (length (s .args .rs .now) - 2) (s .pre .0) (root-place (s .args .rs .now) (s .pre .0)) 0 (c .before .before .match .keys1)) (c .before .before .before .static-type .ensures) (c .before .lent .ensures) (c .cut .ensures)
+
+returns-2 : tie.Need-returns-2
+returns-2 c =
+    let s = c .before .before .before .before .before .before .before .before in
+    at-constant (s .args .types .now) (s .args .values .now) (treeOf (s .args .rs .now)) (rootTag (s .args .rs .now) / 16) (getD (s .args .rs .now) (length (s .args .rs .now) - 2 + 1) 0) (c .before .before .before .static-type .result) (c .cut2 .result) (root-kind (s .args .rs .now) (length (s .args .rs .now) - 2) (s .pre .0) (root-place (s .args .rs .now) (s .pre .0)) 1 (c .before .before .match .keys2)) (c .before .before .before .static-type .ensures) (c .cut2 .ensures)
+
+returns-3 : tie.Need-returns-3
+returns-3 c =
+    let s = c .before .before .before .before .before .before in
+    at-true (s .args .types .now) (s .args .values .now) (treeOf (s .args .rs .now)) (root-kind (s .args .rs .now) (length (s .args .rs .now) - 2) (s .pre .0) (root-place (s .args .rs .now) (s .pre .0)) 2 (c .match .keys3))
+
+returns-4 : tie.Need-returns-4
+returns-4 c =
+    let s = c .before .before .before .before .before .before in
+    let r = c .match .rest in
+    last-leaf (λ (k : ℕ). rootTag (s .args .rs .now) % 16 ≡ k → Of 0 ≡ evaluated (s .args .types .now) (s .args .values .now) (treeOf (s .args .rs .now))) (rootTag (s .args .rs .now) % 16) (s .pre .1 .1) (r .0 .0 .1) (r .0 .1) (r .1) (λ h. at-false (s .args .types .now) (s .args .values .now) (treeOf (s .args .rs .now)) (root-kind (s .args .rs .now) (length (s .args .rs .now) - 2) (s .pre .0) (root-place (s .args .rs .now) (s .pre .0)) 3 h)) (λ h. at-effect (s .args .types .now) (s .args .values .now) (treeOf (s .args .rs .now)) (rootTag (s .args .rs .now) / 16) (root-kind (s .args .rs .now) (length (s .args .rs .now) - 2) (s .pre .0) (root-place (s .args .rs .now) (s .pre .0)) 4 h)) refl
+
+pub leaf-spec : {M : Type 1} → statement M
+leaf-spec =
+    tie.close
+    (tie.spec
+    sub-n
+    mul-tag
+    shared-slice-read-tag
+    static-type-requires
+    lent-requires
+    cut-requires
+    add-cut
+    mul-cut
+    shared-slice-read-cut
+    cut-requires-2
+    returns
+    returns-2
+    returns-3
+    returns-4)

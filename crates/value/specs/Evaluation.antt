@@ -1,0 +1,57 @@
+-- 'Values': what an expression means. Evaluation is a total function of all that is free, into an optional value of the expression's static type.
+use mathlib.Core.List.{List, [], _∷_}
+use Prim.Native.Nat.{ℕ}
+use lib.ListN.{getD}
+use Rattle.expr.specs.Tree.{Expr}
+use Rattle.expr.specs.Tree.Expr.{variable, constant, conditionTrue, conditionFalse, effect, load, cast, binary, ternary}
+use Rattle.expr.specs.Types.{typeOf, constantType, together}
+use Rattle.arith.specs.Numbers.{convert}
+use Rattle.value.specs.declared.Value.{Value}
+use Rattle.value.specs.declared.Value.the-variants.{Of, NoValue}
+use Rattle.value.specs.declared.Truth.{Truth}
+use Rattle.value.specs.Operators.{chosen, taken, truthOf, operate, choose}
+
+-- Values of the variables, by number.
+abbrev pub Values : Type 0
+Values = ℕ → ℕ
+
+-- 'Values', loads: memory yields a number for each type and address, so two loads of one type and address agree.
+abbrev pub Memory : Type 0
+Memory = ℕ → ℕ → ℕ
+
+-- 'Values', effects: each occurrence has its own value: a number for each path in the tree, by the children's places.
+abbrev pub Effects : Type 0
+Effects = List ℕ → ℕ
+
+-- the effects of the tree's child at place k
+abbrev pub under : ℕ → Effects → Effects
+under k f path = f (k ∷ path)
+
+-- 'Values', a load of type t: what memory has at the address, a value of type s taken as a pointer
+abbrev pub loaded : ℕ → ℕ → Memory → Value → Value
+loaded t s m (Of x) = chosen t (m t (convert s 8 x))
+loaded t s m NoValue = NoValue
+
+-- 'Values': the value of an expression over variables of these types. ρ gives the variables' values outside loads, σ from a load inwards, m is
+-- memory, f the effects' values.
+unfoldable pub ev : List ℕ → Values → Values → Memory → Effects → Expr → Value
+ev types ρ σ m f (variable n) = chosen (getD types n 0) (ρ n)
+ev types ρ σ m f (constant w x) = chosen (constantType w) x
+ev types ρ σ m f conditionTrue = Of 1
+ev types ρ σ m f conditionFalse = Of 0
+ev types ρ σ m f (effect t) = chosen t (f [])
+ev types ρ σ m f (load t a) = loaded t (typeOf types a) m (ev types σ σ m (under 0 f) a)
+ev types ρ σ m f (cast t a) = taken (typeOf types a) t (ev types ρ σ m (under 0 f) a)
+ev types ρ σ m f (binary o a b) =
+    operate o (typeOf types a) (typeOf types b) (ev types ρ σ m (under 0 f) a) (ev types ρ σ m (under 1 f) b)
+ev types ρ σ m f (ternary c a b) =
+    let t = together (typeOf types a) (typeOf types b) in
+    choose (truthOf (ev types ρ σ m (under 0 f) c)) (taken (typeOf types a) t (ev types ρ σ m (under 1 f) a)) (taken (typeOf types b) t (ev types ρ σ m (under 2 f) b))
+
+-- The value of an expression on lent values, extra ones unread; what a load or an effect yields is then 0.
+unfoldable pub evaluated : List ℕ → List ℕ → Expr → Value
+evaluated types values e = ev types (λ n. getD values n 0) (λ n. getD values n 0) (λ t a. 0) (λ path. 0) e
+
+-- a condition on lent values
+abbrev pub settled : List ℕ → List ℕ → Expr → Truth
+settled types values e = truthOf (evaluated types values e)

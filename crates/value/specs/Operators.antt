@@ -1,0 +1,133 @@
+-- 'Values': the operators on optional values. A value is the bit pattern of its type; a division by zero leaves none. What is lazy and what has
+-- no value is said here, and nowhere else.
+use mathlib.Core.Bool.{Bool, cond, not}
+use mathlib.Core.List.{List, [], _∷_, _++_, map}
+use Prim.Native.Nat.{ℕ, _%_, _^_, _<_}
+use lib.Bits.{bitAnd, bitOr, bitXor}
+use lib.Dec.{eqb, leb}
+use lib.ListN.{getD}
+use Rattle.expr.specs.Types.{promoted, together}
+use Rattle.arith.specs.Numbers.{bits, convert, sum, difference, product, quotient, remainder, shiftLeft, shiftRight, count, below, atMost}
+use Rattle.value.specs.declared.Value.{Value}
+use Rattle.value.specs.declared.Value.the-variants.{Of, NoValue}
+use Rattle.value.specs.declared.Truth.{Truth}
+use Rattle.value.specs.declared.Truth.the-variants.{Holds, Fails, NoOutcome}
+
+-- a value, where there is one, is a pattern of the type
+abbrev pub Typed : ℕ → Value → Type 0
+Typed t (Of x) = x < 2 ^ bits t
+Typed t NoValue = Unit {0}
+
+-- A number that is chosen freely stands for a value of type t: the pattern of its low bits.
+abbrev pub chosen : ℕ → ℕ → Value
+chosen t x = Of (x % 2 ^ bits t)
+
+-- 'Values': a condition may stand as an integer: 1 where it holds, 0 where it fails.
+abbrev pub integerOf : Truth → Value
+integerOf Holds = Of 1
+integerOf Fails = Of 0
+integerOf NoOutcome = NoValue
+
+-- 'Values': an integer as a condition: nonzero holds.
+abbrev pub truthOf : Value → Truth
+truthOf (Of x) = cond (eqb x 0) Fails Holds
+truthOf NoValue = NoOutcome
+
+-- 'Values', comparisons are signed 32: 1 or 0
+abbrev pub flag : Bool → Value
+flag b = cond b (Of 1) (Of 0)
+
+-- 'Values': a value of type s taken at type t, by a cast, a promotion or as an arm of a ternary.
+abbrev pub taken : ℕ → ℕ → Value → Value
+taken s t (Of x) = Of (convert s t x)
+taken s t NoValue = NoValue
+
+-- 'Values', division: by zero there is no value.
+abbrev pub divides : ℕ → ℕ → Value
+divides y r = cond (eqb y 0) NoValue (Of r)
+
+-- what an operator yields at a type, from two patterns
+abbrev pub Operation : Type 0
+Operation = ℕ → ℕ → ℕ → Value
+
+-- no operator has this number
+abbrev pub noOperation : Operation
+noOperation t x y = NoValue
+
+-- operators 0 to 7, + - × / % & | ^, on two patterns of type t
+unfoldable pub arithmetics : List Operation
+arithmetics =
+    (λ t x y. Of (sum t x y))
+    ∷ (λ t x y. Of (difference t x y))
+    ∷ (λ t x y. Of (product t x y))
+    ∷ (λ t x y. divides y (quotient t x y))
+    ∷ (λ t x y. divides y (remainder t x y))
+    ∷ (λ t x y. Of (bitAnd x y))
+    ∷ (λ t x y. Of (bitOr x y))
+    ∷ (λ t x y. Of (bitXor x y))
+    ∷ []
+
+-- operators 8 and 9, << and >>, on a pattern of type t and a count
+unfoldable pub shifts : List Operation
+shifts = (λ t x k. Of (shiftLeft t x k)) ∷ (λ t x k. Of (shiftRight t x k)) ∷ []
+
+-- operators 10 to 15, == != < <= > >=, on two patterns of type t
+unfoldable pub comparisons : List Operation
+comparisons =
+    (λ t x y. flag (eqb x y))
+    ∷ (λ t x y. flag (not (eqb x y)))
+    ∷ (λ t x y. flag (below t x y))
+    ∷ (λ t x y. flag (atMost t x y))
+    ∷ (λ t x y. flag (below t y x))
+    ∷ (λ t x y. flag (atMost t y x))
+    ∷ []
+
+-- what an operator yields from a of type ta and b of type tb
+abbrev pub Operator : Type 0
+Operator = ℕ → ℕ → ℕ → ℕ → Value
+
+-- 'Values': both operands are promoted and taken at their common type.
+abbrev pub onCommon : Operation → Operator
+onCommon op ta tb a b = op (together ta tb) (convert ta (together ta tb) a) (convert tb (together ta tb) b)
+
+-- 'Values': a shift takes the promoted left type, and its count modulo that type's width.
+abbrev pub onLeft : Operation → Operator
+onLeft op ta tb a b = op (promoted ta) (convert ta (promoted ta) a) (count (promoted ta) tb b)
+
+-- 'Values': operators 0 to 15, in `BinaryOp` order
+unfoldable pub operators : List Operator
+operators = map onCommon arithmetics ++ (map onLeft shifts ++ map onCommon comparisons)
+
+abbrev pub noOperator : Operator
+noOperator ta tb a b = NoValue
+
+-- an operator that needs both sides
+abbrev pub strict : ℕ → ℕ → ℕ → Value → Value → Value
+strict o ta tb (Of a) (Of b) = getD operators o noOperator ta tb a b
+strict o ta tb (Of a) NoValue = NoValue
+strict o ta tb NoValue v = NoValue
+
+-- 'Values': && and || evaluate only the side they need: where the left side settles it, the right side plays no part.
+abbrev pub bothHold : Truth → Truth → Truth
+bothHold Holds v = v
+bothHold Fails v = Fails
+bothHold NoOutcome v = NoOutcome
+
+abbrev pub eitherHolds : Truth → Truth → Truth
+eitherHolds Holds v = Holds
+eitherHolds Fails v = v
+eitherHolds NoOutcome v = NoOutcome
+
+-- operators 16 and 17
+abbrev pub connect : ℕ → Truth → Truth → Truth
+connect o u v = cond (eqb o 16) (bothHold u v) (eitherHolds u v)
+
+-- every operator: from 16 up the sides are conditions, below that integers
+unfoldable pub operate : ℕ → ℕ → ℕ → Value → Value → Value
+operate o ta tb u v = cond (leb 16 o) (integerOf (connect o (truthOf u) (truthOf v))) (strict o ta tb u v)
+
+-- 'Values': the ternary evaluates only the arm it needs.
+abbrev pub choose : Truth → Value → Value → Value
+choose Holds u v = u
+choose Fails u v = v
+choose NoOutcome u v = NoValue
