@@ -3,10 +3,15 @@
 
 pub mod assemble;
 pub mod bench;
+pub mod c_judge;
 pub mod compare;
 pub mod damage;
 pub mod dump;
 pub mod encode;
+pub mod evaluate;
+pub mod evaluation_nodes;
+pub mod evaluation_vectors;
+pub mod evaluations;
 pub mod format;
 pub mod generate;
 pub mod held;

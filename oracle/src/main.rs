@@ -1,6 +1,9 @@
 //! The commands. README.md has an example of each.
 
-use oracle::{bench, compare, dump, processor, reader, replay, vectors, verdicts, words, write};
+use oracle::{
+    bench, compare, dump, evaluate, evaluation_vectors, evaluations, processor, reader, replay,
+    vectors, verdicts, words, write,
+};
 use std::io::{self, BufReader, BufWriter, Read, Write};
 use std::process::ExitCode;
 
@@ -19,6 +22,11 @@ const USAGE: &str = "usage:
   oracle verdicts --program PATH --given PATH [--sheets N] [--seed S] [--blocks-only]
   oracle verdicts --stub --given PATH [--sheets N] [--seed S] [--blocks-only]
   oracle processor --program PATH [--runs N] [--seed S]
+  oracle evaluations --program PATH [--cases N] [--seed S]
+  oracle evaluations --stub [--cases N] [--seed S]
+  oracle evaluate-answer           answers cases of evaluation from standard input
+  oracle evaluation-vectors TEXT OUT
+                                   stored cases of evaluation to one binary file
 A file name of - is standard input or output.";
 
 type Outcome = Result<bool, String>;
@@ -49,6 +57,9 @@ fn command(args: &[String]) -> Outcome {
         ["processor", options @ ..] => judge_by_processor(&Options::parse(options)?),
         ["replay-blocks", out, options @ ..] => make_replay(out, &Options::parse(options)?),
         ["verdicts", options @ ..] => compare_verdicts(&Options::parse(options)?),
+        ["evaluations", options @ ..] => compare_evaluations(&Options::parse(options)?),
+        ["evaluate-answer"] => answer_evaluations(),
+        ["evaluation-vectors", text, out] => make_evaluation_vectors(text, out),
         _ => Err(USAGE.to_string()),
     }
 }
@@ -61,6 +72,7 @@ struct Options {
     blocks_only: bool,
     sheets: Option<u64>,
     runs: Option<u64>,
+    cases: Option<u64>,
     seed: Option<u64>,
     save: Option<String>,
 }
@@ -87,6 +99,7 @@ impl Options {
                 "--save" => options.save = Some(value.to_string()),
                 "--sheets" => options.sheets = Some(number()?),
                 "--runs" => options.runs = Some(number()?),
+                "--cases" => options.cases = Some(number()?),
                 "--seed" => options.seed = Some(number()?),
                 _ => return Err(format!("unknown option {word}\n{USAGE}")),
             }
@@ -94,13 +107,13 @@ impl Options {
         Ok(options)
     }
 
-    /// The program to run; `--stub` stands for this program's `answer`.
-    fn command(&self) -> Result<Option<Vec<String>>, String> {
+    /// The program to run; `--stub` stands for this program's command `own`.
+    fn command(&self, own: &str) -> Result<Option<Vec<String>>, String> {
         if !self.stub {
             return Ok(self.program.as_ref().map(|path| vec![path.clone()]));
         }
-        let own = std::env::current_exe().map_err(|error| error.to_string())?;
-        Ok(Some(vec![own.to_string_lossy().to_string(), "answer".to_string()]))
+        let path = std::env::current_exe().map_err(|error| error.to_string())?;
+        Ok(Some(vec![path.to_string_lossy().to_string(), own.to_string()]))
     }
 }
 
@@ -164,7 +177,7 @@ fn answer() -> Outcome {
 }
 
 fn compare_program(options: &Options) -> Outcome {
-    let Some(program) = options.command()? else {
+    let Some(program) = options.command("answer")? else {
         return Err(format!("compare needs --program or --stub\n{USAGE}"));
     };
     let (sheets, seed) = (options.sheets.unwrap_or(100_000), options.seed.unwrap_or(1));
@@ -201,9 +214,33 @@ fn judge_by_processor(options: &Options) -> Outcome {
     judged.map_err(|error| format!("{program}: {error}"))
 }
 
+fn compare_evaluations(options: &Options) -> Outcome {
+    let Some(program) = options.command("evaluate-answer")? else {
+        return Err(format!("evaluations needs --program or --stub\n{USAGE}"));
+    };
+    let (cases, seed) = (options.cases.unwrap_or(200_000), options.seed.unwrap_or(1));
+    let compared = evaluations::compare(&program, cases, seed);
+    compared.map_err(|error| format!("{}: {error}", program[0]))
+}
+
+fn answer_evaluations() -> Outcome {
+    let mut input = BufReader::new(io::stdin());
+    let mut output = BufWriter::new(io::stdout());
+    evaluate::answer(&mut input, &mut output).map_err(|error| error.to_string())?;
+    Ok(true)
+}
+
 fn make_vectors(text: &str, out: &str) -> Outcome {
     let cases = vectors::cases(&input_text(text)?)?;
     let bytes = vectors::encode(&cases);
+    output(out, &bytes)?;
+    println!("{} cases, {} bytes", cases.len(), bytes.len());
+    Ok(true)
+}
+
+fn make_evaluation_vectors(text: &str, out: &str) -> Outcome {
+    let cases = evaluation_vectors::cases(&input_text(text)?)?;
+    let bytes = evaluation_vectors::encode(&cases);
     output(out, &bytes)?;
     println!("{} cases, {} bytes", cases.len(), bytes.len());
     Ok(true)
@@ -220,7 +257,7 @@ fn make_replay(out: &str, options: &Options) -> Outcome {
 }
 
 fn bench_reader(options: &Options) -> Outcome {
-    let program = options.command()?;
+    let program = options.command("answer")?;
     let outcome = bench::bench(program.as_deref(), options.save.as_deref());
     outcome.map_err(|error| error.to_string())?;
     Ok(true)

@@ -3,10 +3,10 @@
 
 use crate::format::Record;
 
-const S32: u8 = 2;
+pub const S32: u8 = 2;
 const U64: u8 = 7;
 const POINTER: u8 = 8;
-const BOOL: u8 = 9;
+pub const BOOL: u8 = 9;
 
 /// The pointer type counts as unsigned 64.
 pub fn plain(code: u8) -> u8 {
@@ -18,16 +18,16 @@ pub fn plain(code: u8) -> u8 {
 }
 
 /// Width in bits of types 0 to 8; types 0 to 3 are signed, 4 to 7 unsigned.
-fn bits(code: u8) -> u32 {
+pub fn bits(code: u8) -> u32 {
     8 << (plain(code) % 4)
 }
 
-fn unsigned(code: u8) -> bool {
+pub fn unsigned(code: u8) -> bool {
     (4..=8).contains(&code)
 }
 
 /// Below 32 bits, and bool, an operand becomes signed 32.
-fn promoted(code: u8) -> u8 {
+pub fn promoted(code: u8) -> u8 {
     if code == BOOL || bits(code) < 32 {
         S32
     } else {
@@ -36,7 +36,7 @@ fn promoted(code: u8) -> u8 {
 }
 
 /// The common type of two operands: the wider one, unsigned at a tie.
-fn common(a: u8, b: u8) -> u8 {
+pub fn common(a: u8, b: u8) -> u8 {
     let (a, b) = (promoted(a), promoted(b));
     if bits(a) > bits(b) || (bits(a) == bits(b) && unsigned(a)) {
         a

@@ -30,16 +30,28 @@ pub struct Source<'a> {
 }
 
 impl Source<'_> {
-    /// The words of the one line `expect ...`, and the lines with an empty one
-    /// in its place, so that line numbers stay.
+    /// The lines that start with the word `first`, each with its number and
+    /// without a comment, and all lines with empty ones in their places, so
+    /// that line numbers stay.
+    pub fn split(&self, first: &str) -> (Vec<(usize, &str)>, Vec<&str>) {
+        let (mut chosen, mut rest) = (Vec::new(), Vec::new());
+        for (number, line) in (self.first_line..).zip(&self.lines) {
+            let content = line.split('#').next().unwrap_or("").trim();
+            let found = content.split_whitespace().next() == Some(first);
+            if found {
+                chosen.push((number, content));
+            }
+            rest.push(if found { "" } else { *line });
+        }
+        (chosen, rest)
+    }
+
+    /// The words of the one line `expect ...`, and the other lines.
     pub fn parts(&self) -> Result<(Vec<&str>, Vec<&str>), String> {
-        let is_expectation = |line: &&str| line.trim_start().starts_with("expect ");
-        let mut expectations = self.lines.iter().filter(|line| is_expectation(line));
-        let (Some(expectation), None) = (expectations.next(), expectations.next()) else {
+        let (expectations, body) = self.split("expect");
+        let [(_, expectation)] = expectations.as_slice() else {
             return Err("one line 'expect ...' is needed".to_string());
         };
-        let body =
-            self.lines.iter().map(|line| if is_expectation(line) { "" } else { *line }).collect();
         Ok((expectation.split_whitespace().skip(1).collect(), body))
     }
 }

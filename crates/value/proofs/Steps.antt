@@ -20,8 +20,9 @@ use Rattle.value.specs.declared.Truth.{Truth}
 use Rattle.value.specs.declared.Truth.the-variants.{NoOutcome}
 use Rattle.value.specs.Operators.{truthOf, taken, operate, choose}
 use Rattle.value.specs.Evaluation.{Values, Memory, Effects, under, ev, evaluated, settled}
-use Rattle.value.specs.Run.{Statement, Choices, set, given, runFrom}
-use Rattle.value.specs.Run.Statement.{assignment, other}
+use Rattle.expr.specs.Statement.{Statement}
+use Rattle.value.specs.Run.{Choices, set, given, runFrom}
+use Rattle.expr.specs.Statement.Statement.{assignment, other}
 
 or-left : (a b : Bool) → (a || b) ≡ false → a ≡ false
 or-left true b h = h

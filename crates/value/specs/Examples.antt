@@ -12,8 +12,9 @@ use Rattle.value.specs.declared.Truth.{Truth}
 use Rattle.value.specs.declared.Truth.the-variants.{Holds, Fails, NoOutcome}
 use Rattle.value.specs.Operators.{arithmetics, shifts, comparisons, operators, operate}
 use Rattle.value.specs.Evaluation.{ev, evaluated}
-use Rattle.value.specs.Run.{Statement, Choices, runFrom, run}
-use Rattle.value.specs.Run.Statement.{assignment, other}
+use Rattle.expr.specs.Statement.{Statement}
+use Rattle.value.specs.Run.{Choices, runFrom, run}
+use Rattle.expr.specs.Statement.Statement.{assignment, other}
 
 -- variable 0 is signed 32, 1 unsigned 32, 2 signed 64, 3 unsigned 8, 4 signed 8, 5 bool
 types : List ℕ

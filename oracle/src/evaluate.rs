@@ -1,0 +1,245 @@
+//! The evaluation of a node on lent values, written from the value rules.
+//!
+//! A value is a whole number in the range of its type. Operators work on whole
+//! numbers, and their results are wrapped to their types.
+
+use crate::encode::encode;
+use crate::format::*;
+use crate::reader::{read, Refusal};
+use crate::types::{self, BOOL};
+use std::io::{self, Read, Write};
+
+/// A run that has no outcome.
+#[derive(Clone, Copy, Debug, PartialEq, Eq)]
+pub struct DivisionByZero;
+
+pub type Value = Result<i128, DivisionByZero>;
+
+/// An expression as a tree; each part has its static type.
+struct Tree {
+    record: Record,
+    code: u8,
+    children: Vec<Tree>,
+}
+
+impl Tree {
+    /// The tree of an accepted expression.
+    fn of(records: &[Record], variables: &[u8]) -> Tree {
+        let mut stack: Vec<Tree> = Vec::new();
+        for record in records {
+            let children = stack.split_off(stack.len() - record.children());
+            let codes: Vec<u8> = children.iter().map(|child| child.code).collect();
+            let code = types::of_record(*record, &codes, variables);
+            let code = code.expect("an accepted expression has a type");
+            stack.push(Tree { record: *record, code, children });
+        }
+        stack.pop().expect("an accepted expression is one tree")
+    }
+
+    fn child_holds(&self, child: usize, variables: &[i128]) -> Result<bool, DivisionByZero> {
+        Ok(self.children[child].value(variables)? != 0)
+    }
+
+    fn value(&self, variables: &[i128]) -> Value {
+        let value = match self.record {
+            Record::Variable(number) => variables[number as usize],
+            Record::Constant { value, .. } => i128::from(value),
+            Record::True => 1,
+            Record::False => 0,
+            Record::Cast(_) => self.children[0].value(variables)?,
+            Record::Binary(16) => {
+                let both = self.child_holds(0, variables)? && self.child_holds(1, variables)?;
+                i128::from(both)
+            }
+            Record::Binary(17) => {
+                let either = self.child_holds(0, variables)? || self.child_holds(1, variables)?;
+                i128::from(either)
+            }
+            Record::Binary(operator) => self.binary(operator, variables)?,
+            Record::Ternary if self.child_holds(0, variables)? => {
+                self.children[1].value(variables)?
+            }
+            Record::Ternary => self.children[2].value(variables)?,
+            Record::Effect(_) | Record::Load(_) | Record::Unknown(_) => {
+                unreachable!("refused before the run")
+            }
+        };
+        Ok(wrapped(value, self.code))
+    }
+
+    /// Operators that need both sides; the caller wraps the result.
+    fn binary(&self, operator: u8, variables: &[i128]) -> Value {
+        let [a, b] = [&self.children[0], &self.children[1]];
+        let (x, y) = (a.value(variables)?, b.value(variables)?);
+        if operator == 8 || operator == 9 {
+            // The count's value modulo the width is never negative.
+            let left = types::promoted(a.code);
+            let count = y.rem_euclid(i128::from(types::bits(left)));
+            let x = wrapped(x, left);
+            return Ok(if operator == 8 { x << count } else { x >> count });
+        }
+        let code = types::common(a.code, b.code);
+        let (x, y) = (wrapped(x, code), wrapped(y, code));
+        Ok(match operator {
+            0 => x + y,
+            1 => x - y,
+            // Two unsigned values of 64 bits can pass 127 bits; the low 64 stay right.
+            2 => x.wrapping_mul(y),
+            3 | 4 if y == 0 => return Err(DivisionByZero),
+            3 => x / y,
+            4 => x % y,
+            5 => x & y,
+            6 => x | y,
+            7 => x ^ y,
+            10 => i128::from(x == y),
+            11 => i128::from(x != y),
+            12 => i128::from(x < y),
+            13 => i128::from(x <= y),
+            14 => i128::from(x > y),
+            15 => i128::from(x >= y),
+            _ => unreachable!("an accepted operator"),
+        })
+    }
+}
+
+/// The number of the type's range that is the same modulo its size; for bool
+/// whether the number is not 0.
+pub fn wrapped(value: i128, code: u8) -> i128 {
+    if code == BOOL {
+        return i128::from(value != 0);
+    }
+    let size = 1 << types::bits(code);
+    let low = value.rem_euclid(size);
+    if !types::unsigned(code) && low >= size / 2 {
+        low - size
+    } else {
+        low
+    }
+}
+
+/// How many bits a lent value of this type may have.
+pub fn lent_bits(code: u8) -> u32 {
+    if code == BOOL {
+        1
+    } else {
+        types::bits(code)
+    }
+}
+
+/// Whether a lent value has no bits above its type.
+fn fits(value: u64, code: u8) -> bool {
+    value <= u64::MAX >> (64 - lent_bits(code))
+}
+
+/// The bits in which a value of this type is lent.
+pub fn lent(value: i128, code: u8) -> u64 {
+    wrapped(value, code) as u64 & u64::MAX >> (64 - lent_bits(code))
+}
+
+/// The condition's value as an integer. The node has no effect, load or
+/// 0-statement, and the values fit.
+pub fn run(node: &Node, values: &[u64]) -> Value {
+    let types = &node.variables;
+    let number = |(value, code): (&u64, &u8)| wrapped(i128::from(*value), *code);
+    let mut variables: Vec<i128> = values.iter().zip(types).map(number).collect();
+    for statement in &node.statements {
+        if let Statement::Assign { variable, value } = statement {
+            variables[*variable as usize] = Tree::of(value, types).value(&variables)?;
+        }
+    }
+    Tree::of(&node.condition, types).value(&variables)
+}
+
+/// Whether the node has a part that no run on values alone can have.
+fn needs_more(node: &Node) -> bool {
+    let outside = |records: &Expression| {
+        records.iter().any(|record| matches!(record, Record::Effect(_) | Record::Load(_)))
+    };
+    let statement = |statement: &Statement| match statement {
+        Statement::Assign { value, .. } => outside(value),
+        Statement::Other => true,
+    };
+    node.statements.iter().any(statement) || outside(&node.condition)
+}
+
+/// The lowest variable without a value that fits.
+fn lacking(node: &Node, values: &[u64]) -> Option<usize> {
+    let fitting = |number: usize| {
+        values.get(number).is_some_and(|value| fits(*value, node.variables[number]))
+    };
+    (0..node.variables.len()).find(|number| !fitting(*number))
+}
+
+/// The first byte of a node: where a sheet without it and those behind it ends.
+pub fn place_of_node(sheet: &Sheet, number: usize) -> usize {
+    let before = Sheet { nodes: sheet.nodes[..number].to_vec(), ..sheet.clone() };
+    encode(&before).bytes.len()
+}
+
+pub type Answer = Result<bool, Refusal>;
+
+/// The evaluation of a sheet's node: reading's refusals, then 13, 15, 16, 14.
+pub fn evaluation(sheet: &[u8], number: u32, values: &[u64]) -> Answer {
+    let sheet = read(sheet)?.sheet;
+    let refused = |number: u8, place: usize| Err(Refusal { number, place });
+    let Some(node) = sheet.nodes.get(number as usize) else {
+        return refused(13, 0);
+    };
+    let place = || place_of_node(&sheet, number as usize);
+    if needs_more(node) {
+        return refused(15, place());
+    }
+    if let Some(variable) = lacking(node, values) {
+        return refused(16, variable);
+    }
+    match run(node, values) {
+        Ok(value) => Ok(value != 0),
+        Err(DivisionByZero) => refused(14, place()),
+    }
+}
+
+/// The answer as the line that the test program writes.
+pub fn line(answer: &Answer) -> String {
+    match answer {
+        Ok(true) => "holds".to_string(),
+        Ok(false) => "fails".to_string(),
+        Err(refusal) => refusal.to_string(),
+    }
+}
+
+/// Appends a case as the test program reads it.
+pub fn frame_case(out: &mut Vec<u8>, sheet: &[u8], number: u32, values: &[u64]) {
+    out.extend_from_slice(&(sheet.len() as u32).to_le_bytes());
+    out.extend_from_slice(sheet);
+    out.extend_from_slice(&number.to_le_bytes());
+    out.extend_from_slice(&(values.len() as u32).to_le_bytes());
+    values.iter().for_each(|value| out.extend_from_slice(&value.to_le_bytes()));
+}
+
+fn four(input: &mut impl Read) -> io::Result<u32> {
+    let mut bytes = [0; 4];
+    input.read_exact(&mut bytes)?;
+    Ok(u32::from_le_bytes(bytes))
+}
+
+fn eight(input: &mut impl Read) -> io::Result<u64> {
+    let mut bytes = [0; 8];
+    input.read_exact(&mut bytes)?;
+    Ok(u64::from_le_bytes(bytes))
+}
+
+/// Answers cases, a line for each, until the input ends.
+pub fn answer(input: &mut impl Read, output: &mut impl Write) -> io::Result<()> {
+    loop {
+        let length = match four(input) {
+            Err(error) if error.kind() == io::ErrorKind::UnexpectedEof => return output.flush(),
+            length => length?,
+        };
+        let mut sheet = vec![0; length as usize];
+        input.read_exact(&mut sheet)?;
+        let number = four(input)?;
+        let count = four(input)?;
+        let values: Vec<u64> = (0..count).map(|_| eight(input)).collect::<io::Result<_>>()?;
+        writeln!(output, "{}", line(&evaluation(&sheet, number, &values)))?;
+    }
+}

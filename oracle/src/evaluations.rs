@@ -1,0 +1,260 @@
+//! The comparison of a test program's evaluation with the C compiler and with
+//! the evaluator here.
+//!
+//! The program reads cases from standard input: length of the sheet (4), the
+//! sheet, number of the node (4), number of values (4), the values (8 each),
+//! all little-endian; it writes one line for each.
+
+use crate::c_judge::{self, Outcome};
+use crate::compare::run;
+use crate::damage;
+use crate::dump;
+use crate::encode::encode;
+use crate::evaluate::{evaluation, frame_case, line, place_of_node};
+use crate::evaluation_nodes::{made, number, Made};
+use crate::format::*;
+use crate::generate::{Generator, SMALL};
+use crate::random::Random;
+use crate::reader::{read, Refusal};
+use std::collections::BTreeMap;
+use std::io;
+
+/// Value sets for each node.
+const SETS: u64 = 32;
+
+/// Nodes that are compiled as one file.
+const BATCH: u64 = 2_000;
+
+/// Differences that are shown in full.
+const SHOWN: u64 = 5;
+
+/// One case in so many of those for C is added for the refusals.
+const REFUSALS: u64 = 5;
+
+/// A node in a sheet, with the value sets that it is run on.
+struct Item {
+    node: Node,
+    sheet: Vec<u8>,
+    number: u32,
+    place: usize,
+    sets: Vec<Vec<u64>>,
+}
+
+/// Item number `index` of the run with this seed, with `sets` value sets.
+fn item(seed: u64, index: u64, sets: u64) -> Item {
+    let made = made(seed, index);
+    let mut random = Random::new(!seed, index);
+    let (sheet, number) = around(&made, &mut random, index);
+    let sets = (0..sets).map(|_| made.values(&mut random)).collect();
+    let place = place_of_node(&sheet, number);
+    Item { sheet: encode(&sheet).bytes, number: number as u32, place, sets, node: made.node }
+}
+
+/// A sheet with the node in it: alone, or among others.
+fn around(made: &Made, random: &mut Random, index: u64) -> (Sheet, usize) {
+    let mut sheet = match random.once_in(4) {
+        true => Generator::new(random.draw(), index, 0).sheet(SMALL),
+        false => Sheet::default(),
+    };
+    let number = random.below(sheet.nodes.len() + 1);
+    sheet.nodes.insert(number, made.node.clone());
+    (sheet, number)
+}
+
+#[derive(Default)]
+struct Tally {
+    /// Answers due, by their first word and a refusal's number.
+    answers: BTreeMap<(String, Option<u8>), u64>,
+    differences: u64,
+}
+
+impl Tally {
+    fn count(&mut self, answer: &str) {
+        let mut words = answer.split(' ');
+        let first = words.next().unwrap_or("").to_string();
+        let number = words.next().and_then(|word| word.parse().ok());
+        *self.answers.entry((first, number)).or_default() += 1;
+    }
+
+    /// Compares one case; `answers` has each judge's name and its answer, the
+    /// first one's being due.
+    fn case(&mut self, answers: &[(&str, &str)], case: impl Fn() -> String) {
+        self.count(answers[0].1);
+        if answers.iter().all(|(_, answer)| *answer == answers[0].1) {
+            return;
+        }
+        self.differences += 1;
+        if self.differences > SHOWN {
+            return;
+        }
+        println!("difference");
+        for (judge, answer) in answers {
+            println!("  {:9} {answer}", format!("{judge}:"));
+        }
+        case().lines().for_each(|line| println!("    {line}"));
+    }
+
+    fn too_many(&mut self, lines: usize, cases: usize) {
+        if lines > cases {
+            println!("the program wrote {} lines too many", lines - cases);
+            self.differences += 1;
+        }
+    }
+
+    fn print(&self) {
+        for ((answer, number), count) in &self.answers {
+            match number {
+                Some(number) => println!("  {answer} {number}: {count}"),
+                None => println!("  {answer}: {count}"),
+            }
+        }
+    }
+}
+
+fn shown_values(values: &[u64]) -> String {
+    let words: Vec<String> = values.iter().map(|value| format!("{value:#x}")).collect();
+    format!("values {}", words.join(" "))
+}
+
+/// C's outcome as the line due.
+fn c_line(outcome: Outcome, place: usize) -> String {
+    match outcome {
+        Outcome::Holds => line(&Ok(true)),
+        Outcome::Fails => line(&Ok(false)),
+        Outcome::DivisionByZero => line(&Err(Refusal { number: 14, place })),
+        Outcome::OtherType => "another type than by the value rules".to_string(),
+    }
+}
+
+/// Compares on `cases` pairs of a node and values; true if there was no
+/// difference, or no compiler to compare with.
+pub fn compare(program: &[String], cases: u64, seed: u64) -> io::Result<bool> {
+    if !c_judge::present() {
+        println!("{}", c_judge::ABSENT);
+        return Ok(true);
+    }
+    let mut tally = Tally::default();
+    let nodes = cases.div_ceil(SETS);
+    let mut first = 0;
+    while first < nodes {
+        let end = nodes.min(first + BATCH);
+        let sets = |index: u64| SETS.min(cases - index * SETS);
+        let items: Vec<Item> = (first..end).map(|index| item(seed, index, sets(index))).collect();
+        batch(program, &items, &mut tally)?;
+        first = end;
+    }
+    println!("nodes {nodes}, judged by C on {cases} value sets");
+    tally.print();
+    let mut refusals = Tally::default();
+    let extra = cases / REFUSALS;
+    compare_refusals(program, extra, seed, &mut refusals)?;
+    println!("judged by the evaluator alone: {extra}");
+    refusals.print();
+    let differences = tally.differences + refusals.differences;
+    println!("compared {cases}, differences {differences}");
+    Ok(differences == 0)
+}
+
+fn batch(program: &[String], items: &[Item], tally: &mut Tally) -> io::Result<()> {
+    let nodes: Vec<&Node> = items.iter().map(|item| &item.node).collect();
+    let mut runs: Vec<(usize, &[u64])> = Vec::new();
+    let mut input = Vec::new();
+    for (number, item) in items.iter().enumerate() {
+        for values in &item.sets {
+            runs.push((number, values));
+            frame_case(&mut input, &item.sheet, item.number, values);
+        }
+    }
+    let outcomes = c_judge::judge(&nodes, &runs)?;
+    let lines = run(program, input)?;
+    tally.too_many(lines.len(), runs.len());
+    for (at, (number, values)) in runs.iter().enumerate() {
+        let item = &items[*number];
+        let due = c_line(outcomes[at], item.place);
+        let own = line(&evaluation(&item.sheet, item.number, values));
+        let found = lines.get(at).map_or("no line", String::as_str);
+        let answers = [("C", due.as_str()), ("evaluator", &own), ("program", found)];
+        tally.case(&answers, || {
+            let alone = Sheet { nodes: vec![item.node.clone()], ..Default::default() };
+            dump::text(&alone) + &shown_values(values)
+        });
+    }
+    Ok(())
+}
+
+/// Cases for the refusals: any sheet, any node's number near those it has, and
+/// values that may be missing or too large.
+fn refusal_case(seed: u64, index: u64) -> (Vec<u8>, u32, Vec<u64>) {
+    let mut random = Random::new(seed, !index);
+    let (sheet, aimed) = match random.below(6) {
+        0 => (damage::sheet(seed, index), None),
+        1 => (encode(&Generator::new(seed, index, 0).sheet(SMALL)).bytes, None),
+        _ => {
+            let made = made(seed, random.draw() | 1);
+            let (mut sheet, number) = around(&made, &mut random, index);
+            spoil(&mut sheet.nodes[number], &mut random);
+            (encode(&sheet).bytes, Some(number as u32))
+        }
+    };
+    let nodes = read(&sheet).map_or(Vec::new(), |accepted| accepted.sheet.nodes);
+    let number = match random.below(20) {
+        0 => random.draw() as u32,
+        1 => nodes.len() as u32,
+        _ => aimed.unwrap_or_else(|| random.below(nodes.len().max(1)) as u32),
+    };
+    let types = nodes.get(number as usize).map_or(Vec::new(), |node| node.variables.clone());
+    (sheet, number, faulty_values(&types, &mut random))
+}
+
+/// At times adds what an evaluation cannot have.
+fn spoil(node: &mut Node, random: &mut Random) {
+    let room = node.condition.len() < 126 && node.statements.len() < 64;
+    match random.below(10) {
+        0 if room => node.condition.extend([Record::Effect(2), Record::Binary(16)]),
+        1 if room => node.condition.push(Record::Load(random.below(10) as u8)),
+        2 if room => node.statements.push(Statement::Other),
+        3 if room => node.statements.insert(0, Statement::Other),
+        _ => {}
+    }
+}
+
+fn faulty_values(types: &[u8], random: &mut Random) -> Vec<u64> {
+    let rate = random.pick(&[2, 10, 40, 1000]);
+    let mut value = |code: &u8| {
+        let bits = crate::evaluate::lent_bits(*code);
+        let wide = random.once_in(rate);
+        match random.below(3) {
+            0 if wide && bits < 64 => 1 << bits,
+            1 if wide => number(random, 64),
+            _ => number(random, bits),
+        }
+    };
+    let mut values: Vec<u64> = types.iter().map(&mut value).collect();
+    match random.below(10) {
+        0 => values.truncate(random.below(values.len() + 1)),
+        1 => values.push(random.draw()),
+        _ => {}
+    }
+    values
+}
+
+fn compare_refusals(
+    program: &[String],
+    cases: u64,
+    seed: u64,
+    tally: &mut Tally,
+) -> io::Result<()> {
+    let list: Vec<_> = (0..cases).map(|index| refusal_case(seed, index)).collect();
+    let mut input = Vec::new();
+    list.iter().for_each(|(sheet, number, values)| frame_case(&mut input, sheet, *number, values));
+    let lines = run(program, input)?;
+    tally.too_many(lines.len(), list.len());
+    for (at, (sheet, number, values)) in list.iter().enumerate() {
+        let own = line(&evaluation(sheet, *number, values));
+        let found = lines.get(at).map_or("no line", String::as_str);
+        tally.case(&[("evaluator", &own), ("program", found)], || {
+            format!("{}node {number}, {}", dump::dump(sheet), shown_values(values))
+        });
+    }
+    Ok(())
+}
