@@ -174,7 +174,7 @@ impl Writer {
         match self.random.below(8) {
             0 => self.plain(statements, part),
             1 => self.one_bit(statements, part),
-            2..=4 if part.len() * 2 + 8 <= MOST_RECORDS => self.whole(statements, part),
+            2..=4 if part.len() * 2 + 9 <= MOST_RECORDS => self.whole(statements, part),
             _ => self.compared(statements, part),
         }
     }
@@ -360,11 +360,17 @@ impl Made {
     pub fn values(&self, random: &mut Random) -> Vec<u64> {
         let types = &self.node.variables;
         let own = types.len() - self.echoes.len();
-        let same = random.once_in(8).then(|| number(random, 64));
+        let kind = random.below(8);
+        let same = number(random, 64);
         let value = |code: &u8| {
             let bits = evaluate::lent_bits(*code);
             let most = u64::MAX >> (64 - bits);
-            same.map_or_else(|| number(random, bits), |same| same & most)
+            match kind {
+                0 => same & most,
+                // The most negative value and -1.
+                1 => random.pick(&[most / 2 + 1, most]),
+                _ => number(random, bits),
+            }
         };
         let mut values: Vec<u64> = types[..own].iter().map(value).collect();
         self.lend_echoes(random, &mut values);

@@ -10,7 +10,7 @@ use crate::compare::run;
 use crate::damage;
 use crate::dump;
 use crate::encode::encode;
-use crate::evaluate::{evaluation, frame_case, line, place_of_node};
+use crate::evaluate::{evaluation, frame_case, lent_bits, line, place_of_node};
 use crate::evaluation_nodes::{made, number, Made};
 use crate::format::*;
 use crate::generate::{Generator, SMALL};
@@ -25,8 +25,8 @@ const SETS: u64 = 32;
 /// Nodes that are compiled as one file.
 const BATCH: u64 = 2_000;
 
-/// Differences that are shown in full.
-const SHOWN: u64 = 5;
+/// Differences that are shown in full, at most one for each node.
+const SHOWN: usize = 5;
 
 /// One case in so many of those for C is added for the refusals.
 const REFUSALS: u64 = 5;
@@ -66,6 +66,8 @@ struct Tally {
     /// Answers due, by their first word and a refusal's number.
     answers: BTreeMap<(String, Option<u8>), u64>,
     differences: u64,
+    /// The texts of the nodes that were shown.
+    shown: Vec<String>,
 }
 
 impl Tally {
@@ -77,21 +79,22 @@ impl Tally {
     }
 
     /// Compares one case; `answers` has each judge's name and its answer, the
-    /// first one's being due.
-    fn case(&mut self, answers: &[(&str, &str)], case: impl Fn() -> String) {
+    /// first one's being due, `text` the node.
+    fn case(&mut self, answers: &[(&str, &str)], text: impl Fn() -> String, values: &str) {
         self.count(answers[0].1);
         if answers.iter().all(|(_, answer)| *answer == answers[0].1) {
             return;
         }
         self.differences += 1;
-        if self.differences > SHOWN {
+        if self.shown.len() == SHOWN || self.shown.contains(&text()) {
             return;
         }
+        self.shown.push(text());
         println!("difference");
         for (judge, answer) in answers {
-            println!("  {:9} {answer}", format!("{judge}:"));
+            println!("  {:10} {answer}", format!("{judge}:"));
         }
-        case().lines().for_each(|line| println!("    {line}"));
+        text().lines().chain([values]).for_each(|line| println!("    {line}"));
     }
 
     fn too_many(&mut self, lines: usize, cases: usize) {
@@ -101,8 +104,9 @@ impl Tally {
         }
     }
 
-    fn print(&self) {
-        for ((answer, number), count) in &self.answers {
+    /// Prints the counts of answers, and starts them again.
+    fn print(&mut self) {
+        for ((answer, number), count) in std::mem::take(&mut self.answers) {
             match number {
                 Some(number) => println!("  {answer} {number}: {count}"),
                 None => println!("  {answer}: {count}"),
@@ -111,9 +115,14 @@ impl Tally {
     }
 }
 
+/// The values in one line; those beyond a node's possible variables are counted.
 fn shown_values(values: &[u64]) -> String {
-    let words: Vec<String> = values.iter().map(|value| format!("{value:#x}")).collect();
-    format!("values {}", words.join(" "))
+    let words: Vec<String> = values.iter().take(32).map(|value| format!("{value:#x}")).collect();
+    let more = match values.len().saturating_sub(32) {
+        0 => String::new(),
+        more => format!(" and {more} more"),
+    };
+    format!("values {}{more}", words.join(" "))
 }
 
 /// C's outcome as the line due.
@@ -145,14 +154,12 @@ pub fn compare(program: &[String], cases: u64, seed: u64) -> io::Result<bool> {
     }
     println!("nodes {nodes}, judged by C on {cases} value sets");
     tally.print();
-    let mut refusals = Tally::default();
     let extra = cases / REFUSALS;
-    compare_refusals(program, extra, seed, &mut refusals)?;
+    compare_refusals(program, extra, seed, &mut tally)?;
     println!("judged by the evaluator alone: {extra}");
-    refusals.print();
-    let differences = tally.differences + refusals.differences;
-    println!("compared {cases}, differences {differences}");
-    Ok(differences == 0)
+    tally.print();
+    println!("compared {cases}, differences {}", tally.differences);
+    Ok(tally.differences == 0)
 }
 
 fn batch(program: &[String], items: &[Item], tally: &mut Tally) -> io::Result<()> {
@@ -174,10 +181,8 @@ fn batch(program: &[String], items: &[Item], tally: &mut Tally) -> io::Result<()
         let own = line(&evaluation(&item.sheet, item.number, values));
         let found = lines.get(at).map_or("no line", String::as_str);
         let answers = [("C", due.as_str()), ("evaluator", &own), ("program", found)];
-        tally.case(&answers, || {
-            let alone = Sheet { nodes: vec![item.node.clone()], ..Default::default() };
-            dump::text(&alone) + &shown_values(values)
-        });
+        let alone = || Sheet { nodes: vec![item.node.clone()], ..Default::default() };
+        tally.case(&answers, || dump::text(&alone()), &shown_values(values));
     }
     Ok(())
 }
@@ -221,7 +226,7 @@ fn spoil(node: &mut Node, random: &mut Random) {
 fn faulty_values(types: &[u8], random: &mut Random) -> Vec<u64> {
     let rate = random.pick(&[2, 10, 40, 1000]);
     let mut value = |code: &u8| {
-        let bits = crate::evaluate::lent_bits(*code);
+        let bits = lent_bits(*code);
         let wide = random.once_in(rate);
         match random.below(3) {
             0 if wide && bits < 64 => 1 << bits,
@@ -252,9 +257,9 @@ fn compare_refusals(
     for (at, (sheet, number, values)) in list.iter().enumerate() {
         let own = line(&evaluation(sheet, *number, values));
         let found = lines.get(at).map_or("no line", String::as_str);
-        tally.case(&[("evaluator", &own), ("program", found)], || {
-            format!("{}node {number}, {}", dump::dump(sheet), shown_values(values))
-        });
+        let answers = [("evaluator", own.as_str()), ("program", found)];
+        let run = format!("node {number}, {}", shown_values(values));
+        tally.case(&answers, || dump::dump(sheet), &run);
     }
     Ok(())
 }

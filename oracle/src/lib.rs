@@ -10,6 +10,8 @@ pub mod dump;
 pub mod encode;
 pub mod evaluate;
 pub mod evaluation_nodes;
+#[cfg(test)]
+mod evaluation_tests;
 pub mod evaluation_vectors;
 pub mod evaluations;
 pub mod format;

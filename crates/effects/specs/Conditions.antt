@@ -24,6 +24,7 @@ tested pair f =
 unfoldable pub flagCondition : ℕ → Flags → Flag
 flagCondition m f = cond (eqb (m % 2) 1) (opposite (tested (m / 2) f)) (tested (m / 2) f)
 
+-- the condition of a count-register jump, on the part of the register that it reads
 abbrev pub isZero : Value → Flag
 isZero (Known x) = flag.Known (eqb x 0)
 isZero Unknown = flag.Unknown

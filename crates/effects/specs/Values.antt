@@ -24,6 +24,7 @@ unfoldable pub inserted : Width → ℕ → ℕ → ℕ → ℕ
 inserted w offset old x =
     old - old / 2 ^ start w offset % 2 ^ bits w * 2 ^ start w offset + x % 2 ^ bits w * 2 ^ start w offset
 
+-- what is computed from a value is known where the value is
 abbrev pub onValue : (ℕ → ℕ) → Value → Value
 onValue f (Known x) = Known (f x)
 onValue f Unknown = Unknown

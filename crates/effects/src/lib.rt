@@ -94,6 +94,7 @@ pub fn carry_rule(m: u64, cf: Flag) -> Flag
     alu::not(cf)
 }
 
+// not.
 pub fn complement_of(v: Value) -> Value
     ensures { λ r. ⌜ r ≡ complement v ⌝ }
 {
@@ -103,6 +104,7 @@ pub fn complement_of(v: Value) -> Value
     }
 }
 
+// The operation behind add to test.
 fn operation(m: u64) -> Operation
     ensures { λ op. ⌜ op ≡ operationOf m ⌝ }
 {
@@ -164,6 +166,7 @@ fn unsettle(m: u64) -> Effect
     Effect { value, flags: none }
 }
 
+// Both operands are known.
 fn perform_on(m: u64, w: Width, a: u64, b: u64) -> Effect
     ensures { λ e. ⌜ e ≡ performed m w a b ⌝ }
 {
@@ -186,6 +189,7 @@ fn on_operands(m: u64, w: Width, a: Value, b: Value) -> Effect
     }
 }
 
+// add, sub, cmp, and, or, xor, test.
 pub fn arith_effect(m: u64, w: Width, same: bool, a: Value, b: Value) -> Effect
     ensures { λ e. ⌜ e ≡ arithEffect m w same a b ⌝ }
 {
@@ -206,6 +210,7 @@ pub fn with_carry(f: Flags, cf: Flag) -> Flags
     Flags { cf, pf, zf, sf, of }
 }
 
+// inc, dec, neg.
 fn unary_outcome(m: u64, w: Width, a: u64) -> Outcome
     ensures { λ o. ⌜ o ≡ unaryOutcome m w a ⌝ }
 {
@@ -232,6 +237,7 @@ pub fn unknown_carry(m: u64, cf: Flag) -> Flag
     if m == 15 { Flag::Unknown } else { cf }
 }
 
+// inc, dec, neg of a known value.
 pub fn unary_effect(m: u64, w: Width, cf: Flag, a: u64) -> Effect
     ensures { λ e. ⌜ e ≡ unaryEffect m w cf a ⌝ }
 {
@@ -248,6 +254,7 @@ fn forget_flag(bit: u64, f: Flag) -> Flag
     if bit == 1 { Flag::Unknown } else { f }
 }
 
+// Forget the flags that are declared as written.
 pub fn forget_flags(declared: u64, f: Flags) -> Flags
     ensures { λ g. ⌜ g ≡ forgetFlags declared f ⌝ }
 {
@@ -265,6 +272,7 @@ pub fn forget_flags(declared: u64, f: Flags) -> Flags
     }
 }
 
+// The condition that a jump and its opposite share.
 fn test(pair: u64, f: Flags) -> Flag
     ensures { λ r. ⌜ r ≡ tested pair f ⌝ }
 {
@@ -304,6 +312,7 @@ pub fn holds(m: u64, f: Flags) -> Flag
     if m % 2 == 1 { alu::not(t) } else { t }
 }
 
+// The condition of a count-register jump.
 pub fn is_zero(v: Value) -> Flag
     ensures { λ r. ⌜ r ≡ isZero v ⌝ }
 {

@@ -53,11 +53,11 @@ module _ (types values : List ℕ) (v : ℕ) (kept : unfitFrom 0 types values �
   unfolding unfitFrom
   unfit-none out = sym (kept ∙ rw (drop-of-length-le types out))
 
-both-left : (a b : Bool) → (a && b) ≡ true → a ≡ true
+pub both-left : (a b : Bool) → (a && b) ≡ true → a ≡ true
 both-left true b e = refl
 both-left false b e = e
 
-both-right : (a b : Bool) → (a && b) ≡ true → b ≡ true
+pub both-right : (a b : Bool) → (a && b) ≡ true → b ≡ true
 both-right true b e = e
 both-right false b e = cc
 

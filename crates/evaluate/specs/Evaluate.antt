@@ -1,16 +1,26 @@
 -- Evaluation: a node run on lent values.
 use Prim.Native.Nat.{ℕ, zero, suc, _^_}
-use mathlib.Core.List.{List, [], _∷_}
+use mathlib.Core.List.{List, [], _∷_, _++_}
 use mathlib.Core.Bool.{Bool, true, false, cond, not, _&&_, _||_}
 use lib.Dec.{ltb, eqb}
-use lib.ListN.{getD, set}
+use lib.ListN.{length, getD, set, take, drop, replicate}
 use Rattle.expr.specs.Tree.{Expr}
 use Rattle.expr.specs.Statement.{Statement}
 use Rattle.expr.specs.Statement.Statement.{assignment, other}
 use Rattle.expr.specs.Scan.{hasEffect, hasLoad}
 use mathlib.Core.Path.{_≡_}
 use Rattle.expr.specs.Tree.{treeOf}
-use Rattle.nodes.specs.Node.{StatementRead}
+use Prim.Native.Nat.{_≤_}
+use Rattle.field.specs.Field.{startOf}
+use Rattle.expressions.specs.Expression.{expressionAt}
+use Rattle.nodes.specs.declared.NodeField.{NodeField}
+use Rattle.nodes.specs.Node.{StatementRead, Node, statementsFrom}
+use Rattle.nodes.proofs.Accepted.{WentOn}
+use Rattle.value.specs.declared.Truth.{Truth}
+use Rattle.value.specs.declared.Truth.the-variants as truth
+use Rattle.value.specs.Run.{Choices, run}
+use Rattle.evaluate.specs.declared.Evaluation.{Evaluation}
+use Rattle.evaluate.specs.declared.Evaluation.the-variants.{Holds, Fails, Refused}
 use Rattle.value.specs.declared.Value.{Value}
 use Rattle.value.specs.declared.Value.the-variants.{Of, NoValue}
 use Rattle.value.specs.Evaluation.{evaluated}
@@ -72,3 +82,46 @@ pub record Valued (f : ValueField) (types values : List ℕ) (r : StatementRead)
   pub value : f .value ≡ evaluated types values (treeOf (r .words))
   pub variable : f .variable ≡ r .variable
   pub next : f .next ≡ r .next
+
+-- Evaluation: the values that a node starts from: those of its declared variables, extra ones unread, in 32 places.
+abbrev pub startValues : ℕ → List ℕ → List ℕ
+startValues n values = take n values ++ drop n (replicate 32 0)
+
+-- a run on lent values: what is free beside them has no part in it, and is taken as 0
+abbrev pub onValues : ℕ → List ℕ → Choices
+onValues n values = record {
+  start = λ v. getD (startValues n values) v 0;
+  memory = λ i t a. 0;
+  effects = λ i path. 0;
+  renewed = λ i v. 0;
+}
+
+-- Turned back, 16: the place is the lowest such variable's number.
+abbrev pub onFit : Fit → Evaluation → Evaluation
+onFit AllFit e = e
+onFit (Unfit v) e = Refused 16 v
+
+-- Turned back, 14: division by zero, at the node.
+abbrev pub onTruth : ℕ → Truth → Evaluation
+onTruth place truth.Holds = Holds
+onTruth place truth.Fails = Fails
+onTruth place truth.NoOutcome = Refused 14 place
+
+-- Evaluation of a node that stands at a place: 15, then 16, then 14, else whether its run's condition holds.
+unfoldable pub evaluationOf : Node → ℕ → List ℕ → Evaluation
+evaluationOf n place values =
+    cond (plainAll (n .statements) && plainExpr (n .condition))
+    (onFit (unfitFrom 0 (n .types) values)
+    (onTruth place (run (n .types) (n .statements) (n .condition) (onValues (length (n .types)) values))))
+    (Refused 15 place)
+
+-- a plain node that was read whole, with values for its variables
+pub record Running (s : List ℕ) (node : NodeField) (types values : List ℕ) : Type 0 where
+  pub typesAre : types ≡ take (node .variables) (drop (startOf (node .types)) s)
+  pub few : length types ≤ 32
+  pub counted : node .variables ≡ length types
+  pub statements : WentOn (statementsFrom types s (node .body) (node .statements) .next)
+  pub condition : WentOn (expressionAt (length types) s (node .condition) .next)
+  pub plain : plainAll (statementsFrom types s (node .body) (node .statements) .list) ≡ true
+  pub plainCondition : plainExpr (treeOf (expressionAt (length types) s (node .condition) .words)) ≡ true
+  pub enough : length types ≤ length values

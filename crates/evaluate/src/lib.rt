@@ -1,5 +1,6 @@
 // A node of an accepted sheet run on lent values: which nodes can be run, which values fit, and the run itself.
 use field::Place;
+use nodes::NodeField;
 use value::Truth;
 use value::Value;
 ghost use mathlib.Core.Path.{_≡_};
@@ -8,12 +9,20 @@ ghost use Prim.Native.Nat.{ℕ, _≤_, _<_};
 ghost use mathlib.Core.List.{_++_};
 ghost use lib.ListN.{length, take, drop};
 ghost use Rattle.field.specs.declared.Place.the-variants.{At};
-ghost use Rattle.nodes.specs.Node.{statementAt, statementOf, statementsFrom};
+ghost use Rattle.nodes.specs.Node.{statementAt, statementOf, statementsFrom, nodeOf};
 ghost use Rattle.nodes.proofs.Accepted.{WentOn};
 ghost use Rattle.expr.specs.Tree.{Wf, treeOf};
-ghost use Rattle.evaluate.specs.Evaluate.{plainExpr, plainStatement, plainAll, fitsType, unfitFrom, assignedAll, Ran, Valued};
+ghost use Rattle.evaluate.specs.Evaluate.{plainExpr, plainStatement, plainAll, fitsType, unfitFrom, assignedAll, Ran, Valued, onValues, onTruth, Running};
 ghost use Rattle.expressions.specs.Expression.{expressionAt};
 ghost use Rattle.value.specs.Evaluation.{evaluated, settled};
+ghost use Rattle.value.specs.Run.{run};
+
+// A node's evaluation: whether its condition holds, or a refusal, its number and its place.
+pub enum Evaluation {
+    Holds,
+    Fails,
+    Refused(u64, usize),
+}
 
 // Whether every value fits, or the number of the first variable whose value does not.
 pub enum Fit {
@@ -190,4 +199,29 @@ pub fn copy_values(values: &[u64], n: usize, room: &mut [u64])
         room[v] = values[v];
         v += 1;
     }
+}
+
+fn outcome(t: Truth, place: usize) -> Evaluation
+    ensures { λ r. ⌜ r ≡ onTruth place t ⌝ }
+{
+    match t {
+        Truth::Holds => Evaluation::Holds,
+        Truth::Fails => Evaluation::Fails,
+        Truth::NoOutcome => Evaluation::Refused(14, place),
+    }
+}
+
+// The run of a plain node on values that fit.
+fn run_node(s: &[u8], node: NodeField, types: &[u8], values: &[u64], place: usize) -> Evaluation
+    requires { ⌜ Running (now s) node (now types) (now values) ⌝ }
+    ensures { λ r. ⌜ r ≡ onTruth place (run (now (types .entry)) (nodeOf (now (s .entry)) node .statements) (nodeOf (now (s .entry)) node .condition) (onValues (length (now (types .entry))) (now (values .entry)))) ⌝ }
+{
+    let mut room = [0u64; 32];
+    copy_values(values, types.len(), &mut room);
+    let body = node.body;
+    if !run_statements(s, body, types, node.statements, &mut room) {
+        return Evaluation::Refused(14, place);
+    }
+    let condition = node.condition;
+    outcome(condition_value(s, condition, types, &room), place)
 }

@@ -16,9 +16,11 @@ use Rattle.alu.specs.declared.Flag.the-variants as flag
 abbrev pub countSize : ℕ → ℕ
 countSize m = cond (eqb m 32) 64 (cond (eqb m 33) 32 16)
 
+-- that part of register 1
 abbrev pub countRegister : ℕ → Register
 countRegister m = record { class = 1; index = 1; size = countSize m; offset = 0 }
 
+-- a condition that is known to hold or to fail decides the jump
 abbrev pub verdictOf : Flag → Decided
 verdictOf (flag.Known b) = cond b Holds Fails
 verdictOf flag.Unknown = Undecided

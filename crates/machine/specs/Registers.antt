@@ -25,9 +25,11 @@ unmarked = record { known = false; value = 0 }
 unfoldable pub nothingKnown : State
 nothingKnown = record { registers = replicate 16 unmarked; flags = noFlags }
 
+-- the value of a register by its mark
 abbrev pub contents : Slot → Value
 contents s = cond (s .known) (Known (s .value)) Unknown
 
+-- a forgotten register holds 0
 abbrev pub slotOf : Value → Slot
 slotOf (Known x) = record { known = true; value = x }
 slotOf Unknown = unmarked
@@ -65,6 +67,7 @@ operandOf s size Mem = Unknown
 abbrev pub withFlags : State → Flags → State
 withFlags s f = record { registers = s .registers; flags = f }
 
+-- past the end of a list
 abbrev pub noRegister : Register
 noRegister = record { class = 0; index = 0; size = 0; offset = 0 }
 

@@ -1,7 +1,11 @@
--- Machine: what an instruction leaves known, rule by rule. The effects on values and flags are those of the crate
--- `effects`; reads, writes and forgetting are in `Registers`.
+-- Machine: what an instruction leaves known. The section's rules in its order, and where each is: what is known, and that
+-- all starts unknown: `Registers`, `nothingKnown`; call-like instructions: `stepped`; what is modelled: isa's `modelled`;
+-- writes of 32, 16 and 8 bits and unknown ones: effects' `merged`; results that wrap, and PF: alu's `result`, `evenParity`;
+-- a register with itself: effects' `settled`; an unknown operand: effects' `unsettled`; inc, dec, neg of an unknown
+-- register: `unaryUnknown`; all else: `Registers`, `forgotten`; jumps: `Conditions`, `decided`.
 use Prim.Native.Nat.{ℕ}
 use mathlib.Core.Bool.{Bool, true, false, cond, not, _&&_, _||_}
+use mathlib.Core.List.{List, [], _∷_}
 use lib.Dec.{leb, eqb}
 use Rattle.isa.specs.declared.Register.{Register}
 use Rattle.isa.specs.declared.Operand.{Operand}
@@ -44,6 +48,7 @@ unaryUnknown s i =
     let after = forgotten s i in
     withFlags after (withCarry (after .flags) (unknownCarry (i .mnemonic) (s .flags .cf)))
 
+-- inc, dec, neg by what is known of the register
 abbrev pub unaryOn : State → Instruction → Register → Value → State
 unaryOn s i d (Known a) = finished s true d (unaryEffect (i .mnemonic) (widthOf (d .size)) (s .flags .cf) a)
 unaryOn s i d Unknown = unaryUnknown s i
@@ -66,6 +71,7 @@ onFirst s i (Reg d) = registerStep s i d
 onFirst s i (Imm x) = s
 onFirst s i Mem = s
 
+-- stc, clc, cmc (1 to 3), then those with a register first
 unfoldable pub modelledStep : State → Instruction → State
 modelledStep s i =
     cond (leb (i .mnemonic) 3)
@@ -75,3 +81,8 @@ modelledStep s i =
 -- Call-like instructions forget all; modelled ones go by their rules; all else forgets what it declares.
 unfoldable pub stepped : State → Instruction → State
 stepped s i = cond (i .call) nothingKnown (cond (modelled i) (modelledStep s i) (forgotten s i))
+
+-- what is known after instructions in order
+unfoldable pub steppedAll : State → List Instruction → State
+steppedAll s [] = s
+steppedAll s (i ∷ is) = steppedAll (stepped s i) is

@@ -98,6 +98,7 @@ fn replace(s: State, index: u64, v: Value) -> State
     }
 }
 
+// A register of another class than 1 is unknown.
 pub fn read(s: State, r: Register) -> Value
     ensures { λ v. ⌜ v ≡ readOf s r ⌝ }
 {
@@ -110,6 +111,7 @@ pub fn read(s: State, r: Register) -> Value
     }
 }
 
+// To a register of another class than 1 nothing is written.
 pub fn write(s: State, r: Register, v: Value) -> State
     ensures { λ t. ⌜ t ≡ written s r v ⌝ }
 {
@@ -178,6 +180,7 @@ fn forget(s: State, i: Instruction) -> State
     with_flags(after, left)
 }
 
+// Whether the operand is that very register.
 fn is_same(d: Register, o: Operand) -> bool
     ensures { λ r. ⌜ r ≡ sameRegister d o ⌝ }
 {
@@ -198,6 +201,7 @@ fn write_if(s: State, there: bool, d: Register, v: Value) -> State
     if there { write(s, d, v) } else { s }
 }
 
+// Write the value, if the instruction writes, and set the flags.
 fn finish(s: State, there: bool, d: Register, e: Effect) -> State
     ensures { λ t. ⌜ t ≡ finished s there d e ⌝ }
 {
@@ -220,6 +224,7 @@ fn arith(s: State, m: u64, d: Register, o: Operand) -> State
     finish(s, !((m == 8) | (m == 12)), d, e)
 }
 
+// inc, dec, neg of an unknown register.
 fn unary_unknown(s: State, i: Instruction) -> State
     ensures { λ t. ⌜ t ≡ unaryUnknown s i ⌝ }
 {
@@ -254,6 +259,7 @@ fn unary(s: State, i: Instruction, d: Register) -> State
     unary_on(s, i, d, v)
 }
 
+// A modelled instruction with a register first.
 fn on_register(s: State, i: Instruction, d: Register) -> State
     ensures { λ t. ⌜ t ≡ registerStep s i d ⌝ }
 {
@@ -316,6 +322,7 @@ pub enum Decided {
     Undecided,
 }
 
+// The bits that a count-register jump reads.
 fn count_size(m: u64) -> u64
     ensures { λ r. ⌜ r ≡ countSize m ⌝ }
 {

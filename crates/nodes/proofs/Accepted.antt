@@ -1,22 +1,23 @@
 -- Where reading goes on after a statement or a node, it went on before it.
 use Prim.Native.Nat.{ℕ, zero, suc, _+_, _≤_, _<_}
-use mathlib.Core.Path.{_≡_, refl, _∙_}
+use mathlib.Core.Path.{_≡_, refl, sym, _∙_}
 use mathlib.Core.List.{List, []}
 use mathlib.Core.Logic.{⊎-elim}
 use native.Mathlib.Omega.{arith}
 use native.Mathlib.Nat.{eq-or-lt-of-le}
 use mathlib.Core.Bool.{Bool, true, false, false≢true}
 use lib.Dec.{eqb}
-use lib.ListN.{length, getD, length-append, List·getD-append}
-use lib.Seq.{getD-at}
+use lib.ListN.{length, getD, take, drop, length-append, length-drop, List·getD-append}
+use lib.Seq.{getD-at, length-take-le}
 use Rattle.expr.specs.Tree.{Wf}
 use Rattle.expr.specs.Statement.{Statement}
 use Rattle.field.specs.declared.Place.{Place}
 use Rattle.field.specs.declared.Place.the-variants.{At}
 use Rattle.field.specs.Field.{fieldAt, startOf, codeAt, countAt}
-use Rattle.field.proofs.Fields.{judge-at, check-at, field-at, code-at, count-at}
+use Rattle.field.proofs.Fields.{judge-at, check-at, field-at, code-at, count-at, count-most}
 use Rattle.expressions.specs.Expression.{expressionAt}
 use Rattle.expressions.proofs.Accepted.{one-tree}
+use Rattle.nodes.proofs.Nodes.{types-inside}
 use Rattle.nodes.specs.Node.{mapAt, assignmentAt, statementAt, statementOf, statementsFrom, typesFrom, typesOf, addressesFrom, nodeAt}
 
 -- reading went on at a place
@@ -122,3 +123,46 @@ assigned types s p e there = go (eqb (mapAt s p .value) 3) refl
         let code = code-at (length types) s (mapAt s p .next) (value .there) in
         record { tree = rw q (value .tree); short = rw q (value .short); declared = rw q (code .below) }
     go false q = let z : false ≡ true = rw q at there in absurd (false≢true z)
+
+-- what a node that was read whole is
+pub record WholeNode (s : List ℕ) (p : Place) (types : List ℕ) : Type 0 where
+  pub few : length types ≤ 32
+  pub count : nodeAt s p .variables ≡ length types
+  pub inside : startOf (nodeAt s p .types) + nodeAt s p .variables ≤ length s
+  pub body : statementsFrom types s (nodeAt s p .body) (nodeAt s p .statements) .next ≡ nodeAt s p .condition
+  pub statements : WentOn (statementsFrom types s (nodeAt s p .body) (nodeAt s p .statements) .next)
+  pub condition : WentOn (expressionAt (length types) s (nodeAt s p .condition) .next)
+
+-- the types of a node, as a part of the sheet
+abbrev pub typesIn : List ℕ → Place → List ℕ
+typesIn s p = take (nodeAt s p .variables) (drop (startOf (nodeAt s p .types)) s)
+
+types-whole : {end : Place} {a : ℕ} (from n : ℕ) (s : List ℕ) → end ≡ At a → typesOf end from n s ≡ take n (drop from s)
+types-whole from n s e = rw e
+
+pub whole-node : (s : List ℕ) (p : Place) {a : ℕ} → nodeAt s p .next ≡ At a → WholeNode s p (typesIn s p)
+unfolding nodeAt
+whole-node s p e =
+    let v = countAt 0 32 s p in
+    let typesEnd = typesFrom s (v .next) (v .value) in
+    let types = typesOf typesEnd (startOf (v .next)) (v .value) s in
+    let k = countAt 0 64 s typesEnd in
+    let condition = statementsFrom types s (k .next) (k .value) .next in
+    let conditionEnd = expressionAt (length types) s condition .next in
+    let a = countAt 0 16 s conditionEnd in
+    let sites = addresses-on s (a .next) (a .value) e in
+    let judged = count-on 0 16 s conditionEnd (sites .1) in
+    let one = one-tree (length types) s condition (judged .1) in
+    let body = statements-on types s (k .next) (k .value) (one .there) in
+    let counted = count-on 0 64 s typesEnd (body .1) in
+    let same : types ≡ take (v .value) (drop (startOf (v .next)) s) = types-whole {end = typesEnd} {a = counted .0} (startOf (v .next)) (v .value) s (counted .1) in
+    let room = types-inside s p {v = v} {end = typesEnd} {start = startOf (v .next)} refl refl refl (counted .0) (counted .1) in
+    let size : length types ≡ v .value = rw same (length-take-le (v .value) (drop (startOf (v .next)) s) (rw length-drop (omega (arith, room)))) in
+    rw (← same) record {
+      few = omega (arith, size, count-most 0 32 s p);
+      count = sym size;
+      inside = room;
+      body = refl;
+      statements = (one .from, one .there);
+      condition = judged;
+    }

@@ -16,9 +16,10 @@ use Rattle.machine.specs.declared.State.{State}
 use Rattle.machine.specs.declared.Decided.{Decided}
 use Rattle.machine.specs.declared.Decided.the-variants.{Holds, Fails, Undecided}
 use Rattle.machine.specs.Registers.{nothingKnown}
+use Rattle.machine.specs.Rules.{steppedAll}
 use Rattle.machine.specs.Conditions.{verdictOf, decided}
 use Rattle.runs.specs.Concrete.{Processor, Choice, executedAll, outcome}
-use Rattle.runs.specs.Agreement.{Allows, Agrees, AllAccepted, steppedAll}
+use Rattle.runs.specs.Agreement.{Allows, Agrees, AllAccepted}
 use Rattle.runs.proofs.Arithmetic.{byTest}
 use Rattle.runs.proofs.Registers.{never, and-left, and-right}
 use Rattle.runs.proofs.Sound.{nothing-known, steps-sound}

@@ -29,9 +29,9 @@ use Rattle.effects.specs.declared.Value.the-variants.{Known, Unknown}
 use Rattle.effects.specs.Operations.{withCarry, forgetFlag, forgetFlags, unknownCarry, carryRule, complement, arithEffect, unaryOutcome, unaryEffect}
 use Rattle.effects.specs.Values.{onValue}
 use Rattle.machine.specs.Registers.{nothingKnown, unmarked, wholeOf, readOf, written, operandOf, forgetRegisters, forgotten}
-use Rattle.machine.specs.Rules.{sameRegister, finished, arithStep, unaryUnknown, unaryOn, unaryStep, registerStep, onFirst, modelledStep, stepped}
+use Rattle.machine.specs.Rules.{sameRegister, finished, arithStep, unaryUnknown, unaryOn, unaryStep, registerStep, onFirst, modelledStep, stepped, steppedAll}
 use Rattle.runs.specs.Concrete.{Status, Processor, Choice, value, part, assign, argument, computed, computedAlone, withStatus, withCf, carryAfter, binary, alone, onRegister, onOperand, byManual, byDeclaration, executed, executedAll}
-use Rattle.runs.specs.Agreement.{Allows, AllowsValue, FlagsAgree, Agrees, operandWellFormed, Accepted, AllAccepted, steppedAll}
+use Rattle.runs.specs.Agreement.{Allows, AllowsValue, FlagsAgree, Agrees, operandWellFormed, Accepted, AllAccepted}
 use Rattle.runs.proofs.Arithmetic.{byTest}
 use Rattle.runs.proofs.Outcome.{Matches}
 use Rattle.runs.proofs.Registers.{Form, low-byte, high-byte, word, double, quad, form, bits-law, reads, part-below, Stores, stores-known, writes, never, and-right}

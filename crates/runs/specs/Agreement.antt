@@ -14,7 +14,6 @@ use Rattle.alu.specs.declared.Flags.{Flags}
 use Rattle.machine.specs.declared.State.{State}
 use Rattle.effects.specs.declared.Value.{Value}
 use Rattle.machine.specs.Registers.{wholeOf}
-use Rattle.machine.specs.Rules.{stepped}
 use Rattle.runs.specs.Concrete.{Status, Processor, value}
 use Rattle.alu.specs.declared.Flag.the-variants as flag
 use Rattle.effects.specs.declared.Value.the-variants as known
@@ -56,8 +55,3 @@ pub record Accepted (i : Instruction) : Type 0 where
 abbrev pub AllAccepted : List Instruction → Type 0
 AllAccepted [] = Unit {0}
 AllAccepted (i ∷ is) = Accepted i × AllAccepted is
-
--- what is known after a block's instructions
-unfoldable pub steppedAll : State → List Instruction → State
-steppedAll s [] = s
-steppedAll s (i ∷ is) = steppedAll (stepped s i) is

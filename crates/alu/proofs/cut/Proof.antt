@@ -2,38 +2,28 @@ use native.Mathlib.Omega.{arith}
 use borrow.Author.Needs.{needs}
 use Rattle.alu.proofs.cut.Statement.{statement}
 use Rattle.alu.proofs.cut.Tie as tie
-use Rattle.alu.proofs.cut.Reads as reads
-use Rattle.alu.proofs.cut.Lts as lts
 
--- src/lib.rt:37:24
 enum-told : tie.Need-enum-told
 enum-told c = search needs
 
--- src/lib.rt:38:24
 enum-told-2 : tie.Need-enum-told-2
 enum-told-2 c = search needs
 
--- src/lib.rt:39:26
 enum-told-3 : tie.Need-enum-told-3
 enum-told-3 c = search needs
 
--- src/lib.rt:40:24
 enum-told-4 : tie.Need-enum-told-4
 enum-told-4 c = search needs
 
--- src/lib.rt:33:1
 returns : tie.Need-returns
 returns c = rw (c .enum-told .given .1)
 
--- src/lib.rt:33:1
 returns-2 : tie.Need-returns-2
 returns-2 c = rw (c .enum-told2 .given .1)
 
--- src/lib.rt:33:1
 returns-3 : tie.Need-returns-3
 returns-3 c = rw (c .enum-told3 .given .1)
 
--- src/lib.rt:33:1
 returns-4 : tie.Need-returns-4
 returns-4 c = rw (c .enum-told4 .given .1) (omega arith)
 

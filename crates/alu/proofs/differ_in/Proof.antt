@@ -1,34 +1,25 @@
 use borrow.Author.Needs.{needs}
 use Rattle.alu.proofs.differ_in.Statement.{statement}
 use Rattle.alu.proofs.differ_in.Tie as tie
-use Rattle.alu.proofs.differ_in.Reads as reads
-use Rattle.alu.proofs.differ_in.Lts as lts
 
--- src/lib.rt:202:21
 enum-known-f : tie.Need-enum-known-f
 enum-known-f c = search needs
 
--- src/lib.rt:203:25
 enum-known-g : tie.Need-enum-known-g
 enum-known-g c = search needs
 
--- src/lib.rt:204:30
 enum-told : tie.Need-enum-told
 enum-told c = search needs
 
--- src/lib.rt:206:26
 enum-told-2 : tie.Need-enum-told-2
 enum-told-2 c = search needs
 
--- src/lib.rt:198:1
 returns : tie.Need-returns
 returns c = cc
 
--- src/lib.rt:198:1
 returns-2 : tie.Need-returns-2
 returns-2 c = search needs
 
--- src/lib.rt:198:1
 returns-3 : tie.Need-returns-3
 returns-3 c = search needs
 

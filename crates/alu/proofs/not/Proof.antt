@@ -1,22 +1,16 @@
 use borrow.Author.Needs.{needs}
 use Rattle.alu.proofs.not.Statement.{statement}
 use Rattle.alu.proofs.not.Tie as tie
-use Rattle.alu.proofs.not.Reads as reads
-use Rattle.alu.proofs.not.Lts as lts
 
--- src/lib.rt:168:21
 enum-known-f : tie.Need-enum-known-f
 enum-known-f c = search needs
 
--- src/lib.rt:169:26
 enum-told : tie.Need-enum-told
 enum-told c = search needs
 
--- src/lib.rt:164:1
 returns : tie.Need-returns
 returns c = cc
 
--- src/lib.rt:164:1
 returns-2 : tie.Need-returns-2
 returns-2 c = search needs
 

@@ -2,25 +2,17 @@ use Rattle.effects.specs.Operations.{arithEffect}
 use borrow.Author.Needs.{needs}
 use Rattle.effects.proofs.arith_effect.Statement.{statement}
 use Rattle.effects.proofs.arith_effect.Tie as tie
-use Rattle.effects.proofs.arith_effect.Reads as reads
-use Rattle.effects.proofs.arith_effect.Lts as lts
-use Rattle.effects.proofs.on_operands.Reads as on-operands-reads
-use Rattle.effects.proofs.settle.Reads as settle-reads
 
--- src/lib.rt:406:9
 settle-requires : tie.Need-settle-requires
 settle-requires c κs = search needs
 
--- src/lib.rt:408:9
 on-operands-requires : tie.Need-on-operands-requires
 on-operands-requires c κs = search needs
 
--- src/lib.rt:402:1
 returns : tie.Need-returns
 unfolding arithEffect
 returns c = rw (c .before .if1 .taken) (c .settle .ensures)
 
--- src/lib.rt:402:1
 returns-2 : tie.Need-returns-2
 unfolding arithEffect
 returns-2 c = rw (c .before .if1 .left) (c .on-operands .ensures)

@@ -3,25 +3,18 @@ use Rattle.effects.specs.Operations.{carryRule}
 use borrow.Author.Needs.{needs}
 use Rattle.effects.proofs.carry_rule.Statement.{statement}
 use Rattle.effects.proofs.carry_rule.Tie as tie
-use Rattle.effects.proofs.carry_rule.Reads as reads
-use Rattle.effects.proofs.carry_rule.Lts as lts
-use Rattle.alu.proofs.not.Reads as not-reads
 
--- src/lib.rt:291:9
 returns : tie.Need-returns
 unfolding carryRule
 returns c = rw (eq-eqb _ _ (c .if1 .taken))
 
--- src/lib.rt:294:9
 returns-2 : tie.Need-returns-2
 unfolding carryRule
 returns-2 c = rw (ne-eqb _ _ (c .before .if1 .left), eq-eqb _ _ (c .if2 .taken))
 
--- src/lib.rt:296:5
 not-requires : tie.Need-not-requires
 not-requires c κs = search needs
 
--- src/lib.rt:287:1
 returns-3 : tie.Need-returns-3
 unfolding carryRule
 returns-3 c = rw (ne-eqb _ _ (c .before .before .if1 .left), ne-eqb _ _ (c .before .if2 .left)) (c .not .ensures)

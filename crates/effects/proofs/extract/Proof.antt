@@ -4,46 +4,35 @@ use Rattle.effects.specs.Values.{extracted}
 use borrow.Author.Needs.{needs}
 use Rattle.effects.proofs.extract.Statement.{statement}
 use Rattle.effects.proofs.extract.Tie as tie
-use Rattle.effects.proofs.extract.Reads as reads
-use Rattle.effects.proofs.extract.Lts as lts
 
--- src/lib.rt:104:16
 enum-told : tie.Need-enum-told
 enum-told c = search needs
 
--- src/lib.rt:110:24
 enum-told-2 : tie.Need-enum-told-2
 enum-told-2 c = search needs
 
--- src/lib.rt:111:26
 enum-told-3 : tie.Need-enum-told-3
 enum-told-3 c = search needs
 
--- src/lib.rt:112:24
 enum-told-4 : tie.Need-enum-told-4
 enum-told-4 c = search needs
 
--- src/lib.rt:99:1
 returns : tie.Need-returns
 unfolding extracted
 returns c = rw (c .before .enum-told .given .1, eq-eqb _ _ (c .if1 .taken))
 
--- src/lib.rt:99:1
 returns-2 : tie.Need-returns-2
 unfolding extracted
 returns-2 c = rw (c .before .enum-told .given .1, ne-eqb _ _ (c .if1 .left)) (omega arith)
 
--- src/lib.rt:99:1
 returns-3 : tie.Need-returns-3
 unfolding extracted
 returns-3 c = rw (c .enum-told2 .given .1) (omega arith)
 
--- src/lib.rt:99:1
 returns-4 : tie.Need-returns-4
 unfolding extracted
 returns-4 c = rw (c .enum-told3 .given .1) (omega arith)
 
--- src/lib.rt:99:1
 returns-5 : tie.Need-returns-5
 unfolding extracted
 returns-5 c = rw (c .enum-told4 .given .1) (omega arith)

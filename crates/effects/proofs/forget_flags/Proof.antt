@@ -2,31 +2,22 @@ use Rattle.effects.specs.Operations.{forgetFlags}
 use borrow.Author.Needs.{needs}
 use Rattle.effects.proofs.forget_flags.Statement.{statement}
 use Rattle.effects.proofs.forget_flags.Tie as tie
-use Rattle.effects.proofs.forget_flags.Reads as reads
-use Rattle.effects.proofs.forget_flags.Lts as lts
-use Rattle.effects.proofs.forget_flag.Reads as forget-flag-reads
 
--- src/lib.rt:253:13
 forget-flag-requires : tie.Need-forget-flag-requires
 forget-flag-requires c κs = search needs
 
--- src/lib.rt:254:13
 forget-flag-requires-2 : tie.Need-forget-flag-requires-2
 forget-flag-requires-2 c κs = search needs
 
--- src/lib.rt:255:13
 forget-flag-requires-3 : tie.Need-forget-flag-requires-3
 forget-flag-requires-3 c κs = search needs
 
--- src/lib.rt:256:13
 forget-flag-requires-4 : tie.Need-forget-flag-requires-4
 forget-flag-requires-4 c κs = search needs
 
--- src/lib.rt:257:13
 forget-flag-requires-5 : tie.Need-forget-flag-requires-5
 forget-flag-requires-5 c κs = search needs
 
--- src/lib.rt:244:1
 returns : tie.Need-returns
 unfolding forgetFlags
 returns c = cc

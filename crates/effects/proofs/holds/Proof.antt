@@ -3,25 +3,17 @@ use Rattle.effects.specs.Conditions.{flagCondition}
 use borrow.Author.Needs.{needs}
 use Rattle.effects.proofs.holds.Statement.{statement}
 use Rattle.effects.proofs.holds.Tie as tie
-use Rattle.effects.proofs.holds.Reads as reads
-use Rattle.effects.proofs.holds.Lts as lts
-use Rattle.alu.proofs.not.Reads as not-reads
-use Rattle.effects.proofs.test.Reads as test-reads
 
--- src/lib.rt:600:9
 test-requires : tie.Need-test-requires
 test-requires c κs = search needs
 
--- src/lib.rt:601:21
 not-requires : tie.Need-not-requires
 not-requires c κs = search needs
 
--- src/lib.rt:597:1
 returns : tie.Need-returns
 unfolding flagCondition
 returns c = rw (eq-eqb _ _ (c .before .if1 .taken), c .not .ensures, c .before .before .test .ensures)
 
--- src/lib.rt:597:1
 returns-2 : tie.Need-returns-2
 unfolding flagCondition
 returns-2 c = rw (ne-eqb _ _ (c .if1 .left)) (c .before .test .ensures)

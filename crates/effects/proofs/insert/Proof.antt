@@ -4,86 +4,65 @@ use Rattle.effects.specs.Values.{inserted}
 use borrow.Author.Needs.{needs}
 use Rattle.effects.proofs.insert.Statement.{statement}
 use Rattle.effects.proofs.insert.Tie as tie
-use Rattle.effects.proofs.insert.Reads as reads
-use Rattle.effects.proofs.insert.Lts as lts
 
--- src/lib.rt:122:16
 enum-told : tie.Need-enum-told
 enum-told c = search needs
 
--- src/lib.rt:123:23
 mul-result : tie.Need-mul-result
 mul-result c = search needs
 
--- src/lib.rt:123:17
 sub-result : tie.Need-sub-result
 sub-result c = search needs
 
--- src/lib.rt:123:47
 mul-result-2 : tie.Need-mul-result-2
 mul-result-2 c = search needs
 
--- src/lib.rt:123:17
 add-result : tie.Need-add-result
 add-result c = search needs
 
--- src/lib.rt:125:17
 sub-result-2 : tie.Need-sub-result-2
 sub-result-2 c = search needs
 
--- src/lib.rt:125:17
 add-result-2 : tie.Need-add-result-2
 add-result-2 c = search needs
 
--- src/lib.rt:128:30
 enum-told-2 : tie.Need-enum-told-2
 enum-told-2 c = search needs
 
--- src/lib.rt:128:24
 sub-result-3 : tie.Need-sub-result-3
 sub-result-3 c = search needs
 
--- src/lib.rt:128:24
 add-result-3 : tie.Need-add-result-3
 add-result-3 c = search needs
 
--- src/lib.rt:129:32
 enum-told-3 : tie.Need-enum-told-3
 enum-told-3 c = search needs
 
--- src/lib.rt:129:26
 sub-result-4 : tie.Need-sub-result-4
 sub-result-4 c = search needs
 
--- src/lib.rt:129:26
 add-result-4 : tie.Need-add-result-4
 add-result-4 c = search needs
 
--- src/lib.rt:130:24
 enum-told-4 : tie.Need-enum-told-4
 enum-told-4 c = search needs
 
--- src/lib.rt:117:1
 returns : tie.Need-returns
 unfolding inserted
 returns c = rw (c .before .enum-told .given .1, eq-eqb _ _ (c .if1 .taken))
 
--- src/lib.rt:117:1
 returns-2 : tie.Need-returns-2
 unfolding inserted
 returns-2 c = rw (c .before .enum-told .given .1, ne-eqb _ _ (c .if1 .left)) (omega arith)
 
--- src/lib.rt:117:1
 returns-3 : tie.Need-returns-3
 unfolding inserted
 returns-3 c = rw (c .enum-told2 .given .1) (omega arith)
 
--- src/lib.rt:117:1
 returns-4 : tie.Need-returns-4
 unfolding inserted
 returns-4 c = rw (c .enum-told3 .given .1) (omega arith)
 
--- src/lib.rt:117:1
 returns-5 : tie.Need-returns-5
 unfolding inserted
 returns-5 c = rw (c .enum-told4 .given .1) (omega arith)

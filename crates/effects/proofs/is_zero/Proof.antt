@@ -1,22 +1,16 @@
 use borrow.Author.Needs.{needs}
 use Rattle.effects.proofs.is_zero.Statement.{statement}
 use Rattle.effects.proofs.is_zero.Tie as tie
-use Rattle.effects.proofs.is_zero.Reads as reads
-use Rattle.effects.proofs.is_zero.Lts as lts
 
--- src/lib.rt:620:22
 enum-known-v : tie.Need-enum-known-v
 enum-known-v c = search needs
 
--- src/lib.rt:621:27
 enum-told : tie.Need-enum-told
 enum-told c = search needs
 
--- src/lib.rt:616:1
 returns : tie.Need-returns
 returns c = cc
 
--- src/lib.rt:616:1
 returns-2 : tie.Need-returns-2
 returns-2 c = search needs
 

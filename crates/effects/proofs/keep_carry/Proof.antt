@@ -3,20 +3,14 @@ use Rattle.effects.specs.Operations.{keptCarry}
 use borrow.Author.Needs.{needs}
 use Rattle.effects.proofs.keep_carry.Statement.{statement}
 use Rattle.effects.proofs.keep_carry.Tie as tie
-use Rattle.effects.proofs.keep_carry.Reads as reads
-use Rattle.effects.proofs.keep_carry.Lts as lts
-use Rattle.effects.proofs.with_carry.Reads as with-carry-reads
 
--- src/lib.rt:456:29
 with-carry-requires : tie.Need-with-carry-requires
 with-carry-requires c κs = search needs
 
--- src/lib.rt:453:1
 returns : tie.Need-returns
 unfolding keptCarry
 returns c = rw (eq-eqb _ _ (c .if1 .taken))
 
--- src/lib.rt:453:1
 returns-2 : tie.Need-returns-2
 unfolding keptCarry
 returns-2 c = rw (ne-eqb _ _ (c .before .if1 .left)) (c .with-carry .ensures)

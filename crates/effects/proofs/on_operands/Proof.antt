@@ -1,48 +1,34 @@
 use borrow.Author.Needs.{needs}
 use Rattle.effects.proofs.on_operands.Statement.{statement}
 use Rattle.effects.proofs.on_operands.Tie as tie
-use Rattle.effects.proofs.on_operands.Reads as reads
-use Rattle.effects.proofs.on_operands.Lts as lts
-use Rattle.effects.proofs.perform_on.Reads as perform-on-reads
-use Rattle.effects.proofs.unsettle.Reads as unsettle-reads
 
--- src/lib.rt:394:22
 enum-known-a : tie.Need-enum-known-a
 enum-known-a c = search needs
 
--- src/lib.rt:395:26
 enum-known-b : tie.Need-enum-known-b
 enum-known-b c = search needs
 
--- src/lib.rt:395:32
 perform-on-requires : tie.Need-perform-on-requires
 perform-on-requires c κs = search needs
 
--- src/lib.rt:396:31
 enum-told : tie.Need-enum-told
 enum-told c = search needs
 
--- src/lib.rt:396:31
 unsettle-requires : tie.Need-unsettle-requires
 unsettle-requires c κs = search needs
 
--- src/lib.rt:398:27
 enum-told-2 : tie.Need-enum-told-2
 enum-told-2 c = search needs
 
--- src/lib.rt:398:27
 unsettle-requires-2 : tie.Need-unsettle-requires-2
 unsettle-requires-2 c κs = search needs
 
--- src/lib.rt:390:1
 returns : tie.Need-returns
 returns c = rw (c .before .before .before .before .before .a .given .1, c .before .before .b .given .1) (c .perform-on .ensures)
 
--- src/lib.rt:390:1
 returns-2 : tie.Need-returns-2
 returns-2 c = rw (c .before .before .before .before .a .given .1, c .before .enum-told .given .1) (c .unsettle .ensures)
 
--- src/lib.rt:390:1
 returns-3 : tie.Need-returns-3
 returns-3 c = rw (c .before .enum-told2 .given .1) (c .unsettle2 .ensures)
 

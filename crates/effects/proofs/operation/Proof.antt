@@ -2,30 +2,23 @@ use borrow.Author.Tests.{eq-eqb, ne-eqb}
 use Rattle.effects.specs.Operations.{operationOf}
 use Rattle.effects.proofs.operation.Statement.{statement}
 use Rattle.effects.proofs.operation.Tie as tie
-use Rattle.effects.proofs.operation.Reads as reads
-use Rattle.effects.proofs.operation.Lts as lts
 
--- src/lib.rt:312:9
 returns : tie.Need-returns
 unfolding operationOf
 returns c = rw (eq-eqb _ _ (c .if1 .taken))
 
--- src/lib.rt:315:9
 returns-2 : tie.Need-returns-2
 unfolding operationOf
 returns-2 c = rw (ne-eqb _ _ (c .before .if1 .left), c .if2 .taken)
 
--- src/lib.rt:318:9
 returns-3 : tie.Need-returns-3
 unfolding operationOf
 returns-3 c = rw (ne-eqb _ _ (c .before .before .if1 .left), c .before .if2 .left, c .if3 .taken)
 
--- src/lib.rt:321:9
 returns-4 : tie.Need-returns-4
 unfolding operationOf
 returns-4 c = rw (ne-eqb _ _ (c .before .before .before .if1 .left), c .before .before .if2 .left, c .before .if3 .left, eq-eqb _ _ (c .if4 .taken))
 
--- src/lib.rt:308:1
 returns-5 : tie.Need-returns-5
 unfolding operationOf
 returns-5 c = rw (ne-eqb _ _ (c .before .before .before .if1 .left), c .before .before .if2 .left, c .before .if3 .left, ne-eqb _ _ (c .if4 .left))

@@ -2,20 +2,13 @@ use Rattle.effects.specs.Operations.{performed}
 use borrow.Author.Needs.{needs}
 use Rattle.effects.proofs.perform_on.Statement.{statement}
 use Rattle.effects.proofs.perform_on.Tie as tie
-use Rattle.effects.proofs.perform_on.Reads as reads
-use Rattle.effects.proofs.perform_on.Lts as lts
-use Rattle.alu.proofs.perform.Reads as perform-reads
-use Rattle.effects.proofs.operation.Reads as operation-reads
 
--- src/lib.rt:383:9
 operation-requires : tie.Need-operation-requires
 operation-requires c κs = search needs
 
--- src/lib.rt:384:9
 perform-requires : tie.Need-perform-requires
 perform-requires c κs = search needs
 
--- src/lib.rt:380:1
 returns : tie.Need-returns
 unfolding performed
 returns c = rw (c .before .perform .ensures, c .before .before .operation .ensures)

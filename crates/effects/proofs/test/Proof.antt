@@ -3,63 +3,47 @@ use Rattle.effects.specs.Conditions.{tested}
 use borrow.Author.Needs.{needs}
 use Rattle.effects.proofs.test.Statement.{statement}
 use Rattle.effects.proofs.test.Tie as tie
-use Rattle.effects.proofs.test.Reads as reads
-use Rattle.effects.proofs.test.Lts as lts
-use Rattle.alu.proofs.differ_in.Reads as differ-in-reads
-use Rattle.alu.proofs.or.Reads as or-reads
 
--- src/lib.rt:573:9
 returns : tie.Need-returns
 unfolding tested
 returns c = rw (eq-eqb _ _ (c .if1 .taken))
 
--- src/lib.rt:576:9
 differ-in-requires : tie.Need-differ-in-requires
 differ-in-requires c κs = search needs
 
--- src/lib.rt:576:9
 returns-2 : tie.Need-returns-2
 unfolding tested
 returns-2 c = rw (ne-eqb _ _ (c .before .before .if1 .left), eq-eqb _ _ (c .before .if2 .taken)) (c .differ-in .ensures)
 
--- src/lib.rt:579:28
 differ-in-requires-2 : tie.Need-differ-in-requires-2
 differ-in-requires-2 c κs = search needs
 
--- src/lib.rt:579:9
 or-requires : tie.Need-or-requires
 or-requires c κs = search needs
 
--- src/lib.rt:579:9
 returns-3 : tie.Need-returns-3
 unfolding tested
 returns-3 c = rw (ne-eqb _ _ (c .before .before .before .before .if1 .left), ne-eqb _ _ (c .before .before .before .if2 .left), eq-eqb _ _ (c .before .before .if3 .taken), c .or .ensures, c .before .differ-in2 .ensures)
 
--- src/lib.rt:582:9
 returns-4 : tie.Need-returns-4
 unfolding tested
 returns-4 c = rw (ne-eqb _ _ (c .before .before .before .if1 .left), ne-eqb _ _ (c .before .before .if2 .left), ne-eqb _ _ (c .before .if3 .left), eq-eqb _ _ (c .if4 .taken))
 
--- src/lib.rt:585:9
 or-requires-2 : tie.Need-or-requires-2
 or-requires-2 c κs = search needs
 
--- src/lib.rt:585:9
 returns-5 : tie.Need-returns-5
 unfolding tested
 returns-5 c = rw (ne-eqb _ _ (c .before .before .before .before .before .if1 .left), ne-eqb _ _ (c .before .before .before .before .if2 .left), ne-eqb _ _ (c .before .before .before .if3 .left), ne-eqb _ _ (c .before .before .if4 .left), eq-eqb _ _ (c .before .if5 .taken)) (c .or2 .ensures)
 
--- src/lib.rt:588:9
 returns-6 : tie.Need-returns-6
 unfolding tested
 returns-6 c = rw (ne-eqb _ _ (c .before .before .before .before .before .if1 .left), ne-eqb _ _ (c .before .before .before .before .if2 .left), ne-eqb _ _ (c .before .before .before .if3 .left), ne-eqb _ _ (c .before .before .if4 .left), ne-eqb _ _ (c .before .if5 .left), eq-eqb _ _ (c .if6 .taken))
 
--- src/lib.rt:591:9
 returns-7 : tie.Need-returns-7
 unfolding tested
 returns-7 c = rw (ne-eqb _ _ (c .before .before .before .before .before .before .if1 .left), ne-eqb _ _ (c .before .before .before .before .before .if2 .left), ne-eqb _ _ (c .before .before .before .before .if3 .left), ne-eqb _ _ (c .before .before .before .if4 .left), ne-eqb _ _ (c .before .before .if5 .left), ne-eqb _ _ (c .before .if6 .left), eq-eqb _ _ (c .if7 .taken))
 
--- src/lib.rt:565:1
 returns-8 : tie.Need-returns-8
 unfolding tested
 returns-8 c = rw (ne-eqb _ _ (c .before .before .before .before .before .before .if1 .left), ne-eqb _ _ (c .before .before .before .before .before .if2 .left), ne-eqb _ _ (c .before .before .before .before .if3 .left), ne-eqb _ _ (c .before .before .before .if4 .left), ne-eqb _ _ (c .before .before .if5 .left), ne-eqb _ _ (c .before .if6 .left), ne-eqb _ _ (c .if7 .left))

@@ -2,15 +2,11 @@ use borrow.Author.Tests.{le-leb, lt-leb}
 use Rattle.effects.specs.Operations.{unsettled}
 use Rattle.effects.proofs.unsettle.Statement.{statement}
 use Rattle.effects.proofs.unsettle.Tie as tie
-use Rattle.effects.proofs.unsettle.Reads as reads
-use Rattle.effects.proofs.unsettle.Lts as lts
 
--- src/lib.rt:365:9
 returns : tie.Need-returns
 unfolding unsettled
 returns c = rw (le-leb _ _ (c .if1 .taken))
 
--- src/lib.rt:353:1
 returns-2 : tie.Need-returns-2
 unfolding unsettled
 returns-2 c = rw (lt-leb _ _ (c .if1 .left))

@@ -2,49 +2,33 @@ use Rattle.machine.specs.Conditions.{decided}
 use borrow.Author.Needs.{needs}
 use Rattle.machine.proofs.condition.Statement.{statement}
 use Rattle.machine.proofs.condition.Tie as tie
-use Rattle.machine.proofs.condition.Reads as reads
-use Rattle.machine.proofs.condition.Lts as lts
-use Rattle.machine.proofs.count_size.Reads as count-size-reads
-use Rattle.effects.proofs.holds.Reads as holds-reads
-use Rattle.effects.proofs.is_zero.Reads as is-zero-reads
-use Rattle.machine.proofs.read.Reads as read-reads
-use Rattle.machine.proofs.verdict.Reads as verdict-reads
 
--- src/lib.rt:646:24
 holds-requires : tie.Need-holds-requires
 holds-requires c κs = search needs
 
--- src/lib.rt:646:9
 verdict-requires : tie.Need-verdict-requires
 verdict-requires c κs = search needs
 
--- src/lib.rt:646:9
 returns : tie.Need-returns
 unfolding decided
 returns c = rw (c .before .before .before .if1 .taken, c .verdict .ensures, c .before .holds .ensures)
 
--- src/lib.rt:652:19
 count-size-requires : tie.Need-count-size-requires
 count-size-requires c κs = search needs
 
--- src/lib.rt:655:32
 read-requires : tie.Need-read-requires
 read-requires c κs = search needs
 
--- src/lib.rt:655:24
 is-zero-requires : tie.Need-is-zero-requires
 is-zero-requires c κs = search needs
 
--- src/lib.rt:655:9
 verdict-requires-2 : tie.Need-verdict-requires-2
 verdict-requires-2 c κs = search needs
 
--- src/lib.rt:655:9
 returns-2 : tie.Need-returns-2
 unfolding decided
 returns-2 c = rw (c .before .before .before .before .before .if1 .left, c .before .before .before .before .if2 .taken, c .verdict2 .ensures, c .before .is-zero .ensures, c .before .before .read .ensures, c .before .before .before .count-size .ensures)
 
--- src/lib.rt:641:1
 returns-3 : tie.Need-returns-3
 unfolding decided
 returns-3 c = rw (c .before .if1 .left, c .if2 .left)

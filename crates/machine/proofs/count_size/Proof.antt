@@ -1,18 +1,13 @@
 use borrow.Author.Tests.{eq-eqb, ne-eqb}
 use Rattle.machine.proofs.count_size.Statement.{statement}
 use Rattle.machine.proofs.count_size.Tie as tie
-use Rattle.machine.proofs.count_size.Reads as reads
-use Rattle.machine.proofs.count_size.Lts as lts
 
--- src/lib.rt:608:9
 returns : tie.Need-returns
 returns c = rw (eq-eqb _ _ (c .if1 .taken))
 
--- src/lib.rt:611:9
 returns-2 : tie.Need-returns-2
 returns-2 c = rw (ne-eqb _ _ (c .before .if1 .left), eq-eqb _ _ (c .if2 .taken))
 
--- src/lib.rt:604:1
 returns-3 : tie.Need-returns-3
 returns-3 c = rw (ne-eqb _ _ (c .before .if1 .left), ne-eqb _ _ (c .if2 .left))
 

@@ -6,9 +6,6 @@ use native.Mathlib.Numerals.{add-one}
 use Rattle.machine.specs.Registers.{forgetRegisters}
 use Rattle.machine.proofs.forget_registers.Statement.{statement}
 use Rattle.machine.proofs.forget_registers.Tie as tie
-use Rattle.machine.proofs.forget_registers.Reads as reads
-use Rattle.machine.proofs.forget_registers.Lts as lts
-use Rattle.machine.proofs.write.Reads as write-reads
 
 abbrev Inv-loop : tie.InvT-loop
 Inv-loop n registers state₀ i₀ state i = (i ≤ n) × (state ≡ forgetRegisters state₀ registers i)
@@ -16,37 +13,29 @@ Inv-loop n registers state₀ i₀ state i = (i ≤ n) × (state ≡ forgetRegis
 abbrev μ-loop : tie.MeasureT-loop
 μ-loop n registers state₀ i₀ state i = n - i
 
--- src/lib.rt:235:5
 loop-holds : tie.Need-loop-holds Inv-loop μ-loop
 unfolding forgetRegisters
 loop-holds c = (search needs, refl)
 
--- src/lib.rt:236:17
 mul-r : tie.Need-mul-r Inv-loop μ-loop
 mul-r c = search needs
 
--- src/lib.rt:236:17
 array-copy-out-r : tie.Need-array-copy-out-r Inv-loop μ-loop
 array-copy-out-r c = search needs
 
--- src/lib.rt:237:9
 write-requires : tie.Need-write-requires Inv-loop μ-loop
 write-requires c κs = search needs
 
--- src/lib.rt:238:9
 add-i : tie.Need-add-i Inv-loop μ-loop
 add-i c = search needs
 
--- src/lib.rt:235:5
 loop-less : tie.Need-loop-less Inv-loop μ-loop
 loop-less c = search needs
 
--- src/lib.rt:235:5
 loop-again : tie.Need-loop-again Inv-loop μ-loop
 unfolding forgetRegisters
 loop-again c = (search needs, rw (add-one, c .write .ensures, c .before .before .before .loop .inv .1))
 
--- src/lib.rt:229:1
 returns : tie.Need-returns Inv-loop μ-loop
 returns c = let e : c .before .before .args .n ≡ c .before .loop .i = omega arith in rw e (c .before .loop .inv .1)
 

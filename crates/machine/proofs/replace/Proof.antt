@@ -3,28 +3,20 @@ use Rattle.machine.specs.Registers.{replaced}
 use borrow.Author.Needs.{needs}
 use Rattle.machine.proofs.replace.Statement.{statement}
 use Rattle.machine.proofs.replace.Tie as tie
-use Rattle.machine.proofs.replace.Reads as reads
-use Rattle.machine.proofs.replace.Lts as lts
-use Rattle.machine.proofs.slot_of.Reads as slot-of-reads
 
--- src/lib.rt:91:37
 slot-of-requires : tie.Need-slot-of-requires
 slot-of-requires c κs = search needs
 
--- src/lib.rt:91:9
 mul-registers : tie.Need-mul-registers
 mul-registers c = search needs
 
--- src/lib.rt:91:9
 array-set-from-registers : tie.Need-array-set-from-registers
 array-set-from-registers c = search needs
 
--- src/lib.rt:85:1
 returns : tie.Need-returns
 unfolding replaced
 returns c = rw (lt-ltb _ _ (c .before .before .before .if1 .taken), c .slot-of .ensures)
 
--- src/lib.rt:85:1
 returns-2 : tie.Need-returns-2
 unfolding replaced
 returns-2 c = rw (le-ltb _ _ (c .if1 .left))

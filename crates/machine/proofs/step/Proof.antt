@@ -2,40 +2,27 @@ use Rattle.machine.specs.Rules.{stepped}
 use borrow.Author.Needs.{needs}
 use Rattle.machine.proofs.step.Statement.{statement}
 use Rattle.machine.proofs.step.Tie as tie
-use Rattle.machine.proofs.step.Reads as reads
-use Rattle.machine.proofs.step.Lts as lts
-use Rattle.isa.proofs.is_modelled.Reads as is-modelled-reads
-use Rattle.machine.proofs.State.unknown.Reads as unknown-reads
-use Rattle.machine.proofs.forget.Reads as forget-reads
-use Rattle.machine.proofs.step_modelled.Reads as step-modelled-reads
 
--- src/lib.rt:551:9
 unknown-requires : tie.Need-unknown-requires
 unknown-requires c κs = search needs
 
--- src/lib.rt:551:9
 returns : tie.Need-returns
 unfolding stepped
 returns c = rw (c .unknown .ensures, c .before .if1 .taken)
 
--- src/lib.rt:553:8
 is-modelled-requires : tie.Need-is-modelled-requires
 is-modelled-requires c κs = search needs
 
--- src/lib.rt:554:9
 step-modelled-requires : tie.Need-step-modelled-requires
 step-modelled-requires c κs = search needs
 
--- src/lib.rt:554:9
 returns-2 : tie.Need-returns-2
 unfolding stepped
 returns-2 c = rw (c .step-modelled .ensures, ← (c .before .before .is-modelled .ensures), c .before .if2 .taken, c .before .before .before .if1 .left)
 
--- src/lib.rt:556:5
 forget-requires : tie.Need-forget-requires
 forget-requires c κs = search needs
 
--- src/lib.rt:547:1
 returns-3 : tie.Need-returns-3
 unfolding stepped
 returns-3 c = rw (c .forget .ensures, ← (c .before .before .is-modelled .ensures), c .before .if2 .left, c .before .before .before .if1 .left)

@@ -3,35 +3,23 @@ use Rattle.machine.specs.Rules.{modelledStep}
 use borrow.Author.Needs.{needs}
 use Rattle.machine.proofs.step_modelled.Statement.{statement}
 use Rattle.machine.proofs.step_modelled.Tie as tie
-use Rattle.machine.proofs.step_modelled.Reads as reads
-use Rattle.machine.proofs.step_modelled.Lts as lts
-use Rattle.effects.proofs.carry_rule.Reads as carry-rule-reads
-use Rattle.machine.proofs.on_first.Reads as on-first-reads
-use Rattle.effects.proofs.with_carry.Reads as with-carry-reads
-use Rattle.machine.proofs.with_flags.Reads as with-flags-reads
 
--- src/lib.rt:539:13
 carry-rule-requires : tie.Need-carry-rule-requires
 carry-rule-requires c κs = search needs
 
--- src/lib.rt:540:30
 with-carry-requires : tie.Need-with-carry-requires
 with-carry-requires c κs = search needs
 
--- src/lib.rt:540:9
 with-flags-requires : tie.Need-with-flags-requires
 with-flags-requires c κs = search needs
 
--- src/lib.rt:540:9
 returns : tie.Need-returns
 unfolding modelledStep
 returns c = rw (c .with-flags .ensures, c .before .with-carry .ensures, c .before .before .carry-rule .ensures, le-leb _ _ (c .before .before .before .before .if1 .taken))
 
--- src/lib.rt:543:5
 on-first-requires : tie.Need-on-first-requires
 on-first-requires c κs = search needs
 
--- src/lib.rt:533:1
 returns-2 : tie.Need-returns-2
 unfolding modelledStep
 returns-2 c = rw (c .on-first .ensures, lt-leb _ _ (c .before .if1 .left))

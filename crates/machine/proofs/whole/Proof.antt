@@ -3,28 +3,20 @@ use Rattle.machine.specs.Registers.{wholeOf}
 use borrow.Author.Needs.{needs}
 use Rattle.machine.proofs.whole.Statement.{statement}
 use Rattle.machine.proofs.whole.Tie as tie
-use Rattle.machine.proofs.whole.Reads as reads
-use Rattle.machine.proofs.whole.Lts as lts
-use Rattle.machine.proofs.contents_of.Reads as contents-of-reads
 
--- src/lib.rt:77:20
 mul-slot : tie.Need-mul-slot
 mul-slot c = search needs
 
--- src/lib.rt:77:20
 array-copy-out-slot : tie.Need-array-copy-out-slot
 array-copy-out-slot c = search needs
 
--- src/lib.rt:78:9
 contents-of-requires : tie.Need-contents-of-requires
 contents-of-requires c κs = search needs
 
--- src/lib.rt:72:1
 returns : tie.Need-returns
 unfolding wholeOf
 returns c = rw (lt-ltb _ _ (c .before .before .if1 .taken)) (search needs)
 
--- src/lib.rt:72:1
 returns-2 : tie.Need-returns-2
 unfolding wholeOf
 returns-2 c = rw (le-ltb _ _ (c .if1 .left))

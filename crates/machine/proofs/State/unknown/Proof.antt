@@ -2,10 +2,7 @@ use borrow.Author.Needs.{needs}
 use Rattle.machine.specs.Registers.{nothingKnown}
 use Rattle.machine.proofs.State.unknown.Statement.{statement}
 use Rattle.machine.proofs.State.unknown.Tie as tie
-use Rattle.machine.proofs.State.unknown.Reads as reads
-use Rattle.machine.proofs.State.unknown.Lts as lts
 
--- src/lib.rt:28:5
 returns : tie.Need-returns
 unfolding nothingKnown
 returns c = search needs
