@@ -14,7 +14,8 @@ use Prim.Native.Nat.{_≤_}
 use Rattle.field.specs.Field.{startOf}
 use Rattle.expressions.specs.Expression.{expressionAt}
 use Rattle.nodes.specs.declared.NodeField.{NodeField}
-use Rattle.nodes.specs.Node.{StatementRead, Node, statementsFrom}
+use Rattle.nodes.specs.Node.{StatementRead, Node, statementsFrom, nodeAt}
+use Rattle.field.specs.declared.Place.{Place}
 use Rattle.nodes.proofs.Accepted.{WentOn}
 use Rattle.value.specs.declared.Truth.{Truth}
 use Rattle.value.specs.declared.Truth.the-variants as truth
@@ -125,3 +126,9 @@ pub record Running (s : List ℕ) (node : NodeField) (types values : List ℕ) :
   pub plain : plainAll (statementsFrom types s (node .body) (node .statements) .list) ≡ true
   pub plainCondition : plainExpr (treeOf (expressionAt (length types) s (node .condition) .words)) ≡ true
   pub enough : length types ≤ length values
+
+-- a node that was read whole
+pub record ReadNode (s : List ℕ) (node : NodeField) : Type 0 where
+  pub at : Place
+  pub is : node ≡ nodeAt s at
+  pub on : WentOn (node .next)

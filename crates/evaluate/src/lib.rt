@@ -12,7 +12,7 @@ ghost use Rattle.field.specs.declared.Place.the-variants.{At};
 ghost use Rattle.nodes.specs.Node.{statementAt, statementOf, statementsFrom, nodeOf};
 ghost use Rattle.nodes.proofs.Accepted.{WentOn};
 ghost use Rattle.expr.specs.Tree.{Wf, treeOf};
-ghost use Rattle.evaluate.specs.Evaluate.{plainExpr, plainStatement, plainAll, fitsType, unfitFrom, assignedAll, Ran, Valued, onValues, onTruth, Running};
+ghost use Rattle.evaluate.specs.Evaluate.{plainExpr, plainStatement, plainAll, fitsType, unfitFrom, assignedAll, Ran, Valued, onValues, onTruth, Running, ReadNode, evaluationOf};
 ghost use Rattle.expressions.specs.Expression.{expressionAt};
 ghost use Rattle.value.specs.Evaluation.{evaluated, settled};
 ghost use Rattle.value.specs.Run.{run};
@@ -224,4 +224,26 @@ fn run_node(s: &[u8], node: NodeField, types: &[u8], values: &[u64], place: usiz
     }
     let condition = node.condition;
     outcome(condition_value(s, condition, types, &room), place)
+}
+
+// The node, read whole, that stands at a place.
+pub fn evaluate_node(s: &[u8], node: NodeField, place: usize, values: &[u64]) -> Evaluation
+    requires { ⌜ ReadNode (now s) node ⌝ }
+    ensures { λ r. ⌜ r ≡ evaluationOf (nodeOf (now (s .entry)) node) place (now (values .entry)) ⌝ }
+{
+    let types_at = node.types;
+    let at = field::start(types_at);
+    let n = node.variables as usize;
+    let types = nodes::types_of(s, Place::At(0), at, n);
+    let body = node.body;
+    let condition = node.condition;
+    let plain = plain_statements(s, body, types, node.statements);
+    if !(plain & plain_condition(s, condition, node.variables)) {
+        return Evaluation::Refused(15, place);
+    }
+    let fit = first_unfit(types, values);
+    match fit {
+        Fit::Unfit(v) => Evaluation::Refused(16, v),
+        Fit::AllFit => run_node(s, node, types, values, place),
+    }
 }
