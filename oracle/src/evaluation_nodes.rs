@@ -302,6 +302,13 @@ impl Writer {
         inside(constant(8, u64::MAX), Record::Cast(code))
     }
 
+    fn most_negative(&mut self) -> Expression {
+        match self.random.once_in(2) {
+            true => inside(constant(4, 1 << 31), Record::Cast(S32)),
+            false => inside(constant(8, 1 << 63), Record::Cast(S64)),
+        }
+    }
+
     fn width(&mut self) -> u8 {
         self.random.pick(&[1, 2, 4, 8])
     }
@@ -312,6 +319,7 @@ impl Writer {
                 variable(self.random.below(self.variables.len()))
             }
             10 => vec![self.random.pick(&[Record::True, Record::False])],
+            11 => self.most_negative(),
             _ => {
                 let width = self.width();
                 let value = self.number(8 * u32::from(width));
@@ -362,17 +370,18 @@ impl Made {
         let own = types.len() - self.echoes.len();
         let kind = random.below(8);
         let same = number(random, 64);
-        let value = |code: &u8| {
+        let value = |(place, code): (usize, &u8)| {
             let bits = evaluate::lent_bits(*code);
             let most = u64::MAX >> (64 - bits);
             match kind {
                 0 => same & most,
-                // The most negative value and -1.
+                // The most negative value, and -1.
                 1 => random.pick(&[most / 2 + 1, most]),
+                2 => [most / 2 + 1, most][place % 2],
                 _ => number(random, bits),
             }
         };
-        let mut values: Vec<u64> = types[..own].iter().map(value).collect();
+        let mut values: Vec<u64> = types[..own].iter().enumerate().map(value).collect();
         self.lend_echoes(random, &mut values);
         for _ in 0..random.pick(&[0, 0, 0, 0, 0, 0, 1, 40]) {
             values.push(random.draw());

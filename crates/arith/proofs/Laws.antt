@@ -1,5 +1,5 @@
 -- The laws of patterns and the numbers that they stand for, over any width. Assumes nothing.
-use mathlib.Core.Path.{_≡_, refl, sym, ap, ap₂, subst, _∙_}
+use mathlib.Core.Path.{_≡_, refl, sym, ap, ap₂, _∙_}
 use mathlib.Core.Bool.{Bool, true, false, cond, not, _&&_, _||_, Bool·beq}
 use mathlib.Core.List.{List, [], _∷_}
 use Prim.Native.Nat.{ℕ, zero, suc, _+_, _*_, _/_, _%_, _-_, _^_, _≤_, _<_}
@@ -10,7 +10,7 @@ use lib.ListN.{getD}
 use lib.Dec.{eqb, leb, ltb, lit≤, lit<}
 use lib.IntN.{ℤ, pos, negsuc, negℤ, natAbs}
 use lib.Signed.{ltZ, leZ, nonNeg, quotZ, remZ, shrZ}
-use lib.Pow.{pow-pos, pow-mono, pow-add, mod-mod-pow}
+use lib.Pow.{pow-pos, pow-mono, mod-mod-pow}
 use borrow.Author.Tests.{lt-ltb, le-ltb, le-leb, lt-leb, leb-true, leb-false, ltb-true, ltb-false, eqb-true}
 use Rattle.arith.specs.Numbers.{bits, signed, negative, number, residue, wrap, convert, quotient, remainder, shiftRight, count, below, atMost}
 

@@ -1,17 +1,17 @@
 -- Patterns and whole numbers: the pattern of a sum, difference or product of two patterns is that of the sum, difference or product of the numbers
 -- that they stand for. Division in whole numbers: what quotient and remainder say of the dividend. Assumes nothing.
 use mathlib.Core.Path.{_≡_, refl, sym, ap, ap₂, _∙_}
-use mathlib.Core.Bool.{Bool, true, false, cond}
+use mathlib.Core.Bool.{Bool, true, false, cond, _&&_}
 use mathlib.Core.Logic.{_⊎_, inl, inr}
 use Prim.Native.Nat.{ℕ, zero, suc, _+_, _*_, _/_, _%_, _-_, _^_, _≤_, _<_}
-use native.Mathlib.Nat.{mod-eq-of-lt, mod-lt, mod-mod, div-add-mod', mod-add-mod, add-mod-mod, add-mod, mul-comm, mul-mod-left, add-mul-mod-self-right}
+use native.Mathlib.Nat.{mod-eq-of-lt, mod-lt, mod-le, div-add-mod', div-le-self, div-mul-le-self, add-mod-mod, mul-comm, add-mul-mod-self-right}
 use native.Mathlib.Omega.{arith}
-use lib.Dec.{ltb}
+use lib.Dec.{leb, ltb}
 use lib.IntN.{ℤ, pos, negsuc, negℤ, natAbs, subℕ, _+ℤ_, _-ℤ_, _*ℤ_, negℤ-+ℤ}
 use lib.Signed.{quotZ, remZ, nonNeg}
-use borrow.Author.Tests.{ltb-true, ltb-false}
-use Rattle.arith.specs.Numbers.{bits, negative, number, residue, wrap, sum, difference, product}
-use Rattle.arith.proofs.Laws.{some, by-sign, residue-lt, negation}
+use borrow.Author.Tests.{ltb-true, ltb-false, leb-false, lt-ltb, le-ltb, le-leb, lt-leb}
+use Rattle.arith.specs.Numbers.{bits, signed, negative, number, residue, wrap, sum, difference, product, quotient, remainder}
+use Rattle.arith.proofs.Laws.{some, by-sign, residue-lt, number-negative, number-plain, upper, has-sign}
 
 -- a pattern is what its number leaves
 pub wrap-number : (t x : ℕ) → x < 2 ^ bits t → wrap t (number t x) ≡ x
@@ -186,3 +186,81 @@ remainder-signed (negsuc a) b = by (suc a % natAbs b)
     by : (r : ℕ) → (negℤ (pos r) ≡ pos 0) ⊎ (nonNeg (negℤ (pos r)) ≡ false)
     by zero = inl refl
     by (suc r) = inr refl
+
+-- The numbers that quotient and remainder stand for.
+not-upper : (t x : ℕ) → t < 4 → negative t x ≡ false → 2 * x < 2 ^ bits t
+unfolding negative
+not-upper t x h e =
+    leb-false (2 ^ bits t) (2 * x) (ap (λ (b : Bool). b && leb (2 ^ bits t) (2 * x)) (sym (lt-ltb t 4 h)) ∙ e)
+
+plain-below : (t x : ℕ) → 2 * x < 2 ^ bits t → negative t x ≡ false
+unfolding negative
+plain-below t x h = rw (lt-leb (2 ^ bits t) (2 * x) h) (and-false (signed t))
+  where
+    and-false : (b : Bool) → (b && false) ≡ false
+    and-false true = refl
+    and-false false = refl
+
+unsigned-plain : (t x : ℕ) → 4 ≤ t → negative t x ≡ false
+unfolding negative
+unsigned-plain t x h = rw (le-ltb t 4 h)
+
+-- below a value that is not negative there is none
+plain-lower : (t x y : ℕ) → y ≤ x → negative t x ≡ false → negative t y ≡ false
+plain-lower t x y h e = by (ltb t 4) refl
+  where
+    by : (b : Bool) → ltb t 4 ≡ b → negative t y ≡ false
+    by true f = plain-below t y (omega (arith, not-upper t x (ltb-true t 4 f) e))
+    by false f = unsigned-plain t y (ltb-false t 4 f)
+
+wrapped-pos : (t n : ℕ) → n < 2 ^ bits t → negative t n ≡ false → number t (wrap t (pos n)) ≡ pos n
+unfolding residue
+wrapped-pos t n h e = ap (number t) (mod-eq-of-lt h) ∙ number-plain t n e
+
+wrapped-neg : (t n : ℕ) → t < 4 → 2 * n ≤ 2 ^ bits t → number t (wrap t (negℤ (pos n))) ≡ negℤ (pos n)
+unfolding residue negative
+wrapped-neg t zero h l = wrapped-pos t 0 (some t) (plain-below t 0 (some t))
+wrapped-neg t (suc n) h l =
+    let m = 2 ^ bits t in
+    let x = m - 1 - n in
+    let e : m - 1 - n % m ≡ x = ap (λ (k : ℕ). m - 1 - k) (mod-eq-of-lt (omega arith)) in
+    let f : negative t x ≡ true = rw (lt-ltb t 4 h, le-leb m (2 * x) (omega arith)) in
+    ap (number t) e ∙ number-negative t x f ∙ ap negsuc (omega arith)
+
+module _ (t a b : ℕ) (ha : a < 2 ^ bits t) where
+  pub remainder-number : number t (remainder t a b) ≡ remZ (number t a) (number t b)
+  unfolding remainder
+  remainder-number =
+      let d = natAbs (number t b) in
+      by-sign t a (λ (c : Bool) (z : ℤ). number t (wrap t (remZ z (number t b))) ≡ remZ z (number t b))
+      (λ e. wrapped-neg t (suc (2 ^ bits t - suc a) % d) (has-sign t a e) (omega (arith, upper t a e, mod-le (suc (2 ^ bits t - suc a)) d)))
+      (λ e. wrapped-pos t (a % d) (omega (arith, mod-le a d)) (plain-lower t a (a % d) (mod-le a d) e))
+
+  -- only the most negative value by -1 wraps
+  pub quotient-number : (2 * a ≡ 2 ^ bits t → number t b ≡ negsuc 0 → ⊥) → number t (quotient t a b) ≡ quotZ (number t a) (number t b)
+  unfolding quotient
+  quotient-number out =
+      let m = 2 ^ bits t in
+      by-sign t b (λ (c : Bool) (w : ℤ). (2 * a ≡ m → w ≡ negsuc 0 → ⊥) → number t (wrap t (quotZ (number t a) w)) ≡ quotZ (number t a) w)
+      (λ f. by-sign t a (λ (c : Bool) (z : ℤ). (2 * a ≡ m → negsuc (m - suc b) ≡ negsuc 0 → ⊥) → number t (wrap t (quotZ z (negsuc (m - suc b)))) ≡ quotZ z (negsuc (m - suc b)))
+      (λ e o. both-negative e o)
+      (λ e o. wrapped-neg t (a / suc (m - suc b)) (has-sign t b f) (omega (arith, not-upper t a (has-sign t b f) e, div-le-self a (suc (m - suc b))))))
+      (λ f. by-sign t a (λ (c : Bool) (z : ℤ). (2 * a ≡ m → pos b ≡ negsuc 0 → ⊥) → number t (wrap t (quotZ z (pos b))) ≡ quotZ z (pos b))
+      (λ e o. wrapped-neg t (suc (m - suc a) / b) (has-sign t a e) (omega (arith, upper t a e, div-le-self (suc (m - suc a)) b)))
+      (λ e o. wrapped-pos t (a / b) (omega (arith, div-le-self a b)) (plain-lower t a (a / b) (div-le-self a b) e)))
+      out
+    where
+      half : (n k : ℕ) → n / suc (suc k) * 2 ≤ n
+      half n k = omega (arith, div-mul-le-self n (suc (suc k)))
+
+      small : (k : ℕ) → negative t a ≡ true → (2 * a ≡ 2 ^ bits t → negsuc k ≡ negsuc 0 → ⊥) → 2 * (suc (2 ^ bits t - suc a) / suc k) < 2 ^ bits t
+      small zero e o =
+          let ne : 2 * a ≡ 2 ^ bits t → ⊥ = λ h. o h refl in
+          omega (arith, upper t a e, div-le-self (suc (2 ^ bits t - suc a)) 1)
+      small (suc k) e o = omega (arith, upper t a e, half (suc (2 ^ bits t - suc a)) k, some t)
+
+      both-negative : negative t a ≡ true → (2 * a ≡ 2 ^ bits t → negsuc (2 ^ bits t - suc b) ≡ negsuc 0 → ⊥) → number t (wrap t (pos (suc (2 ^ bits t - suc a) / suc (2 ^ bits t - suc b)))) ≡ pos (suc (2 ^ bits t - suc a) / suc (2 ^ bits t - suc b))
+      both-negative e o =
+          let q = suc (2 ^ bits t - suc a) / suc (2 ^ bits t - suc b) in
+          let l : 2 * q < 2 ^ bits t = small (2 ^ bits t - suc b) e o in
+          wrapped-pos t q (omega arith) (plain-below t q l)

@@ -1,10 +1,10 @@
 // Arithmetic on the bit patterns of a type's values: each operation wraps at the type's width. A type is its number: 0 to 3 signed 8, 16, 32, 64;
 // 4 to 7 unsigned; 8 pointer; 9 bool.
 ghost use mathlib.Core.Path.{_≡_};
-ghost use Prim.Native.Nat.{_*_, _-_, _%_, _^_, _≤_, _<_};
+ghost use Prim.Native.Nat.{_*_, _-_, _%_, _^_, _<_};
 ghost use lib.IntN.{pos, negℤ};
 ghost use mathlib.Core.Bool.{cond};
-ghost use Rattle.arith.specs.Numbers.{bits, negative, number, residue, wrap, convert, sum as sumOf, difference as differenceOf, product as productOf, quotient, remainder, shiftLeft, shiftRight, count as countOf, below as belowOf, atMost};
+ghost use Rattle.arith.specs.Numbers.{bits, negative, number, residue, wrap, convert, sum as sumOf, difference as differenceOf, product as productOf, quotient, remainder, shiftLeft, shiftRight, count as countOf, below as belowOf};
 
 const BITS: [u64; 10] = [8, 16, 32, 64, 8, 16, 32, 64, 64, 1];
 
@@ -62,6 +62,7 @@ pub fn converted(s: u64, t: u64, x: u64) -> u64
     cut(t, widened(s, x))
 }
 
+// Sum, difference and product of two values of type t: at 64 bits first, and then cut to the width.
 pub fn sum(t: u64, a: u64, b: u64) -> u64
     ensures { λ r. ⌜ r ≡ sumOf t a b ⌝ }
 {
@@ -101,6 +102,7 @@ fn with_sign(t: u64, minus: bool, x: u64) -> u64
     if minus { difference(t, 0, x) } else { x }
 }
 
+// A division's quotient and what is left of the dividend.
 pub struct Division {
     pub quotient: u64,
     pub remainder: u64,
@@ -125,6 +127,7 @@ pub fn divided(t: u64, a: u64, b: u64) -> Division
     }
 }
 
+// Shifts by a count below 64.
 pub fn shift_left(t: u64, a: u64, k: u64) -> u64
     requires { ⌜ k < 64 ⌝ }
     ensures { λ r. ⌜ r ≡ shiftLeft t a k ⌝ }

@@ -17,7 +17,8 @@ use Rattle.field.proofs.Fields.{judge-at, field-at, count-at, count-most}
 use Rattle.isa.specs.declared.Instruction.{Instruction}
 use Rattle.instructions.specs.Instruction.{instructionAt}
 use Rattle.instructions.proofs.Accepted.{instruction-on}
-use Rattle.nodes.specs.Node.{nodeAt}
+use native.Mathlib.Numerals.{add-one}
+use Rattle.nodes.specs.Node.{Node, nodeAt, nodeOf}
 use Rattle.nodes.proofs.Accepted.{node-on}
 use Rattle.sheet.specs.declared.Sheet.{Sheet}
 use Rattle.sheet.specs.declared.Reading.the-variants as reading
@@ -170,3 +171,44 @@ blocks-inside s sheet e =
     let place = blocks-place s (sheet .blocks .at) (sheet .blocks .count) {a = acc .afterBlocks .0} (rw (acc .blocks) (acc .afterBlocks .1)) in
     let w = nodes-count s (acc .afterBlocks .0) (acc .graph) (acc .afterBlocks .1) in
     omega (arith, place, w)
+
+pub nodes-back : (s : List ℕ) (p : Place) (k j : ℕ) {a : ℕ} → nodesFrom s p k .next ≡ At a → j ≤ k → WentOn (nodesFrom s p j .next)
+unfolding nodesFrom
+nodes-back s p zero j {a} e le = let z : j ≡ 0 = omega arith in (a, rw z e)
+nodes-back s p (suc k) j {a} e le =
+    ⊎-elim (λ (z : j ≡ suc k). (a, rw z e)) (λ (lt : j < suc k). nodes-back s p k j (node-on s (nodesFrom s p k .next) e .1) (omega arith)) (eq-or-lt-of-le le)
+
+pub nodes-next : (s : List ℕ) (p : Place) (k : ℕ) {a : ℕ} → nodesFrom s p (k + 1) .next ≡ At a → nodeAt s (nodesFrom s p k .next) .next ≡ At a
+unfolding nodesFrom
+nodes-next s p k e = rw (add-one k) at e
+
+nodes-length : (s : List ℕ) (p : Place) (k : ℕ) → length (nodesFrom s p k .list) ≡ k
+unfolding nodesFrom
+nodes-length s p zero = refl
+nodes-length s p (suc k) = rw (length-append, nodes-length s p k) (omega arith)
+
+node-places-length : (s : List ℕ) (p : Place) (k : ℕ) → length (nodesFrom s p k .places) ≡ k
+unfolding nodesFrom
+node-places-length s p zero = refl
+node-places-length s p (suc k) = rw (length-append, node-places-length s p k) (omega arith)
+
+pub nodes-nth : (s : List ℕ) (p : Place) (k j : ℕ) (none : Node) → j < k
+    → getD (nodesFrom s p k .list) j none ≡ nodeOf s (nodeAt s (nodesFrom s p j .next))
+unfolding nodesFrom
+nodes-nth s p zero j none lt = absurd (omega arith)
+nodes-nth s p (suc k) j none lt =
+    let l = nodesFrom s p k .list in
+    ⊎-elim
+    (λ (z : j ≡ k). rw z (getD-at l _ [] none k (nodes-length s p k)))
+    (λ (below : j < k). List·getD-append l _ none j (rw (nodes-length s p k) below) ∙ nodes-nth s p k j none below)
+    (eq-or-lt-of-le (omega arith))
+
+pub node-places-nth : (s : List ℕ) (p : Place) (k j : ℕ) → j < k → getD (nodesFrom s p k .places) j 0 ≡ startOf (nodesFrom s p j .next)
+unfolding nodesFrom
+node-places-nth s p zero j lt = absurd (omega arith)
+node-places-nth s p (suc k) j lt =
+    let l = nodesFrom s p k .places in
+    ⊎-elim
+    (λ (z : j ≡ k). rw z (getD-at l _ [] 0 k (node-places-length s p k)))
+    (λ (below : j < k). List·getD-append l _ 0 j (rw (node-places-length s p k) below) ∙ node-places-nth s p k j below)
+    (eq-or-lt-of-le (omega arith))

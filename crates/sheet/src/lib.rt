@@ -79,7 +79,8 @@ fn check_blocks(s: &[u8], p: Place, n: u64) -> Place
     next
 }
 
-fn check_nodes(s: &[u8], p: Place, n: u64) -> Place
+// The place after the first n nodes from a place on.
+pub fn check_nodes(s: &[u8], p: Place, n: u64) -> Place
     ensures { λ r. ⌜ r ≡ nodesFrom (now (s .entry)) p n .next ⌝ }
 {
     let mut next = p;

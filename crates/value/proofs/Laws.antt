@@ -1,26 +1,26 @@
 -- The laws of the operators and of evaluation that this crate's proofs and other crates' cite. Assumes nothing.
-use mathlib.Core.Path.{_≡_, refl, sym, ap, ap₂, subst, _∙_}
-use mathlib.Core.Bool.{Bool, true, false, cond, not, _&&_, _||_}
+use mathlib.Core.Path.{_≡_, refl, sym, ap, _∙_}
+use mathlib.Core.Bool.{Bool, true, false, cond, not, _&&_}
 use mathlib.Core.List.{List, [], _∷_, _++_, map}
 use Prim.Native.Nat.{ℕ, zero, suc, _+_, _*_, _/_, _%_, _-_, _^_, _≤_, _<_}
 use native.Mathlib.Nat.{zero-mod}
 use native.Mathlib.Omega.{arith}
-use lib.Bits.{bitAnd, bitOr, bitXor, and-lt, or-lt, xor-lt}
-use lib.Dec.{eqb, leb, ltb, lit<}
+use lib.Bits.{and-lt, or-lt, xor-lt}
+use lib.Dec.{eqb, leb, lit<}
 use lib.ListN.{length, getD, take, drop, List·getD-append, List·getD-map}
 use lib.Seq.{getD-append-add}
-use borrow.Author.Tests.{le-leb, lt-leb, eq-eqb, ne-eqb, leb-true, leb-false, eqb-true, eqb-false, not-true, not-false}
+use borrow.Author.Tests.{le-leb, lt-leb, eq-eqb, leb-true, leb-false, eqb-true, eqb-false, not-true, not-false}
 use Rattle.expr.specs.Tree.{Expr, Wf, lastStart}
 use Rattle.expr.specs.Tree.Expr.{variable, constant, conditionTrue, conditionFalse, effect, load, cast, binary, ternary}
 use Rattle.expr.specs.Types.{promoted, together, binaryType, constantType, typeOf}
 use Rattle.expr.proofs.Children.{binary-children, ternary-children, root-formed}
-use Rattle.arith.specs.Numbers.{bits, convert, quotient, remainder, shiftRight, count, below, atMost}
+use Rattle.arith.specs.Numbers.{bits, convert, quotient, remainder, count, below, atMost}
 use Rattle.arith.proofs.Laws.{and-left, and-right, cut-lt, quotient-typed, remainder-typed, shift-typed, convert-lt}
 use Rattle.value.specs.declared.Value.{Value}
 use Rattle.value.specs.declared.Value.the-variants.{Of, NoValue}
 use Rattle.value.specs.declared.Truth.{Truth}
 use Rattle.value.specs.declared.Truth.the-variants.{Holds, Fails, NoOutcome}
-use Rattle.value.specs.Operators.{Typed, chosen, integerOf, truthOf, flag, taken, divides, Operation, arithmetics, shifts, comparisons, noOperation, onCommon, onLeft, operators, noOperator, strict, connect, operate, choose}
+use Rattle.value.specs.Operators.{Typed, integerOf, truthOf, flag, taken, divides, Operation, arithmetics, shifts, comparisons, noOperation, onCommon, onLeft, operators, noOperator, strict, connect, operate, choose}
 use Rattle.value.specs.Evaluation.{Values, Memory, Effects, under, loaded, ev, evaluated}
 use Rattle.value.specs.Root.{rootTag, logicRoot, settles, blank}
 
@@ -206,9 +206,9 @@ ev-typed types ρ σ m f (ternary c a b) =
     choose-typed t (truthOf (ev types ρ σ m (under 0 f) c)) (taken (typeOf types a) t u) (taken (typeOf types b) t v) (taken-typed (typeOf types a) t u) (taken-typed (typeOf types b) t v)
 
 module _ (types values : List ℕ) where
-  pub evaluated-typed : (e : Expr) (t : ℕ) (v : Value) → t ≡ typeOf types e → v ≡ evaluated types values e → Typed t v
+  pub evaluated-typed : (e : Expr) {t : ℕ} {v : Value} → t ≡ typeOf types e → v ≡ evaluated types values e → Typed t v
   unfolding evaluated
-  evaluated-typed e t v et ee = rw (et, ee) (ev-typed types (λ n. getD values n 0) (λ n. getD values n 0) (λ t a. 0) (λ path. 0) e)
+  evaluated-typed e et ee = rw (et, ee) (ev-typed types (λ n. getD values n 0) (λ n. getD values n 0) (λ t a. 0) (λ path. 0) e)
 
   -- evaluation by the root
   evaluated-load : (t : ℕ) (a : Expr) → evaluated types values (load t a) ≡ blank (evaluated types values a)
@@ -235,30 +235,30 @@ module _ (types values : List ℕ) where
   evaluated-ternary c a b = refl
 
   -- what the code computes at each root, of the tree e
-  module _ (e : Expr) (r : Value) where
-    pub at-load : (t : ℕ) (a : Expr) (v : Value) → e ≡ load t a → v ≡ evaluated types values a → r ≡ blank v → r ≡ evaluated types values e
-    at-load t a v k h g = g ∙ ap blank h ∙ sym (evaluated-load t a) ∙ ap (evaluated types values) (sym k)
+  module _ {e : Expr} {r : Value} where
+    pub at-load : {t : ℕ} {a : Expr} {v : Value} → e ≡ load t a → v ≡ evaluated types values a → r ≡ blank v → r ≡ evaluated types values e
+    at-load {t} {a} k h g = g ∙ ap blank h ∙ sym (evaluated-load t a) ∙ ap (evaluated types values) (sym k)
 
-    pub at-cast : (t : ℕ) (a : Expr) (s : ℕ) (v : Value) → e ≡ cast t a → s ≡ typeOf types a → v ≡ evaluated types values a → r ≡ taken s t v
+    pub at-cast : {t : ℕ} {a : Expr} {s : ℕ} {v : Value} → e ≡ cast t a → s ≡ typeOf types a → v ≡ evaluated types values a → r ≡ taken s t v
         → r ≡ evaluated types values e
-    at-cast t a s v k w h g = rw (k, evaluated-cast t a, ← w, ← h) g
+    at-cast {t} {a} k w h g = rw (k, evaluated-cast t a, ← w, ← h) g
 
-    pub at-binary : (o : ℕ) (a b : Expr) (ta tb : ℕ) (u v : Value) → e ≡ binary o a b → o < 16 → ta ≡ typeOf types a → tb ≡ typeOf types b
+    pub at-binary : {o : ℕ} {a b : Expr} {ta tb : ℕ} {u v : Value} → e ≡ binary o a b → o < 16 → ta ≡ typeOf types a → tb ≡ typeOf types b
         → u ≡ evaluated types values a → v ≡ evaluated types values b → r ≡ strict o ta tb u v → r ≡ evaluated types values e
     unfolding operate
-    at-binary o a b ta tb u v k l wa wb ha hb g = rw (k, evaluated-binary o a b, lt-leb 16 o l, ← wa, ← wb, ← ha, ← hb) g
+    at-binary {o} {a} {b} k l wa wb ha hb g = rw (k, evaluated-binary o a b, lt-leb 16 o l, ← wa, ← wb, ← ha, ← hb) g
 
   -- of a ternary: t is the type of both arms, x what the condition yields
-  module _ (e c a b : Expr) (ta tb t : ℕ) (x : Truth) (k : e ≡ ternary c a b) (wa : ta ≡ typeOf types a) (wb : tb ≡ typeOf types b)
+  module _ {e c a b : Expr} {ta tb t : ℕ} {x : Truth} (k : e ≡ ternary c a b) (wa : ta ≡ typeOf types a) (wb : tb ≡ typeOf types b)
       (wt : t ≡ together ta tb) (h : x ≡ truthOf (evaluated types values c)) where
     ternary-is : evaluated types values e ≡ choose x (taken ta t (evaluated types values a)) (taken tb t (evaluated types values b))
     ternary-is = rw (k, evaluated-ternary c a b, ← wa, ← wb, ← wt, ← h)
 
-    pub at-then : (u r : Value) → x ≡ Holds → u ≡ evaluated types values a → r ≡ taken ta t u → r ≡ evaluated types values e
-    at-then u r g f i = rw (ternary-is, g, ← f) i
+    pub at-then : {u r : Value} → x ≡ Holds → u ≡ evaluated types values a → r ≡ taken ta t u → r ≡ evaluated types values e
+    at-then g f i = rw (ternary-is, g, ← f) i
 
-    pub at-otherwise : (u r : Value) → x ≡ Fails → u ≡ evaluated types values b → r ≡ taken tb t u → r ≡ evaluated types values e
-    at-otherwise u r g f i = rw (ternary-is, g, ← f) i
+    pub at-otherwise : {u r : Value} → x ≡ Fails → u ≡ evaluated types values b → r ≡ taken tb t u → r ≡ evaluated types values e
+    at-otherwise g f i = rw (ternary-is, g, ← f) i
 
     pub at-neither : x ≡ NoOutcome → NoValue ≡ evaluated types values e
     at-neither g = rw (ternary-is, g)
@@ -279,7 +279,7 @@ settled-right o Fails v h = rw h
 settled-right o NoOutcome v h = let z : _≡_ {A = ℕ} 0 1 = cc in absurd (omega arith)
 
 -- of && and ||, with u what the left side yields
-module _ (types values : List ℕ) (e : Expr) (o : ℕ) (a b : Expr) (u : Truth) (k : e ≡ binary o a b) (l : 16 ≤ o)
+module _ (types values : List ℕ) {e : Expr} {o : ℕ} {a b : Expr} {u : Truth} (k : e ≡ binary o a b) (l : 16 ≤ o)
     (g : u ≡ truthOf (evaluated types values a)) where
   logic-is : evaluated types values e ≡ integerOf (connect o u (truthOf (evaluated types values b)))
   unfolding operate
@@ -288,8 +288,8 @@ module _ (types values : List ℕ) (e : Expr) (o : ℕ) (a b : Expr) (u : Truth)
   pub at-left : settles o u ≡ true → integerOf u ≡ evaluated types values e
   at-left h = ap integerOf (settled-left o u (truthOf (evaluated types values b)) h) ∙ sym logic-is
 
-  pub at-right : (v : Truth) → settles o u ≡ false → v ≡ truthOf (evaluated types values b) → integerOf v ≡ evaluated types values e
-  at-right v h f = ap integerOf (f ∙ settled-right o u (truthOf (evaluated types values b)) h) ∙ sym logic-is
+  pub at-right : {v : Truth} → settles o u ≡ false → v ≡ truthOf (evaluated types values b) → integerOf v ≡ evaluated types values e
+  at-right h f = ap integerOf (f ∙ settled-right o u (truthOf (evaluated types values b)) h) ∙ sym logic-is
 
 pub truth-integer : (c : Truth) → truthOf (integerOf c) ≡ c
 truth-integer Holds = refl
@@ -297,14 +297,14 @@ truth-integer Fails = refl
 truth-integer NoOutcome = refl
 
 -- a tree of one record, by its kind
-module _ (types values : List ℕ) (e : Expr) where
-  pub at-variable : (n t x v : ℕ) → e ≡ variable n → t ≡ typeOf types e → x ≡ getD values n 0 → v ≡ x % 2 ^ bits t → Of v ≡ evaluated types values e
+module _ (types values : List ℕ) {e : Expr} where
+  pub at-variable : {n t x v : ℕ} → e ≡ variable n → t ≡ typeOf types e → x ≡ getD values n 0 → v ≡ x % 2 ^ bits t → Of v ≡ evaluated types values e
   unfolding evaluated ev typeOf
-  at-variable n t x v k h g f = rw (f, g, h, k)
+  at-variable k h g f = rw (f, g, h, k)
 
-  pub at-constant : (w x t v : ℕ) → e ≡ constant w x → t ≡ typeOf types e → v ≡ x % 2 ^ bits t → Of v ≡ evaluated types values e
+  pub at-constant : {w x t v : ℕ} → e ≡ constant w x → t ≡ typeOf types e → v ≡ x % 2 ^ bits t → Of v ≡ evaluated types values e
   unfolding evaluated ev typeOf
-  at-constant w x t v k h f = rw (f, h, k)
+  at-constant k h f = rw (f, h, k)
 
   pub at-true : e ≡ conditionTrue → Of 1 ≡ evaluated types values e
   unfolding evaluated ev
@@ -314,9 +314,9 @@ module _ (types values : List ℕ) (e : Expr) where
   unfolding evaluated ev
   at-false k = rw k
 
-  pub at-effect : (t : ℕ) → e ≡ effect t → Of 0 ≡ evaluated types values e
+  pub at-effect : {t : ℕ} → e ≡ effect t → Of 0 ≡ evaluated types values e
   unfolding evaluated ev
-  at-effect t k = rw (k, zero-mod (2 ^ bits t))
+  at-effect {t} k = rw (k, zero-mod (2 ^ bits t))
 
 -- what holds of a leaf's last two kinds
 pub last-leaf : (P : ℕ → Type 0) (k : ℕ) → k < 5 → (k ≡ 0 → ⊥) → (k ≡ 1 → ⊥) → (k ≡ 2 → ⊥) → P 3 → P 4 → P k

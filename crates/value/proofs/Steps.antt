@@ -16,13 +16,12 @@ use Rattle.expr.specs.Types.{typeOf, together}
 use Rattle.expr.specs.Scan.{anyNode, isEffect, isLoad, hasEffect, hasLoad}
 use Rattle.value.specs.declared.Value.{Value}
 use Rattle.value.specs.declared.Value.the-variants.{Of, NoValue}
-use Rattle.value.specs.declared.Truth.{Truth}
 use Rattle.value.specs.declared.Truth.the-variants.{NoOutcome}
-use Rattle.value.specs.Operators.{truthOf, taken, operate, choose}
+use Rattle.value.specs.Operators.{truthOf, taken, operate}
 use Rattle.value.specs.Evaluation.{Values, Memory, Effects, under, ev, evaluated, settled}
 use Rattle.expr.specs.Statement.{Statement}
-use Rattle.value.specs.Run.{Choices, set, given, runFrom}
-use Rattle.expr.specs.Statement.Statement.{assignment, other}
+use Rattle.value.specs.Run.{Choices, update, given, runFrom}
+use Rattle.expr.specs.Statement.Statement.{assignment}
 
 or-left : (a b : Bool) → (a || b) ≡ false → a ≡ false
 or-left true b h = h
@@ -103,7 +102,7 @@ abbrev pub lent : List ℕ → Values
 lent values n = getD values n 0
 
 -- setting a variable is a store to the list
-pub lent-set : (values : List ℕ) (v x : ℕ) → v < length values → set v x (lent values) ≡ lent (ListN.set values v x)
+pub lent-set : (values : List ℕ) (v x : ℕ) → v < length values → update v x (lent values) ≡ lent (ListN.set values v x)
 lent-set values v x h = fun-ext (λ n. by n (eqb n v) refl)
   where
     by : (n : ℕ) (b : Bool) → eqb n v ≡ b → cond b x (getD values n 0) ≡ getD (ListN.set values v x) n 0
@@ -122,13 +121,13 @@ module _ (types : List ℕ) (c : Choices) (condition : Expr) (i : ℕ) (values :
         → runFrom types c condition i (assignment v e ∷ rest) (lent values) ≡ runFrom types c condition (suc i) rest (lent (ListN.set values v x))
     unfolding runFrom
     assigns x h g =
-        ap (λ (u : Value). given u (λ x. runFrom types c condition (suc i) rest (set v x (lent values)))) (run-value e p ∙ g)
+        ap (λ (u : Value). given u (λ x. runFrom types c condition (suc i) rest (update v x (lent values)))) (run-value e p ∙ g)
         ∙ ap (runFrom types c condition (suc i) rest) (lent-set values v x h)
 
     -- or has no outcome
     pub stops : evaluated types values e ≡ NoValue → runFrom types c condition i (assignment v e ∷ rest) (lent values) ≡ NoOutcome
     unfolding runFrom
-    stops g = ap (λ (u : Value). given u (λ x. runFrom types c condition (suc i) rest (set v x (lent values)))) (run-value e p ∙ g)
+    stops g = ap (λ (u : Value). given u (λ x. runFrom types c condition (suc i) rest (update v x (lent values)))) (run-value e p ∙ g)
 
   -- after the last statement the outcome is the condition's
   pub ends : Plain condition → runFrom types c condition i [] (lent values) ≡ settled types values condition

@@ -3,16 +3,14 @@ use mathlib.Core.Path.{_≡_, refl}
 use mathlib.Core.List.{List, [], _∷_, map}
 use Prim.Native.Nat.{ℕ, _-_, _^_}
 use Rattle.expr.specs.Tree.{Expr}
-use Rattle.expr.specs.Tree.Expr.{variable, constant, conditionTrue, conditionFalse, effect, load, cast, binary, ternary}
+use Rattle.expr.specs.Tree.Expr.{variable, constant, conditionTrue, conditionFalse, cast, binary, ternary}
 use Rattle.expr.specs.Types.{promoted, common, constantType, binaryType, typeOf}
-use Rattle.arith.specs.Numbers.{bits, negative, number, residue, convert, quotient, remainder, shiftRight, count, below, atMost}
+use Rattle.arith.specs.Numbers.{bits, negative, number, residue, convert, quotient, remainder, shiftRight, count, below}
 use Rattle.value.specs.declared.Value.{Value}
 use Rattle.value.specs.declared.Value.the-variants.{Of, NoValue}
-use Rattle.value.specs.declared.Truth.{Truth}
-use Rattle.value.specs.declared.Truth.the-variants.{Holds, Fails, NoOutcome}
+use Rattle.value.specs.declared.Truth.the-variants.{Holds, NoOutcome}
 use Rattle.value.specs.Operators.{arithmetics, shifts, comparisons, operators, operate}
 use Rattle.value.specs.Evaluation.{ev, evaluated}
-use Rattle.expr.specs.Statement.{Statement}
 use Rattle.value.specs.Run.{Choices, runFrom, run}
 use Rattle.expr.specs.Statement.Statement.{assignment, other}
 
@@ -122,12 +120,7 @@ free = record { start = λ n. 7; memory = λ i t a. 0; effects = λ i path. 0; r
 abbrev is : ℕ → Expr
 is n = binary 10 s32 (constant 4 n)
 
--- an assignment sets its variable, also to what it reads itself
-assigned : run types (assignment 0 (binary 0 s32 s32) ∷ []) (is 14) free ≡ Holds
-unfolding runFrom types ev typeOf constantType binaryType promoted common operate operators arithmetics shifts comparisons convert number negative residue bits quotient
-assigned = refl
-
--- a 0-statement sets them all, and a later assignment starts from there
+-- an assignment may read its own variable; a 0-statement sets them all, and a later assignment starts from there
 renewed : run types (assignment 0 (binary 0 s32 s32) ∷ other ∷ assignment 0 (binary 0 s32 s32) ∷ []) (is 10) free ≡ Holds
 unfolding runFrom types ev typeOf constantType binaryType promoted common operate operators arithmetics shifts comparisons convert number negative residue bits quotient
 renewed = refl

@@ -22,8 +22,8 @@ pub record Choices : Type 0 where
   pub renewed : ℕ → Values
 
 -- the values after variable v is set to x
-abbrev pub set : ℕ → ℕ → Values → Values
-set v x ρ n = cond (eqb n v) x (ρ n)
+abbrev pub update : ℕ → ℕ → Values → Values
+update v x ρ n = cond (eqb n v) x (ρ n)
 
 -- Go on with a value, if there is one; a division by zero leaves the run without outcome.
 abbrev pub given : Value → (ℕ → Truth) → Truth
@@ -35,7 +35,7 @@ given NoValue next = NoOutcome
 unfoldable pub runFrom : List ℕ → Choices → Expr → ℕ → List Statement → Values → Truth
 runFrom types c condition i [] ρ = truthOf (ev types ρ ρ (c .memory i) (c .effects i) condition)
 runFrom types c condition i (assignment v e ∷ rest) ρ =
-    given (ev types ρ ρ (c .memory i) (c .effects i) e) (λ x. runFrom types c condition (suc i) rest (set v x ρ))
+    given (ev types ρ ρ (c .memory i) (c .effects i) e) (λ x. runFrom types c condition (suc i) rest (update v x ρ))
 runFrom types c condition i (other ∷ rest) ρ = runFrom types c condition (suc i) rest (c .renewed i)
 
 -- 'Machine': a node's run starts from any values of its variables' types.

@@ -1,7 +1,7 @@
 // The value of an expression on given values of its variables.
 ghost use mathlib.Core.Path.{_≡_};
-ghost use mathlib.Core.Bool.{true, false};
-ghost use Prim.Native.Nat.{_-_, _/_, _%_, _^_, _≤_, _<_};
+ghost use mathlib.Core.Bool.{true, false, cond};
+ghost use Prim.Native.Nat.{_-_, _%_, _^_, _≤_, _<_};
 ghost use lib.ListN.{length, getD};
 ghost use Rattle.expr.specs.Tree.{Wf, treeOf};
 ghost use Rattle.expr.specs.Types.{together};
@@ -50,28 +50,21 @@ fn flagged(b: bool) -> Value
     if b { Value::Of(1) } else { Value::Of(0) }
 }
 
-fn quotient_of(t: u64, a: u64, b: u64) -> Value
+// The quotient, or what is left of the dividend; nothing where the divisor is zero.
+fn ratio(whole: bool, t: u64, a: u64, b: u64) -> Value
     requires { ⌜ a < 2 ^ bits t ⌝ }
     requires { ⌜ b < 2 ^ bits t ⌝ }
-    ensures { λ r. ⌜ r ≡ divides b (quotient t a b) ⌝ }
+    ensures { λ r. ⌜ r ≡ divides b (cond whole (quotient t a b) (remainder t a b)) ⌝ }
 {
     if b == 0 {
         return Value::NoValue;
     }
     let d = arith::divided(t, a, b);
-    Value::Of(d.quotient)
-}
-
-fn remainder_of(t: u64, a: u64, b: u64) -> Value
-    requires { ⌜ a < 2 ^ bits t ⌝ }
-    requires { ⌜ b < 2 ^ bits t ⌝ }
-    ensures { λ r. ⌜ r ≡ divides b (remainder t a b) ⌝ }
-{
-    if b == 0 {
-        return Value::NoValue;
+    if whole {
+        Value::Of(d.quotient)
+    } else {
+        Value::Of(d.remainder)
     }
-    let d = arith::divided(t, a, b);
-    Value::Of(d.remainder)
 }
 
 // Operators 0 to 7, + - × / % & | ^, on two values of type t.
@@ -84,8 +77,8 @@ fn arithmetic(operator: u64, t: u64, a: u64, b: u64) -> Value
         0 => Value::Of(arith::sum(t, a, b)),
         1 => Value::Of(arith::difference(t, a, b)),
         2 => Value::Of(arith::product(t, a, b)),
-        3 => quotient_of(t, a, b),
-        4 => remainder_of(t, a, b),
+        3 => ratio(true, t, a, b),
+        4 => ratio(false, t, a, b),
         5 => Value::Of(a & b),
         6 => Value::Of(a | b),
         7 => Value::Of(a ^ b),

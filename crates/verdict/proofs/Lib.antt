@@ -2,3 +2,4 @@
 pub mod Answers
 pub mod Sound
 pub mod Forced
+pub mod Nodes

@@ -1,3 +1,4 @@
 pub mod Block
 pub mod Rows
 pub mod Runs
+pub mod Evaluation

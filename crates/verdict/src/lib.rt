@@ -1,5 +1,7 @@
 // The public operations: each takes any bytes, refuses what reading refuses, and answers by the rules.
 use blocks::BlockVerdict;
+use evaluate::Evaluation;
+use field::Place;
 use sheet::Reading;
 use sheet::Sheet;
 ghost use mathlib.Core.Path.{_≡_};
@@ -7,6 +9,7 @@ ghost use Prim.Native.Nat.{_<_};
 ghost use Rattle.sheet.specs.declared.Reading.the-variants.{Accepted};
 ghost use Rattle.sheet.specs.Sheet.{readingOf};
 ghost use Rattle.blocks.specs.Verdict.{verdictOn};
+ghost use Rattle.verdict.specs.Evaluation.{inNumbers, evaluatedNode, evaluationAnswer};
 ghost use Rattle.verdict.specs.Block.{blockAnswer, answerFor, withVerdict};
 
 pub enum BlockAnswer {
@@ -57,6 +60,35 @@ pub fn block_verdict(s: &[u8], number: u64) -> BlockAnswer
                 return answer(judge_block(s, sheet, number));
             }
             BlockAnswer::Refused(13, 0)
+        }
+    }
+}
+
+// The node of that number of an accepted sheet, on lent values.
+fn evaluate_number(s: &[u8], sheet: Sheet, number: u64, values: &[u64]) -> Evaluation
+    requires { ⌜ readingOf (now s) ≡ Accepted sheet ⌝ }
+    requires { ⌜ number < sheet .nodes .count ⌝ }
+    ensures { λ r. ⌜ r ≡ evaluatedNode (now (s .entry)) number (now (values .entry)) ⌝ }
+{
+    let section = sheet.nodes;
+    let place = sheet::check_nodes(s, Place::At(section.at), number);
+    let node = nodes::take_node(s, place);
+    evaluate::evaluate_node(s, node, field::start(place), values)
+}
+
+// The node of that number, from 0, run on the lent values of its variables; extra values are unread.
+pub fn evaluation(s: &[u8], number: u64, values: &[u64]) -> Evaluation
+    ensures { λ r. ⌜ inNumbers r ≡ evaluationAnswer (now (s .entry)) number (now (values .entry)) ⌝ }
+{
+    let reading = sheet::read(s);
+    match reading {
+        Reading::Refused(k, at) => Evaluation::Refused(k, at),
+        Reading::Accepted(sheet) => {
+            let section = sheet.nodes;
+            if number < section.count {
+                return evaluate_number(s, sheet, number, values);
+            }
+            Evaluation::Refused(13, 0)
         }
     }
 }

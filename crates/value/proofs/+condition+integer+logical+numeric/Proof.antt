@@ -90,6 +90,7 @@ K-logical t = (last-start-reads.Asked, last-start-reads.Learnt, condition-below 
 abbrev K-numeric : ℕ → numeric-lts.Claims
 K-numeric t = (leaf-reads.Asked, leaf-reads.Learnt, integer-below t, integer.Post, blanked-reads.Asked, blanked-reads.Learnt, static-type-reads.Asked, static-type-reads.Learnt, retyped-reads.Asked, retyped-reads.Learnt, last-start-reads.Asked, last-start-reads.Learnt, operated-reads.Asked, operated-reads.Learnt, joined-reads.Asked, joined-reads.Learnt, condition-below t, condition.Post)
 
+-- the children of the root, at the place where its kind is known
 logical-two : (t : ℕ) (c : logical-lts.After-last-start (K-logical t) (logical-at t) logical.Post) →
     let s = c .before .before .before .before .before .before in
     let ws = s .args .rs .now in
@@ -295,9 +296,7 @@ logical-returns t c =
     let ws = s .args .rs .now in
     let types = s .args .types .now in
     let values = s .args .values .now in
-    let n = length ws - 2 in
-    let m = c .before .before .before .before .last-start .result in
-    at-left types values (treeOf ws) (rootTag ws / 16) (treeOf (take m ws)) (treeOf (take (n - m) (drop m ws))) (c .before .before .condition .result) (logical-two t (c .before .before .before .before) .tree) (logic-operator ws (s .pre .1 .1 .1)) (c .before .before .condition .ensures) (sym (c .before .settles .ensures) ∙ c .if1 .taken)
+    at-left types values (logical-two t (c .before .before .before .before) .tree) (logic-operator ws (s .pre .1 .1 .1)) (c .before .before .condition .ensures) (sym (c .before .settles .ensures) ∙ c .if1 .taken)
 
 logical-mul-condition : (t : ℕ) → logical-lts.Need-mul-condition (K-logical t) (logical-at t) logical.Post
 logical-mul-condition t c =
@@ -327,9 +326,7 @@ logical-returns-2 t c =
     let ws = s .args .rs .now in
     let types = s .args .types .now in
     let values = s .args .values .now in
-    let n = length ws - 2 in
-    let m = c .before .before .before .before .before .before .last-start .result in
-    at-right types values (treeOf ws) (rootTag ws / 16) (treeOf (take m ws)) (treeOf (take (n - m) (drop m ws))) (c .before .before .before .before .condition .result) (logical-two t (c .before .before .before .before .before .before) .tree) (logic-operator ws (s .pre .1 .1 .1)) (c .before .before .before .before .condition .ensures) (c .condition2 .result) (sym (c .before .before .before .settles .ensures) ∙ c .before .before .if1 .left) (c .condition2 .ensures)
+    at-right types values (logical-two t (c .before .before .before .before .before .before) .tree) (logic-operator ws (s .pre .1 .1 .1)) (c .before .before .before .before .condition .ensures) (sym (c .before .before .before .settles .ensures) ∙ c .before .before .if1 .left) (c .condition2 .ensures)
 
 numeric-sub-n : (t : ℕ) → numeric-lts.Need-sub-n (K-numeric t) (numeric-at t) numeric.Post
 numeric-sub-n t c =
@@ -366,7 +363,7 @@ numeric-integer-requires t c κs =
     let s = c .before .before .before .before .before .before .before in
     let ws = s .args .rs .now in
     let n = length ws - 2 in
-    part-below ws (take n ws) t (s .pre .0) (s .pre .1 .1 .0) (numeric-load t (c) .shorter) (numeric-load t (c) .wf)
+    part-below ws (take n ws) t (s .pre .0) (s .pre .1 .1 .0) (numeric-load t c .shorter) (numeric-load t c .wf)
 
 numeric-blanked-requires : (t : ℕ) → numeric-lts.Need-blanked-requires (K-numeric t) (numeric-at t) numeric.Post
 numeric-blanked-requires t c κs = search needs
@@ -374,18 +371,16 @@ numeric-blanked-requires t c κs = search needs
 numeric-returns-2 : (t : ℕ) → numeric-lts.Need-returns-2 (K-numeric t) (numeric-at t) numeric.Post
 numeric-returns-2 t c =
     let s = c .before .before .before .before .before .before .before .before .before in
-    let ws = s .args .rs .now in
     let types = s .args .types .now in
     let values = s .args .values .now in
-    let n = length ws - 2 in
-    at-load types values (treeOf ws) (c .blanked .result) (rootTag ws / 16) (treeOf (take n ws)) (c .before .integer .result) (numeric-load t (c .before .before) .tree) (c .before .integer .ensures) (c .blanked .ensures)
+    at-load types values (numeric-load t (c .before .before) .tree) (c .before .integer .ensures) (c .blanked .ensures)
 
 numeric-static-type-requires : (t : ℕ) → numeric-lts.Need-static-type-requires (K-numeric t) (numeric-at t) numeric.Post
 numeric-static-type-requires t c κs =
     let s = c .before .before .before .before .before .before .before .before in
     let ws = s .args .rs .now in
     let n = length ws - 2 in
-    (numeric-cast t (c) .wf, part-fits ws (take n ws) (numeric-cast t (c) .shorter) (s .pre .1 .1 .0))
+    (numeric-cast t c .wf, part-fits ws (take n ws) (numeric-cast t c .shorter) (s .pre .1 .1 .0))
 
 numeric-integer-requires-2 : (t : ℕ) → numeric-lts.Need-integer-requires-2 (K-numeric t) (numeric-at t) numeric.Post
 numeric-integer-requires-2 t c κs =
@@ -401,16 +396,14 @@ numeric-retyped-requires t c κs =
     let types = s .args .types .now in
     let values = s .args .values .now in
     let n = length ws - 2 in
-    evaluated-typed types values (treeOf (take n ws)) (c .before .static-type .result) (c .integer2 .result) (c .before .static-type .ensures) (c .integer2 .ensures)
+    evaluated-typed types values (treeOf (take n ws)) (c .before .static-type .ensures) (c .integer2 .ensures)
 
 numeric-returns-3 : (t : ℕ) → numeric-lts.Need-returns-3 (K-numeric t) (numeric-at t) numeric.Post
 numeric-returns-3 t c =
     let s = c .before .before .before .before .before .before .before .before .before .before .before in
-    let ws = s .args .rs .now in
     let types = s .args .types .now in
     let values = s .args .values .now in
-    let n = length ws - 2 in
-    at-cast types values (treeOf ws) (c .retyped .result) (rootTag ws / 16) (treeOf (take n ws)) (c .before .before .static-type .result) (c .before .integer2 .result) (numeric-cast t (c .before .before .before) .tree) (c .before .before .static-type .ensures) (c .before .integer2 .ensures) (c .retyped .ensures)
+    at-cast types values (numeric-cast t (c .before .before .before) .tree) (c .before .before .static-type .ensures) (c .before .integer2 .ensures) (c .retyped .ensures)
 
 numeric-last-start-requires : (t : ℕ) → numeric-lts.Need-last-start-requires (K-numeric t) (numeric-at t) numeric.Post
 numeric-last-start-requires t c κs =
@@ -423,13 +416,13 @@ numeric-last-start-requires t c κs =
 numeric-mul-last : (t : ℕ) → numeric-lts.Need-mul-last (K-numeric t) (numeric-at t) numeric.Post
 numeric-mul-last t c =
     let s = c .before .before .before .before .before .before .before .before .before in
-    omega (arith, numeric-within t (c), s .pre .1 .1 .0)
+    omega (arith, numeric-within t c, s .pre .1 .1 .0)
 
 numeric-sub-last : (t : ℕ) → numeric-lts.Need-sub-last (K-numeric t) (numeric-at t) numeric.Post
-numeric-sub-last t c = numeric-within t (c)
+numeric-sub-last t c = numeric-within t c
 
 numeric-part-last-start : (t : ℕ) → numeric-lts.Need-part-last-start (K-numeric t) (numeric-at t) numeric.Post
-numeric-part-last-start t c = numeric-within t (c)
+numeric-part-last-start t c = numeric-within t c
 
 numeric-part-last-end : (t : ℕ) → numeric-lts.Need-part-last-end (K-numeric t) (numeric-at t) numeric.Post
 numeric-part-last-end t c = search needs
@@ -479,7 +472,7 @@ numeric-operated-requires t c κs =
     let values = s .args .values .now in
     let n = length ws - 2 in
     let m = c .before .before .before .before .before .before .before .last-start .result in
-    (evaluated-typed types values (treeOf (take m ws)) (c .before .before .static-type3 .result) (c .before .integer3 .result) (c .before .before .static-type3 .ensures) (c .before .integer3 .ensures), evaluated-typed types values (treeOf (take (n - m) (drop m ws))) (c .before .before .before .before .before .static-type2 .result) (c .integer4 .result) (c .before .before .before .before .before .static-type2 .ensures) (c .integer4 .ensures))
+    (evaluated-typed types values (treeOf (take m ws)) (c .before .before .static-type3 .ensures) (c .before .integer3 .ensures), evaluated-typed types values (treeOf (take (n - m) (drop m ws))) (c .before .before .before .before .before .static-type2 .ensures) (c .integer4 .ensures))
 
 numeric-returns-4 : (t : ℕ) → numeric-lts.Need-returns-4 (K-numeric t) (numeric-at t) numeric.Post
 numeric-returns-4 t c =
@@ -487,9 +480,7 @@ numeric-returns-4 t c =
     let ws = s .args .rs .now in
     let types = s .args .types .now in
     let values = s .args .values .now in
-    let n = length ws - 2 in
-    let m = c .before .before .before .before .before .before .before .before .last-start .result in
-    at-binary types values (treeOf ws) (c .operated .result) (rootTag ws / 16) (treeOf (take m ws)) (treeOf (take (n - m) (drop m ws))) (c .before .before .before .static-type3 .result) (c .before .before .before .before .before .before .static-type2 .result) (c .before .before .integer3 .result) (c .before .integer4 .result) (numeric-two t (c .before .before .before .before .before) .tree) (strict-operator ws (s .pre .1 .1 .1) (c .before .before .before .before .before .if4 .taken)) (c .before .before .before .static-type3 .ensures) (c .before .before .before .before .before .before .static-type2 .ensures) (c .before .before .integer3 .ensures) (c .before .integer4 .ensures) (c .operated .ensures)
+    at-binary types values (numeric-two t (c .before .before .before .before .before) .tree) (strict-operator ws (s .pre .1 .1 .1) (c .before .before .before .before .before .if4 .taken)) (c .before .before .before .static-type3 .ensures) (c .before .before .before .before .before .before .static-type2 .ensures) (c .before .before .integer3 .ensures) (c .before .integer4 .ensures) (c .operated .ensures)
 
 numeric-slice-aggregate-last-start : (t : ℕ) → numeric-lts.Need-slice-aggregate-last-start (K-numeric t) (numeric-at t) numeric.Post
 numeric-slice-aggregate-last-start t c =
@@ -510,13 +501,13 @@ numeric-last-start-requires-2 t c κs =
 numeric-mul-then : (t : ℕ) → numeric-lts.Need-mul-then (K-numeric t) (numeric-at t) numeric.Post
 numeric-mul-then t c =
     let s = c .before .before .before .before .before .before .before .before .before .before .before .before .before .before in
-    omega (arith, numeric-within t (c .before .before .before .before .before), numeric-three t (c) .withinFront, s .pre .1 .1 .0)
+    omega (arith, numeric-within t (c .before .before .before .before .before), numeric-three t c .withinFront, s .pre .1 .1 .0)
 
 numeric-sub-then : (t : ℕ) → numeric-lts.Need-sub-then (K-numeric t) (numeric-at t) numeric.Post
-numeric-sub-then t c = numeric-three t (c) .withinFront
+numeric-sub-then t c = numeric-three t c .withinFront
 
 numeric-part-then-start : (t : ℕ) → numeric-lts.Need-part-then-start (K-numeric t) (numeric-at t) numeric.Post
-numeric-part-then-start t c = numeric-three t (c) .withinFront
+numeric-part-then-start t c = numeric-three t c .withinFront
 
 numeric-part-then-end : (t : ℕ) → numeric-lts.Need-part-then-end (K-numeric t) (numeric-at t) numeric.Post
 numeric-part-then-end t c = omega (arith, numeric-within t (c .before .before .before .before .before))
@@ -565,7 +556,7 @@ numeric-retyped-requires-2 t c κs =
     let values = s .args .values .now in
     let m = c .before .before .before .before .before .before .before .before .before .before .before .before .before .last-start .result in
     let l = c .before .before .before .before .before .before .before .before .last-start2 .result in
-    evaluated-typed types values (treeOf (take (m - l) (drop l ws))) (c .before .before .before .before .before .before .static-type4 .result) (c .integer5 .result) (c .before .before .before .before .before .before .static-type4 .ensures) (c .integer5 .ensures)
+    evaluated-typed types values (treeOf (take (m - l) (drop l ws))) (c .before .before .before .before .before .before .static-type4 .ensures) (c .integer5 .ensures)
 
 numeric-enum-told-2 : (t : ℕ) → numeric-lts.Need-enum-told-2 (K-numeric t) (numeric-at t) numeric.Post
 numeric-enum-told-2 t c = search needs
@@ -586,7 +577,7 @@ numeric-retyped-requires-3 t c κs =
     let values = s .args .values .now in
     let n = length ws - 2 in
     let m = c .before .before .before .before .before .before .before .before .before .before .before .before .before .last-start .result in
-    evaluated-typed types values (treeOf (take (n - m) (drop m ws))) (c .before .before .before .before .before .before .before .before .before .before .before .static-type2 .result) (c .integer6 .result) (c .before .before .before .before .before .before .before .before .before .before .before .static-type2 .ensures) (c .integer6 .ensures)
+    evaluated-typed types values (treeOf (take (n - m) (drop m ws))) (c .before .before .before .before .before .before .before .before .before .before .before .static-type2 .ensures) (c .integer6 .ensures)
 
 numeric-enum-told-3 : (t : ℕ) → numeric-lts.Need-enum-told-3 (K-numeric t) (numeric-at t) numeric.Post
 numeric-enum-told-3 t c = search needs
@@ -594,78 +585,41 @@ numeric-enum-told-3 t c = search needs
 numeric-returns-5 : (t : ℕ) → numeric-lts.Need-returns-5 (K-numeric t) (numeric-at t) numeric.Post
 numeric-returns-5 t c =
     let s = c .before .before .before .before .before .before .before .before .before .before .before .before .before .before .before .before .before .before .before .before .before .before .before in
-    let ws = s .args .rs .now in
     let types = s .args .types .now in
     let values = s .args .values .now in
-    let n = length ws - 2 in
-    let m = c .before .before .before .before .before .before .before .before .before .before .before .before .before .before .last-start .result in
-    let l = c .before .before .before .before .before .before .before .before .before .last-start2 .result in
-    at-then types values (treeOf ws) (treeOf (take l ws)) (treeOf (take (m - l) (drop l ws))) (treeOf (take (n - m) (drop m ws))) (c .before .before .before .before .before .before .before .static-type4 .result) (c .before .before .before .before .before .before .before .before .before .before .before .before .static-type2 .result) (c .before .before .before .before .before .before .joined .result) (c .before .before .before .before .condition .result) (numeric-three t (c .before .before .before .before .before .before .before .before .before) .tree) (c .before .before .before .before .before .before .before .static-type4 .ensures) (c .before .before .before .before .before .before .before .before .before .before .before .before .static-type2 .ensures) (c .before .before .before .before .before .before .joined .ensures) (c .before .before .before .before .condition .ensures) (c .before .integer5 .result) (c .retyped2 .result) (c .before .before .enum-told .given .1) (c .before .integer5 .ensures) (c .retyped2 .ensures)
+    at-then types values (numeric-three t (c .before .before .before .before .before .before .before .before .before) .tree) (c .before .before .before .before .before .before .before .static-type4 .ensures) (c .before .before .before .before .before .before .before .before .before .before .before .before .static-type2 .ensures) (c .before .before .before .before .before .before .joined .ensures) (c .before .before .before .before .condition .ensures) (c .before .before .enum-told .given .1) (c .before .integer5 .ensures) (c .retyped2 .ensures)
 
 numeric-returns-6 : (t : ℕ) → numeric-lts.Need-returns-6 (K-numeric t) (numeric-at t) numeric.Post
 numeric-returns-6 t c =
     let s = c .before .before .before .before .before .before .before .before .before .before .before .before .before .before .before .before .before .before .before .before .before .before .before in
-    let ws = s .args .rs .now in
     let types = s .args .types .now in
     let values = s .args .values .now in
-    let n = length ws - 2 in
-    let m = c .before .before .before .before .before .before .before .before .before .before .before .before .before .before .last-start .result in
-    let l = c .before .before .before .before .before .before .before .before .before .last-start2 .result in
-    at-otherwise types values (treeOf ws) (treeOf (take l ws)) (treeOf (take (m - l) (drop l ws))) (treeOf (take (n - m) (drop m ws))) (c .before .before .before .before .before .before .before .static-type4 .result) (c .before .before .before .before .before .before .before .before .before .before .before .before .static-type2 .result) (c .before .before .before .before .before .before .joined .result) (c .before .before .before .before .condition .result) (numeric-three t (c .before .before .before .before .before .before .before .before .before) .tree) (c .before .before .before .before .before .before .before .static-type4 .ensures) (c .before .before .before .before .before .before .before .before .before .before .before .before .static-type2 .ensures) (c .before .before .before .before .before .before .joined .ensures) (c .before .before .before .before .condition .ensures) (c .before .integer6 .result) (c .retyped3 .result) (c .before .before .enum-told2 .given .1) (c .before .integer6 .ensures) (c .retyped3 .ensures)
+    at-otherwise types values (numeric-three t (c .before .before .before .before .before .before .before .before .before) .tree) (c .before .before .before .before .before .before .before .static-type4 .ensures) (c .before .before .before .before .before .before .before .before .before .before .before .before .static-type2 .ensures) (c .before .before .before .before .before .before .joined .ensures) (c .before .before .before .before .condition .ensures) (c .before .before .enum-told2 .given .1) (c .before .integer6 .ensures) (c .retyped3 .ensures)
 
 numeric-returns-7 : (t : ℕ) → numeric-lts.Need-returns-7 (K-numeric t) (numeric-at t) numeric.Post
 numeric-returns-7 t c =
     let s = c .before .before .before .before .before .before .before .before .before .before .before .before .before .before .before .before .before .before .before .before .before in
-    let ws = s .args .rs .now in
     let types = s .args .types .now in
     let values = s .args .values .now in
-    let n = length ws - 2 in
-    let m = c .before .before .before .before .before .before .before .before .before .before .before .before .last-start .result in
-    let l = c .before .before .before .before .before .before .before .last-start2 .result in
-    at-neither types values (treeOf ws) (treeOf (take l ws)) (treeOf (take (m - l) (drop l ws))) (treeOf (take (n - m) (drop m ws))) (c .before .before .before .before .before .static-type4 .result) (c .before .before .before .before .before .before .before .before .before .before .static-type2 .result) (c .before .before .before .before .joined .result) (c .before .before .condition .result) (numeric-three t (c .before .before .before .before .before .before .before) .tree) (c .before .before .before .before .before .static-type4 .ensures) (c .before .before .before .before .before .before .before .before .before .before .static-type2 .ensures) (c .before .before .before .before .joined .ensures) (c .before .before .condition .ensures) (c .enum-told3 .given .1)
+    at-neither types values (numeric-three t (c .before .before .before .before .before .before .before) .tree) (c .before .before .before .before .before .static-type4 .ensures) (c .before .before .before .before .before .before .before .before .before .before .static-type2 .ensures) (c .before .before .before .before .joined .ensures) (c .before .before .condition .ensures) (c .enum-told3 .given .1)
 
 pub +condition+integer+logical+numeric-spec : {M : Type 1} → statement M
 +condition+integer+logical+numeric-spec =
-    close μ-condition μ-integer μ-logical μ-numeric (λ t. condition-lts.spec (
-      is-logic-reads.Asked,
-      is-logic-reads.Learnt,
-      logical-below t,
-      logical.Post,
-      numeric-below t,
-      numeric.Post,
-      truth-of-reads.Asked,
-      truth-of-reads.Learnt,
-    ) (condition-at t) condition.Post
+    close μ-condition μ-integer μ-logical μ-numeric (λ t. condition-lts.spec (K-condition t) (condition-at t) condition.Post
     (condition-is-logic-requires t)
     (condition-logical-requires t)
     (condition-returns t)
     (condition-numeric-requires t)
     (condition-truth-of-requires t)
     (condition-returns-2 t))
-    (λ t. integer-lts.spec (
-      is-logic-reads.Asked,
-      is-logic-reads.Learnt,
-      logical-below t,
-      logical.Post,
-      integer-of-reads.Asked,
-      integer-of-reads.Learnt,
-      numeric-below t,
-      numeric.Post,
-    ) (integer-at t) integer.Post
+    (λ t. integer-lts.spec (K-integer t) (integer-at t) integer.Post
     (integer-is-logic-requires t)
     (integer-logical-requires t)
     (integer-integer-of-requires t)
     (integer-returns t)
     (integer-numeric-requires t)
     (integer-returns-2 t))
-    (λ t. logical-lts.spec (
-      last-start-reads.Asked,
-      last-start-reads.Learnt,
-      condition-below t,
-      condition.Post,
-      settles-reads.Asked,
-      settles-reads.Learnt,
-    ) (logical-at t) logical.Post
+    (λ t. logical-lts.spec (K-logical t) (logical-at t) logical.Post
     (logical-sub-n t)
     (logical-mul-operator t)
     (logical-shared-slice-read-operator t)
@@ -681,26 +635,7 @@ pub +condition+integer+logical+numeric-spec : {M : Type 1} → statement M
     (logical-part-condition-end t)
     (logical-condition-requires-2 t)
     (logical-returns-2 t))
-    λ t. numeric-lts.spec (
-      leaf-reads.Asked,
-      leaf-reads.Learnt,
-      integer-below t,
-      integer.Post,
-      blanked-reads.Asked,
-      blanked-reads.Learnt,
-      static-type-reads.Asked,
-      static-type-reads.Learnt,
-      retyped-reads.Asked,
-      retyped-reads.Learnt,
-      last-start-reads.Asked,
-      last-start-reads.Learnt,
-      operated-reads.Asked,
-      operated-reads.Learnt,
-      joined-reads.Asked,
-      joined-reads.Learnt,
-      condition-below t,
-      condition.Post,
-    ) (numeric-at t) numeric.Post
+    λ t. numeric-lts.spec (K-numeric t) (numeric-at t) numeric.Post
     (numeric-sub-n t)
     (numeric-mul-tag t)
     (numeric-shared-slice-read-tag t)

@@ -18,11 +18,11 @@ difference-requires c κs = search needs
 product-requires : tie.Need-product-requires
 product-requires c κs = search needs
 
-quotient-of-requires : tie.Need-quotient-of-requires
-quotient-of-requires c κs = search needs
+ratio-requires : tie.Need-ratio-requires
+ratio-requires c κs = search needs
 
-remainder-of-requires : tie.Need-remainder-of-requires
-remainder-of-requires c κs = search needs
+ratio-requires-2 : tie.Need-ratio-requires-2
+ratio-requires-2 c κs = search needs
 
 returns : tie.Need-returns
 unfolding arithmetics
@@ -38,11 +38,11 @@ returns-3 c = rw (c .before .match .keys3) (ap Of (c .product .ensures))
 
 returns-4 : tie.Need-returns-4
 unfolding arithmetics
-returns-4 c = rw (c .before .match .keys4) (c .quotient-of .ensures)
+returns-4 c = rw (c .before .match .keys4) (c .ratio .ensures)
 
 returns-5 : tie.Need-returns-5
 unfolding arithmetics
-returns-5 c = rw (c .before .match .keys5) (c .remainder-of .ensures)
+returns-5 c = rw (c .before .match .keys5) (c .ratio2 .ensures)
 
 returns-6 : tie.Need-returns-6
 unfolding arithmetics
@@ -61,7 +61,8 @@ unfolding arithmetics
 returns-9 c =
     let s = c .before in
     let r = c .match .rest in
-    let h = past-four 0 (s .args .operator) (search needs) (r .0 .0 .0 .0 .0 .0 .0 .1) (r .0 .0 .0 .0 .0 .0 .1) (r .0 .0 .0 .0 .0 .1) (r .0 .0 .0 .0 .1) in ap (λ (op : Operation). op (s .args .t) (s .args .a) (s .args .b)) (sym (List·getD-eq-default arithmetics noOperation (past-four 4 (s .args .operator) h (r .0 .0 .0 .1) (r .0 .0 .1) (r .0 .1) (r .1))))
+    let h = past-four 0 (s .args .operator) (search needs) (r .0 .0 .0 .0 .0 .0 .0 .1) (r .0 .0 .0 .0 .0 .0 .1) (r .0 .0 .0 .0 .0 .1) (r .0 .0 .0 .0 .1) in
+    ap (λ (op : Operation). op (s .args .t) (s .args .a) (s .args .b)) (sym (List·getD-eq-default arithmetics noOperation (past-four 4 (s .args .operator) h (r .0 .0 .0 .1) (r .0 .0 .1) (r .0 .1) (r .1))))
 
 pub arithmetic-spec : {M : Type 1} → statement M
 arithmetic-spec =
@@ -70,8 +71,8 @@ arithmetic-spec =
     sum-requires
     difference-requires
     product-requires
-    quotient-of-requires
-    remainder-of-requires
+    ratio-requires
+    ratio-requires-2
     returns
     returns-2
     returns-3

@@ -75,7 +75,8 @@ unfolding comparisons
 returns-7 c =
     let s = c .before in
     let r = c .match .rest in
-    let h = past-four 10 (s .args .operator) (s .pre .0) (r .0 .0 .0 .0 .0 .1) (r .0 .0 .0 .0 .1) (r .0 .0 .0 .1) (r .0 .0 .1) in ap (λ (op : Operation). op (s .args .t) (s .args .a) (s .args .b)) (sym (List·getD-eq-default comparisons noOperation {n = s .args .operator - 10} (omega (arith, r .0 .1, r .1, h))))
+    let h = past-four 10 (s .args .operator) (s .pre .0) (r .0 .0 .0 .0 .0 .1) (r .0 .0 .0 .0 .1) (r .0 .0 .0 .1) (r .0 .0 .1) in
+    ap (λ (op : Operation). op (s .args .t) (s .args .a) (s .args .b)) (sym (List·getD-eq-default comparisons noOperation {n = s .args .operator - 10} (omega (arith, r .0 .1, r .1, h))))
 
 pub compared-spec : {M : Type 1} → statement M
 compared-spec =

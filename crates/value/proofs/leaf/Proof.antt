@@ -1,9 +1,9 @@
 -- `value::leaf` meets its contract: by the root's kind.
 -- Assumes nothing.
 use mathlib.Core.Path.{_≡_, refl}
-use Prim.Native.Nat.{ℕ, _+_, _-_, _/_, _%_}
+use Prim.Native.Nat.{ℕ, _-_, _%_}
 use native.Mathlib.Omega.{arith}
-use lib.ListN.{length, getD}
+use lib.ListN.{length}
 use borrow.Author.Needs.{needs}
 use Rattle.expr.proofs.Children.{root-kind}
 use Rattle.expr.proofs.Laws.{wf-two}
@@ -51,23 +51,36 @@ cut-requires-2 c κs = search needs
 returns : tie.Need-returns
 returns c =
     let s = c .before .before .before .before .before .before .before .before in
-    at-variable (s .args .types .now) (s .args .values .now) (treeOf (s .args .rs .now)) (rootTag (s .args .rs .now) / 16) (c .before .before .before .static-type .result) (c .before .lent .result) (c .cut .result) (root-kind (s .args .rs .now) (length (s .args .rs .now) - 2) (s .pre .0) (root-place (s .args .rs .now) (s .pre .0)) 0 (c .before .before .match .keys1)) (c .before .before .before .static-type .ensures) (c .before .lent .ensures) (c .cut .ensures)
+    let ws = s .args .rs .now in
+    let root = root-kind ws (length ws - 2) (s .pre .0) (root-place ws (s .pre .0)) in
+    at-variable (s .args .types .now) (s .args .values .now) (root 0 (c .before .before .match .keys1)) (c .before .before .before .static-type .ensures) (c .before .lent .ensures) (c .cut .ensures)
 
 returns-2 : tie.Need-returns-2
 returns-2 c =
     let s = c .before .before .before .before .before .before .before .before in
-    at-constant (s .args .types .now) (s .args .values .now) (treeOf (s .args .rs .now)) (rootTag (s .args .rs .now) / 16) (getD (s .args .rs .now) (length (s .args .rs .now) - 2 + 1) 0) (c .before .before .before .static-type .result) (c .cut2 .result) (root-kind (s .args .rs .now) (length (s .args .rs .now) - 2) (s .pre .0) (root-place (s .args .rs .now) (s .pre .0)) 1 (c .before .before .match .keys2)) (c .before .before .before .static-type .ensures) (c .cut2 .ensures)
+    let ws = s .args .rs .now in
+    let root = root-kind ws (length ws - 2) (s .pre .0) (root-place ws (s .pre .0)) in
+    at-constant (s .args .types .now) (s .args .values .now) (root 1 (c .before .before .match .keys2)) (c .before .before .before .static-type .ensures) (c .cut2 .ensures)
 
 returns-3 : tie.Need-returns-3
 returns-3 c =
     let s = c .before .before .before .before .before .before in
-    at-true (s .args .types .now) (s .args .values .now) (treeOf (s .args .rs .now)) (root-kind (s .args .rs .now) (length (s .args .rs .now) - 2) (s .pre .0) (root-place (s .args .rs .now) (s .pre .0)) 2 (c .match .keys3))
+    let ws = s .args .rs .now in
+    let root = root-kind ws (length ws - 2) (s .pre .0) (root-place ws (s .pre .0)) in
+    at-true (s .args .types .now) (s .args .values .now) (root 2 (c .match .keys3))
 
 returns-4 : tie.Need-returns-4
 returns-4 c =
     let s = c .before .before .before .before .before .before in
+    let ws = s .args .rs .now in
+    let root = root-kind ws (length ws - 2) (s .pre .0) (root-place ws (s .pre .0)) in
+    let types = s .args .types .now in
+    let values = s .args .values .now in
     let r = c .match .rest in
-    last-leaf (λ (k : ℕ). rootTag (s .args .rs .now) % 16 ≡ k → Of 0 ≡ evaluated (s .args .types .now) (s .args .values .now) (treeOf (s .args .rs .now))) (rootTag (s .args .rs .now) % 16) (s .pre .1 .1) (r .0 .0 .1) (r .0 .1) (r .1) (λ h. at-false (s .args .types .now) (s .args .values .now) (treeOf (s .args .rs .now)) (root-kind (s .args .rs .now) (length (s .args .rs .now) - 2) (s .pre .0) (root-place (s .args .rs .now) (s .pre .0)) 3 h)) (λ h. at-effect (s .args .types .now) (s .args .values .now) (treeOf (s .args .rs .now)) (rootTag (s .args .rs .now) / 16) (root-kind (s .args .rs .now) (length (s .args .rs .now) - 2) (s .pre .0) (root-place (s .args .rs .now) (s .pre .0)) 4 h)) refl
+    last-leaf (λ (k : ℕ). rootTag ws % 16 ≡ k → Of 0 ≡ evaluated types values (treeOf ws)) (rootTag ws % 16) (s .pre .1 .1) (r .0 .0 .1) (r .0 .1) (r .1)
+    (λ h. at-false types values (root 3 h))
+    (λ h. at-effect types values (root 4 h))
+    refl
 
 pub leaf-spec : {M : Type 1} → statement M
 leaf-spec =
