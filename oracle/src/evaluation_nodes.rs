@@ -111,8 +111,8 @@ impl Writer {
         self.probe(statements, part)
     }
 
-    /// A node near the limits: many variables, many statements in which each
-    /// variable goes on to the next, and one long expression.
+    /// A node near the limits: many variables, many assignments, and one long
+    /// expression.
     fn large(&mut self) -> Made {
         let count = 20 + self.random.below(11);
         self.variables = (0..count).map(|_| self.type_code()).collect();
@@ -335,7 +335,7 @@ impl Writer {
 
 /// Compares a part's 64 bits with the variable `first`, and whether it is
 /// negative with the one after it.
-pub fn whole_condition(part: &[Record], first: usize) -> Expression {
+fn whole_condition(part: &[Record], first: usize) -> Expression {
     let wide = inside(part.to_vec(), Record::Cast(S64));
     let zero = inside(constant(1, 0), Record::Cast(S32));
     let sign = join(part.to_vec(), LESS, zero);

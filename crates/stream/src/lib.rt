@@ -58,3 +58,24 @@ pub fn next_sheet(buf: &mut [u8]) -> Next {
         Next::End
     }
 }
+
+// A number in eight bytes; 0 where the input ends.
+fn next_long() -> u64 {
+    let mut head = [0u8; 8];
+    let got = io::read_full(STDIN_FILENO, &mut head);
+    if got < 8 {
+        return 0;
+    }
+    let low = size(head[0], head[1], head[2], head[3]);
+    let high = size(head[4], head[5], head[6], head[7]);
+    (low % 4294967296) as u64 + 4294967296 * ((high % 4294967296) as u64)
+}
+
+// Reads numbers of eight bytes until the list is full.
+pub fn next_values(values: &mut [u64]) {
+    let mut i: usize = 0;
+    while i < values.len() {
+        values[i] = next_long();
+        i += 1;
+    }
+}

@@ -1,5 +1,6 @@
 -- The evaluation: its answers, in the scope document's numbers, from any bytes and any lent values.
 use Prim.Native.Nat.{ℕ}
+use mathlib.Core.Path.{_≡_}
 use mathlib.Core.List.{List, []}
 use mathlib.Core.Bool.{cond}
 use lib.Dec.{ltb}
@@ -41,3 +42,8 @@ nodeOn (reading.Accepted sheet) s number values =
 -- Evaluation: reading's refusals first, then 13, then the node's own.
 unfoldable pub evaluationAnswer : List ℕ → ℕ → List ℕ → Evaluated
 evaluationAnswer s number values = nodeOn (readingOf s) s number values
+
+-- What a C host is given: 0 and the answer, or the refusal's number and place.
+abbrev pub Returned : ℕ → ℕ → Evaluated → Type 0
+Returned r out (outcome value) = (r ≡ 0) × (out ≡ value)
+Returned r out (refused number place) = (r ≡ number) × (out ≡ place)

@@ -9,7 +9,7 @@ ghost use Prim.Native.Nat.{_<_};
 ghost use Rattle.sheet.specs.declared.Reading.the-variants.{Accepted};
 ghost use Rattle.sheet.specs.Sheet.{readingOf};
 ghost use Rattle.blocks.specs.Verdict.{verdictOn};
-ghost use Rattle.verdict.specs.Evaluation.{inNumbers, evaluatedNode, evaluationAnswer};
+ghost use Rattle.verdict.specs.Evaluation.{inNumbers, evaluatedNode, evaluationAnswer, Returned};
 ghost use Rattle.verdict.specs.Block.{blockAnswer, answerFor, withVerdict};
 
 pub enum BlockAnswer {
@@ -89,6 +89,29 @@ pub fn evaluation(s: &[u8], number: u64, values: &[u64]) -> Evaluation
                 return evaluate_number(s, sheet, number, values);
             }
             Evaluation::Refused(13, 0)
+        }
+    }
+}
+
+// The same for a C host: 0, with 1 or 0 in `out` where the condition holds or not; or the refusal's number, with its place
+// in `out`.
+#[no_mangle]
+pub extern "C" fn pomthija_evaluation(s: &[u8], number: u64, values: &[u64], out: &mut u64) -> u64
+    ensures { λ r. ⌜ Returned r (now (out .exit)) (evaluationAnswer (now (s .entry)) number (now (values .entry))) ⌝ }
+{
+    let e = evaluation(s, number, values);
+    match e {
+        Evaluation::Holds => {
+            *out = 1;
+            0
+        }
+        Evaluation::Fails => {
+            *out = 0;
+            0
+        }
+        Evaluation::Refused(k, at) => {
+            *out = at as u64;
+            k
         }
     }
 }
