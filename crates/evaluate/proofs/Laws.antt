@@ -11,6 +11,7 @@ use Rattle.expressions.specs.declared.Expression.{Expression}
 use Rattle.expressions.specs.Expression.{expressionAt, TookExpression}
 use Rattle.expressions.proofs.Accepted.{one-tree}
 use Rattle.nodes.proofs.Statements.{took-front}
+use Rattle.field.specs.Field.{WentOn}
 use Rattle.field.specs.declared.Place.{Place}
 use Rattle.field.specs.declared.Place.the-variants.{At}
 use Rattle.expr.specs.Tree.{Wf, treeOf}
@@ -18,7 +19,7 @@ use Rattle.expr.specs.Statement.{Statement}
 use Rattle.expr.specs.Statement.Statement.{assignment, other}
 use Rattle.nodes.specs.declared.StatementField.{StatementField}
 use Rattle.nodes.specs.Node.{statementAt, statementOf, statementsFrom, StatementRead, TookStatement}
-use Rattle.nodes.proofs.Accepted.{WentOn, statements-back, statements-nth, statements-length, assigned}
+use Rattle.nodes.proofs.Accepted.{statements-back, statements-nth, statements-length, assigned}
 use Rattle.evaluate.specs.declared.Fit.{Fit}
 use Rattle.evaluate.specs.declared.Fit.the-variants.{AllFit, Unfit}
 use Rattle.evaluate.specs.Evaluate.{plainExpr, plainStatement, plainAll, fitsType, unfitFrom, After, goOn, assignedAll, Ran, Valued}

@@ -6,6 +6,7 @@ use mathlib.Core.Bool.{Bool, true, false, not, _&&_, _||_}
 use native.Mathlib.Omega.{arith}
 use lib.ListN.{length, getD, set, take, drop, replicate, length-set, length-append, length-drop, length-take, length-replicate}
 use borrow.Author.Tests.{not-true}
+use Rattle.field.specs.Field.{WentOn}
 use Rattle.field.specs.declared.Place.{Place}
 use Rattle.field.specs.declared.Place.the-variants.{At}
 use Rattle.expr.specs.Tree.{Expr, treeOf}
@@ -15,7 +16,7 @@ use Rattle.expr.specs.Statement.Statement.{assignment, other}
 use Rattle.expressions.specs.Expression.{expressionAt}
 use Rattle.nodes.specs.declared.NodeField.{NodeField}
 use Rattle.nodes.specs.Node.{statementAt, statementOf, statementsFrom, nodeOf}
-use Rattle.nodes.proofs.Accepted.{WentOn, statement-on, assigned}
+use Rattle.nodes.proofs.Accepted.{statement-on, assigned}
 use Rattle.value.specs.declared.Value.{Value}
 use Rattle.value.specs.declared.Value.the-variants.{Of, NoValue}
 use Rattle.value.specs.declared.Truth.{Truth}

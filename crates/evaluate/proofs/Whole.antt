@@ -8,12 +8,12 @@ use lib.ListN.{length, take, drop}
 use lib.Dec.{eqb}
 use Rattle.field.specs.declared.Place.{Place}
 use Rattle.field.specs.declared.Place.the-variants.{At}
-use Rattle.field.specs.Field.{startOf}
+use Rattle.field.specs.Field.{startOf, WentOn}
 use Rattle.expr.specs.Tree.{Expr, treeOf}
 use Rattle.expressions.specs.Expression.{expressionAt}
 use Rattle.nodes.specs.declared.NodeField.{NodeField}
 use Rattle.nodes.specs.Node.{statementsFrom, nodeAt, nodeOf}
-use Rattle.nodes.proofs.Accepted.{WentOn, WholeNode, whole-node}
+use Rattle.nodes.proofs.Accepted.{WholeNode, whole-node}
 use Rattle.value.specs.Run.{run}
 use Rattle.evaluate.specs.declared.Fit.{Fit}
 use Rattle.evaluate.specs.declared.Fit.the-variants.{AllFit, Unfit}

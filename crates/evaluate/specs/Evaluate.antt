@@ -11,12 +11,11 @@ use Rattle.expr.specs.Scan.{hasEffect, hasLoad}
 use mathlib.Core.Path.{_≡_}
 use Rattle.expr.specs.Tree.{treeOf}
 use Prim.Native.Nat.{_≤_}
-use Rattle.field.specs.Field.{startOf}
+use Rattle.field.specs.Field.{startOf, WentOn}
 use Rattle.expressions.specs.Expression.{expressionAt}
 use Rattle.nodes.specs.declared.NodeField.{NodeField}
 use Rattle.nodes.specs.Node.{StatementRead, Node, statementsFrom, nodeAt}
 use Rattle.field.specs.declared.Place.{Place}
-use Rattle.nodes.proofs.Accepted.{WentOn}
 use Rattle.value.specs.declared.Truth.{Truth}
 use Rattle.value.specs.declared.Truth.the-variants as truth
 use Rattle.value.specs.Run.{Choices, run}

@@ -10,7 +10,7 @@ use borrow.Author.Tests.{le-leb, lt-leb}
 use mathlib.Core.Bool.{Bool, true, false, _&&_}
 use lib.Dec.{leb}
 use borrow.Author.Tests.{leb-true, ltb-true}
-use Rattle.field.specs.Field.{little, fieldAt, checkField, countAt, judge, keep, startOf, codeAt}
+use Rattle.field.specs.Field.{little, fieldAt, checkField, countAt, judge, keep, startOf, codeAt, WentOn}
 use Rattle.field.specs.declared.Place.{Place}
 use Rattle.field.specs.declared.Place.the-variants.{At, Refused}
 use Rattle.field.specs.declared.Field.{Field}
@@ -143,3 +143,13 @@ count-at least most s p e =
       atLeast = rw (c .2) (leb-true _ _ (and-left (leb least v) (leb v most) (c .0)));
       atMost = rw (c .2) (leb-true _ _ (and-right (leb least v) (leb v most) (c .0)));
     }
+
+-- reading went on before a field, a code and a count that were read whole
+pub field-on : (n : ℕ) (s : List ℕ) (p : Place) {a : ℕ} → fieldAt n s p .next ≡ At a → WentOn p
+field-on n s p e = let w = field-at n s p e in (w .from, w .there)
+
+pub code-on : (limit : ℕ) (s : List ℕ) (p : Place) {a : ℕ} → codeAt limit s p .next ≡ At a → WentOn p
+code-on limit s p e = let w = code-at limit s p e .whole in (w .from, w .there)
+
+pub count-on : (least most : ℕ) (s : List ℕ) (p : Place) {a : ℕ} → countAt least most s p .next ≡ At a → WentOn p
+count-on least most s p e = let w = count-at least most s p e .whole in (w .from, w .there)

@@ -1,5 +1,6 @@
 -- Fields of a sheet, the place that reading has come to, and checks.
 use Prim.Native.Nat.{ℕ, zero, suc, _+_, _*_}
+use mathlib.Core.Path.{_≡_}
 use mathlib.Core.List.{List}
 use mathlib.Core.Bool.{Bool, true, false, cond, _&&_}
 use lib.ListN.{length, getD}
@@ -25,6 +26,10 @@ bytesOf Eight = 8
 unfoldable pub fieldAt : ℕ → List ℕ → Place → Field
 fieldAt n s (At at) = cond (leb (at + n) (length s)) (record { value = little s at n; next = At (at + n) }) (record { value = 0; next = Refused 1 at })
 fieldAt n s (Refused k at) = record { value = 0; next = Refused k at }
+
+-- reading has not been refused at a place
+abbrev pub WentOn : Place → Type 0
+WentOn p = (b : ℕ) × (p ≡ At b)
 
 -- where a record that is read from a place on starts
 abbrev pub startOf : Place → ℕ

@@ -12,19 +12,9 @@ use Rattle.isa.specs.Modelled.{atFault}
 use Rattle.field.specs.declared.Place.{Place}
 use Rattle.field.specs.declared.Place.the-variants.{At, Refused}
 use Rattle.field.specs.declared.Field.{Field}
-use Rattle.field.specs.Field.{fieldAt, startOf, codeAt, countAt, checkField, judge, keep}
-use Rattle.field.proofs.Fields.{judge-at, check-at, field-at, code-at, count-at, not-both}
+use Rattle.field.specs.Field.{fieldAt, startOf, codeAt, countAt, checkField, judge, keep, WentOn}
+use Rattle.field.proofs.Fields.{judge-at, check-at, field-at, code-at, count-at, not-both, field-on, code-on}
 use Rattle.instructions.specs.Instruction.{registerAt, operandAt, withRegister, registersFrom, registersAt, optionalRegisters, optionalOperand, optionalField, optionalCode, bitOf, mapAt, addressAt, headAt, tailAt, instructionAt}
-
--- reading went on at a place
-abbrev pub WentOn : Place → Type 0
-WentOn p = (b : ℕ) × (p ≡ At b)
-
-field-on : (n : ℕ) (s : List ℕ) (p : Place) {a : ℕ} → fieldAt n s p .next ≡ At a → WentOn p
-field-on n s p e = let w = field-at n s p e in (w .from, w .there)
-
-code-on : (limit : ℕ) (s : List ℕ) (p : Place) {a : ℕ} → codeAt limit s p .next ≡ At a → WentOn p
-code-on limit s p e = let w = code-at limit s p e .whole in (w .from, w .there)
 
 register-on : (s : List ℕ) (p : Place) {a : ℕ} → registerAt s p .next ≡ At a → WentOn p
 unfolding registerAt

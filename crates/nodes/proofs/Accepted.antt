@@ -13,19 +13,12 @@ use Rattle.expr.specs.Tree.{Wf}
 use Rattle.expr.specs.Statement.{Statement}
 use Rattle.field.specs.declared.Place.{Place}
 use Rattle.field.specs.declared.Place.the-variants.{At}
-use Rattle.field.specs.Field.{fieldAt, startOf, codeAt, countAt}
-use Rattle.field.proofs.Fields.{judge-at, check-at, field-at, code-at, count-at, count-most}
+use Rattle.field.specs.Field.{fieldAt, startOf, codeAt, countAt, WentOn}
+use Rattle.field.proofs.Fields.{judge-at, check-at, field-at, code-at, count-at, count-most, count-on}
 use Rattle.expressions.specs.Expression.{expressionAt}
 use Rattle.expressions.proofs.Accepted.{one-tree}
 use Rattle.nodes.proofs.Nodes.{types-inside}
 use Rattle.nodes.specs.Node.{mapAt, assignmentAt, statementAt, statementOf, statementsFrom, typesFrom, typesOf, addressesFrom, nodeAt}
-
--- reading went on at a place
-abbrev pub WentOn : Place → Type 0
-WentOn p = (b : ℕ) × (p ≡ At b)
-
-count-on : (least most : ℕ) (s : List ℕ) (p : Place) {a : ℕ} → countAt least most s p .next ≡ At a → WentOn p
-count-on least most s p e = let w = count-at least most s p e .whole in (w .from, w .there)
 
 map-on : (s : List ℕ) (p : Place) {a : ℕ} → mapAt s p .next ≡ At a → WentOn p
 unfolding mapAt

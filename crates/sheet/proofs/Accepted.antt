@@ -12,8 +12,8 @@ use lib.Seq.{getD-at}
 use borrow.Author.Tests.{ne-eqb}
 use Rattle.field.specs.declared.Place.{Place}
 use Rattle.field.specs.declared.Place.the-variants.{At, Refused}
-use Rattle.field.specs.Field.{fieldAt, startOf, countAt}
-use Rattle.field.proofs.Fields.{judge-at, field-at, count-at, count-most}
+use Rattle.field.specs.Field.{fieldAt, startOf, countAt, WentOn}
+use Rattle.field.proofs.Fields.{judge-at, field-at, count-at, count-most, code-on, count-on}
 use Rattle.isa.specs.declared.Instruction.{Instruction}
 use Rattle.instructions.specs.Instruction.{instructionAt}
 use Rattle.instructions.proofs.Accepted.{instruction-on}
@@ -24,13 +24,6 @@ use Rattle.sheet.specs.declared.Sheet.{Sheet}
 use Rattle.sheet.specs.declared.Reading.the-variants as reading
 use Rattle.sheet.specs.declared.BlockField.{BlockField}
 use Rattle.sheet.specs.Sheet.{Block, instructionsFrom, blockAt, blocksFrom, nodesFrom, sheetAt, answerOf, readingOf}
-
--- reading went on at a place
-abbrev pub WentOn : Place → Type 0
-WentOn p = (b : ℕ) × (p ≡ At b)
-
-count-on : (least most : ℕ) (s : List ℕ) (p : Place) {a : ℕ} → countAt least most s p .next ≡ At a → WentOn p
-count-on least most s p e = let w = count-at least most s p e .whole in (w .from, w .there)
 
 pub instructions-on : (s : List ℕ) (p : Place) (k : ℕ) {a : ℕ} → instructionsFrom s p k .next ≡ At a → WentOn p
 unfolding instructionsFrom
