@@ -59,17 +59,6 @@ struct Writer {
     variables: Vec<u8>,
 }
 
-fn join(mut a: Expression, operator: u8, b: Expression) -> Expression {
-    a.extend(b);
-    a.push(Record::Binary(operator));
-    a
-}
-
-fn inside(mut a: Expression, record: Record) -> Expression {
-    a.push(record);
-    a
-}
-
 fn constant(width: u8, value: u64) -> Expression {
     vec![Record::Constant { width, value }]
 }

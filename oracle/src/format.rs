@@ -93,6 +93,19 @@ impl Record {
 
 pub type Expression = Vec<Record>;
 
+/// The operator applied to both, the operands' records first.
+pub fn join(mut a: Expression, operator: u8, b: Expression) -> Expression {
+    a.extend(b);
+    a.push(Record::Binary(operator));
+    a
+}
+
+/// The expression below a record that takes one.
+pub fn inside(mut a: Expression, record: Record) -> Expression {
+    a.push(record);
+    a
+}
+
 #[derive(Clone, Debug, PartialEq, Eq)]
 pub enum Statement {
     Assign { variable: u8, value: Expression },

@@ -250,7 +250,10 @@ fn make_replay(out: &str, options: &Options) -> Outcome {
     let Some(given) = &options.given else {
         return Err(format!("replay-blocks needs --given\n{USAGE}"));
     };
-    let (cases, bytes) = replay::make(std::slice::from_ref(given))?;
+    let Some((cases, bytes)) = replay::make(std::slice::from_ref(given))? else {
+        println!("{}", verdicts::ABSENT);
+        return Ok(false);
+    };
     output(out, &bytes)?;
     println!("{cases} cases, {} bytes", bytes.len());
     Ok(true)

@@ -51,23 +51,23 @@ fn generated() -> Vec<Case> {
 pub const BY_HAND: &str = include_str!("../vectors/blocks.txt");
 
 /// The file's content: the cases by hand and the generated ones, with the
-/// answers of the given source. A case by hand that it answers otherwise is
-/// an error.
-pub fn make(given: &[String]) -> Result<(usize, Vec<u8>), String> {
+/// answers of the given source; nothing where it is absent. A case by hand
+/// that it answers otherwise is an error.
+pub fn make(given: &[String]) -> Result<Option<(usize, Vec<u8>)>, String> {
     let mut list = cases(BY_HAND)?;
     list.extend(generated());
     let mut input = Vec::new();
     list.iter().for_each(|case| frame(&mut input, &case.sheet));
     let lines = run(given, input).map_err(|error| format!("{}: {error}", given[0]))?;
     if lines.first().is_some_and(|line| line == ABSENT) {
-        return Err(ABSENT.to_string());
+        return Ok(None);
     }
     let mut out = Vec::new();
     for (number, case) in list.iter().enumerate() {
         let line = lines.get(number).map_or("no line", String::as_str);
         out.extend(record(case, line).map_err(|error| format!("case {}: {error}", case.name))?);
     }
-    Ok((list.len(), out))
+    Ok(Some((list.len(), out)))
 }
 
 /// Length (4), sheet, number of blocks (4), a byte for each block.

@@ -113,17 +113,6 @@ struct Writer<'a> {
     variables: Vec<u8>,
 }
 
-fn join(mut a: Expression, operator: u8, b: Expression) -> Expression {
-    a.extend(b);
-    a.push(Record::Binary(operator));
-    a
-}
-
-fn inside(mut a: Expression, record: Record) -> Expression {
-    a.push(record);
-    a
-}
-
 impl Writer<'_> {
     fn below(&mut self, limit: usize) -> usize {
         self.generator.random.below(limit)
