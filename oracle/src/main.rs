@@ -230,20 +230,20 @@ fn answer_evaluations() -> Outcome {
     Ok(true)
 }
 
+fn store(out: &str, cases: usize, bytes: &[u8]) -> Outcome {
+    output(out, bytes)?;
+    println!("{cases} cases, {} bytes", bytes.len());
+    Ok(true)
+}
+
 fn make_vectors(text: &str, out: &str) -> Outcome {
     let cases = vectors::cases(&input_text(text)?)?;
-    let bytes = vectors::encode(&cases);
-    output(out, &bytes)?;
-    println!("{} cases, {} bytes", cases.len(), bytes.len());
-    Ok(true)
+    store(out, cases.len(), &vectors::encode(&cases))
 }
 
 fn make_evaluation_vectors(text: &str, out: &str) -> Outcome {
     let cases = evaluation_vectors::cases(&input_text(text)?)?;
-    let bytes = evaluation_vectors::encode(&cases);
-    output(out, &bytes)?;
-    println!("{} cases, {} bytes", cases.len(), bytes.len());
-    Ok(true)
+    store(out, cases.len(), &evaluation_vectors::encode(&cases))
 }
 
 fn make_replay(out: &str, options: &Options) -> Outcome {
@@ -254,9 +254,7 @@ fn make_replay(out: &str, options: &Options) -> Outcome {
         println!("{}", verdicts::ABSENT);
         return Ok(false);
     };
-    output(out, &bytes)?;
-    println!("{cases} cases, {} bytes", bytes.len());
-    Ok(true)
+    store(out, cases, &bytes)
 }
 
 fn bench_reader(options: &Options) -> Outcome {
