@@ -2,3 +2,4 @@
 pub mod Laws
 pub mod Runs
 pub mod Whole
+pub mod Every

@@ -38,7 +38,7 @@ or-false-right : (a b : Bool) → (a || b) ≡ false → b ≡ false
 or-false-right true b h = cc
 or-false-right false b h = h
 
-is-plain : (e : Expr) → plainExpr e ≡ true → Plain e
+pub is-plain : (e : Expr) → plainExpr e ≡ true → Plain e
 is-plain e h =
     let none = not-true _ h in
     record { noLoad = or-false-right (hasEffect e) (hasLoad e) none; noEffect = or-false-left (hasEffect e) (hasLoad e) none }

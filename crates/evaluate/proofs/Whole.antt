@@ -25,7 +25,7 @@ use Rattle.evaluate.proofs.Laws.{both-left, both-right}
 not-both : {v : ℕ} → Unfit v ≡ AllFit → ⊥
 not-both e = let z : _≡_ {A = ℕ} 0 1 = cc in omega arith
 
-fit-enough : (v : ℕ) (types values : List ℕ) → unfitFrom v types values ≡ AllFit → length types ≤ length values
+pub fit-enough : (v : ℕ) (types values : List ℕ) → unfitFrom v types values ≡ AllFit → length types ≤ length values
 unfolding unfitFrom
 fit-enough v [] values e = omega arith
 fit-enough v (t ∷ types) [] e = absurd (not-both e)

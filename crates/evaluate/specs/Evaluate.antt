@@ -10,7 +10,7 @@ use Rattle.expr.specs.Statement.Statement.{assignment, other}
 use Rattle.expr.specs.Scan.{hasEffect, hasLoad}
 use mathlib.Core.Path.{_≡_}
 use Rattle.expr.specs.Tree.{treeOf}
-use Prim.Native.Nat.{_≤_}
+use Prim.Native.Nat.{_≤_, _<_}
 use Rattle.field.specs.Field.{startOf, WentOn}
 use Rattle.expressions.specs.Expression.{expressionAt}
 use Rattle.nodes.specs.declared.NodeField.{NodeField}
@@ -91,10 +91,27 @@ startValues n values = take n values ++ drop n (replicate 32 0)
 abbrev pub onValues : ℕ → List ℕ → Choices
 onValues n values = record {
   start = λ v. getD (startValues n values) v 0;
-  memory = λ i t a. 0;
+  memory = λ i path t a. 0;
+  contents = λ t a. 0;
   effects = λ i path. 0;
   renewed = λ i v. 0;
 }
+
+-- Evaluation: the choices that start from the lent values of the declared variables; all else is free.
+abbrev pub StartsFrom : List ℕ → List ℕ → Choices → Type 0
+StartsFrom types values c = (v : ℕ) → v < length types → c .start v ≡ getD values v 0
+
+-- Evaluation: what it says of a run's outcome: whether the condition holds, or that there is none (14); other refusals say nothing.
+abbrev pub Gives : Evaluation → Truth → Type 0
+Gives Holds t = t ≡ truth.Holds
+Gives Fails t = t ≡ truth.Fails
+Gives (Refused number place) t = number ≡ 14 → t ≡ truth.NoOutcome
+
+-- an evaluation that comes from the node's run: whether the condition holds, or 14
+abbrev pub FromRun : Evaluation → Type 0
+FromRun Holds = Unit {0}
+FromRun Fails = Unit {0}
+FromRun (Refused number place) = number ≡ 14
 
 -- Turned back, 16: the place is the lowest such variable's number.
 abbrev pub onFit : Fit → Evaluation → Evaluation

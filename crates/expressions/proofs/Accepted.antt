@@ -16,7 +16,7 @@ use Rattle.expr.proofs.Laws.{formed, trees-nil, count-nil, trees-snoc, count-sn
 use Rattle.expressions.specs.Expression.{hasArgument, argumentOk, argumentAt, constantAt, fitsWidth, depthAfter, recordAt, Taken, takenMore, takenFrom, expressionAt}
 use Rattle.expressions.proofs.Lists.{taken-length}
 
-constant-at : (kind : ℕ) (s : List ℕ) (p : Place) {a : ℕ} → constantAt kind s p .next ≡ At a → (b : ℕ) × (p ≡ At b)
+pub constant-at : (kind : ℕ) (s : List ℕ) (p : Place) {a : ℕ} → constantAt kind s p .next ≡ At a → (b : ℕ) × (p ≡ At b)
 unfolding constantAt
 constant-at kind s p {a} e = go (eqb kind 1) refl
   where
@@ -28,7 +28,7 @@ constant-zero : (kind : ℕ) (s : List ℕ) (p : Place) → (kind ≡ 1 → ⊥)
 unfolding constantAt
 constant-zero kind s p other = rw (ne-eqb kind 1 other)
 
-argument-at : (variables kind : ℕ) (s : List ℕ) (p : Place) {a : ℕ} → argumentAt variables kind s p .next ≡ At a → (b : ℕ) × (p ≡ At b)
+pub argument-at : (variables kind : ℕ) (s : List ℕ) (p : Place) {a : ℕ} → argumentAt variables kind s p .next ≡ At a → (b : ℕ) × (p ≡ At b)
 unfolding argumentAt
 argument-at variables kind s p {a} e = go (hasArgument kind) refl
   where

@@ -2,3 +2,4 @@
 pub mod OneRecord
 pub mod Lists
 pub mod Accepted
+pub mod Variables

@@ -2,3 +2,4 @@
 pub mod Statements
 pub mod Nodes
 pub mod Accepted
+pub mod Variables

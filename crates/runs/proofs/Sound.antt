@@ -34,7 +34,7 @@ use Rattle.runs.specs.Concrete.{Status, Processor, Choice, value, part, 
 use Rattle.runs.specs.Agreement.{Allows, AllowsValue, FlagsAgree, Agrees, operandWellFormed, Accepted, AllAccepted}
 use Rattle.runs.proofs.Arithmetic.{byTest}
 use Rattle.runs.proofs.Outcome.{Matches}
-use Rattle.runs.proofs.Registers.{Form, low-byte, high-byte, word, double, quad, form, bits-law, reads, part-below, Stores, stores-known, writes, never, and-right}
+use Rattle.runs.proofs.Registers.{Form, low-byte, high-byte, word, double, quad, form, bits-law, reads, part-below, Stores, stores-known, writes, never, and-left, and-right}
 use Rattle.runs.proofs.Forget.{less-known, less-both, forgets, forgotten-agrees}
 use Rattle.runs.proofs.Effects.{right, right-alone, EffectAgrees, arith-agrees, kept-agrees}
 use Rattle.alu.specs.declared.Flag.the-variants as flag
@@ -270,6 +270,14 @@ last-mnemonic m called register two absent h above =
     )
     at (and-right (not called) _ h))))
 
+-- a modelled mnemonic above cmc has a register first
+register-first : (m : ℕ) (called register rest : Bool) → (not called && (leb 1 m && leb m 3 || (register && rest))) ≡ true
+    → leb m 3 ≡ false → register ≡ true
+register-first m called register rest h t =
+    byTest (leb 1 m)
+    (λ u. and-left register rest (rw (u, t) at (and-right (not called) _ h)))
+    (λ u. and-left register rest (rw u at (and-right (not called) _ h)))
+
 and-false : (a b : Bool) → (a && b) ≡ false → a ≡ true → b ≡ false
 and-false true b h t = h
 and-false false b h t = never t
@@ -306,16 +314,16 @@ module _ (s : State) (p : Processor) (free : Choice) (agrees : Agrees s p) (i : 
       (λ v. let above : 12 < m = leb-false m 12 v in
       rw (t, u, v) (unary-agrees d ok one above (last above) declared (readOf s d) refl))))
 
-  first-agrees : (o : Operand) → operandWellFormed o ≡ true → operandWellFormed (i .second) ≡ true
+  first-agrees : (o : Operand) → isRegister o ≡ true → operandWellFormed o ≡ true → operandWellFormed (i .second) ≡ true
       → leb (i .mnemonic) 3 ≡ false → (12 < i .mnemonic → i .mnemonic ≤ 15)
       → sizesDiffer o (i .second) ≡ false
       → (not (eqb (i .mnemonic) 4) && (outside o || outside (i .second))) ≡ false
       → undeclared (i .mnemonic) (i .flags) ≡ false
       → Agrees (onFirst s i o) (onOperand p i free o)
-  first-agrees Absent ok ok-o later last sizes inside declared = agrees
-  first-agrees (Reg d) ok ok-o later last sizes inside declared = register-agrees d ok ok-o later last sizes inside declared
-  first-agrees (Imm x) ok ok-o later last sizes inside declared = agrees
-  first-agrees Mem ok ok-o later last sizes inside declared = agrees
+  first-agrees Absent there ok ok-o later last sizes inside declared = never there
+  first-agrees (Reg d) there ok ok-o later last sizes inside declared = register-agrees d ok ok-o later last sizes inside declared
+  first-agrees (Imm x) there ok ok-o later last sizes inside declared = never there
+  first-agrees Mem there ok ok-o later last sizes inside declared = never there
 
   modelled-agrees : Accepted i → modelled i ≡ true → Agrees (modelledStep s i) (byManual p i free)
   unfolding modelledStep byManual wholeOf
@@ -336,7 +344,9 @@ module _ (s : State) (p : Processor) (free : Choice) (agrees : Agrees s p) (i : 
       }))
       (λ t.
       rw t
-      (first-agrees (i .first) (accepted .first) (accepted .second) t
+      (first-agrees (i .first)
+      (register-first m (i .call) (isRegister (i .first)) _ is t)
+      (accepted .first) (accepted .second) t
       (last-mnemonic m (i .call) (isRegister (i .first)) (not (isAbsent (i .second))) (isAbsent (i .second)) is)
       (or-false-left differ other both) (or-false-right differ other both) (or-false-right (differ || other) lacking none)))
 

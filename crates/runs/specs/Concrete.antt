@@ -166,19 +166,6 @@ onRegister p i free d =
     (cond (eqb (i .mnemonic) 5) (assign p d (2 ^ d .size - 1 - part p d))
     (cond (leb (i .mnemonic) 12) (binary p free (i .mnemonic) d (i .second)) (alone p (i .mnemonic) d)))
 
-abbrev pub onOperand : Processor → Instruction → Choice → Operand → Processor
-onOperand p i free Absent = p
-onOperand p i free (Reg d) = onRegister p i free d
-onOperand p i free (Imm x) = p
-onOperand p i free Mem = p
-
--- a modelled instruction, by the manual
-unfoldable pub byManual : Processor → Instruction → Choice → Processor
-byManual p i free =
-    cond (leb (i .mnemonic) 3)
-    (withStatus p (withCf (p .status) (carryAfter (i .mnemonic) (p .status .cf))))
-    (onOperand p i free (i .first))
-
 -- the register k is one of the first n that are declared
 unfoldable pub declares : List Register → ℕ → ℕ → Bool
 declares rs zero k = false
@@ -207,6 +194,19 @@ byDeclaration p i free =
       register = λ k. cond (declares (i .written) (min (i .count) 8) k) (free .registers k) (p .register k);
       status = declaredStatus (i .flags) (free .status) (p .status);
     }
+
+abbrev pub onOperand : Processor → Instruction → Choice → Operand → Processor
+onOperand p i free Absent = byDeclaration p i free
+onOperand p i free (Reg d) = onRegister p i free d
+onOperand p i free (Imm x) = byDeclaration p i free
+onOperand p i free Mem = byDeclaration p i free
+
+-- a modelled instruction, by the manual
+unfoldable pub byManual : Processor → Instruction → Choice → Processor
+byManual p i free =
+    cond (leb (i .mnemonic) 3)
+    (withStatus p (withCf (p .status) (carryAfter (i .mnemonic) (p .status .cf))))
+    (onOperand p i free (i .first))
 
 -- one instruction: a call, or what is like one, changes anything
 unfoldable pub executed : Processor → Instruction → Choice → Processor

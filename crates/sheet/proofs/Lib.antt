@@ -1,3 +1,4 @@
 -- laws of the definitions, which other proofs cite
 pub mod Sections
 pub mod Accepted
+pub mod Refusals

@@ -21,7 +21,7 @@ use Rattle.value.specs.declared.Value.the-variants.{Of, NoValue}
 use Rattle.value.specs.declared.Truth.{Truth}
 use Rattle.value.specs.declared.Truth.the-variants.{Holds, Fails, NoOutcome}
 use Rattle.value.specs.Operators.{Typed, integerOf, truthOf, flag, taken, divides, Operation, arithmetics, shifts, comparisons, noOperation, onCommon, onLeft, operators, noOperator, strict, connect, operate, choose}
-use Rattle.value.specs.Evaluation.{Values, Memory, Effects, under, loaded, ev, evaluated}
+use Rattle.value.specs.Evaluation.{Values, Contents, Memory, Effects, under, loaded, ev, evaluated}
 use Rattle.value.specs.Root.{rootTag, logicRoot, settles, blank}
 
 -- a number past four keys
@@ -162,7 +162,7 @@ choose-typed t Holds u v h k = h
 choose-typed t Fails u v h k = k
 choose-typed t NoOutcome u v h k = tt
 
-loaded-typed : (t s : ℕ) (m : Memory) (v : Value) → Typed t (loaded t s m v)
+loaded-typed : (t s : ℕ) (m : Contents) (v : Value) → Typed t (loaded t s m v)
 loaded-typed t s m (Of x) = cut-lt t (m t (convert s 8 x))
 loaded-typed t s m NoValue = tt
 
@@ -195,20 +195,20 @@ ev-typed types ρ σ m f (constant w x) = cut-lt (constantType w) x
 ev-typed types ρ σ m f conditionTrue = integer-typed Holds
 ev-typed types ρ σ m f conditionFalse = integer-typed Fails
 ev-typed types ρ σ m f (effect t) = cut-lt t (f [])
-ev-typed types ρ σ m f (load t a) = loaded-typed t (typeOf types a) m (ev types σ σ m (under 0 f) a)
-ev-typed types ρ σ m f (cast t a) = taken-typed (typeOf types a) t (ev types ρ σ m (under 0 f) a)
+ev-typed types ρ σ m f (load t a) = loaded-typed t (typeOf types a) (m []) (ev types σ σ (under 0 m) (under 0 f) a)
+ev-typed types ρ σ m f (cast t a) = taken-typed (typeOf types a) t (ev types ρ σ (under 0 m) (under 0 f) a)
 ev-typed types ρ σ m f (binary o a b) =
-    operate-typed o (typeOf types a) (typeOf types b) (ev types ρ σ m (under 0 f) a) (ev types ρ σ m (under 1 f) b)
+    operate-typed o (typeOf types a) (typeOf types b) (ev types ρ σ (under 0 m) (under 0 f) a) (ev types ρ σ (under 1 m) (under 1 f) b)
 ev-typed types ρ σ m f (ternary c a b) =
     let t = together (typeOf types a) (typeOf types b) in
-    let u = ev types ρ σ m (under 1 f) a in
-    let v = ev types ρ σ m (under 2 f) b in
-    choose-typed t (truthOf (ev types ρ σ m (under 0 f) c)) (taken (typeOf types a) t u) (taken (typeOf types b) t v) (taken-typed (typeOf types a) t u) (taken-typed (typeOf types b) t v)
+    let u = ev types ρ σ (under 1 m) (under 1 f) a in
+    let v = ev types ρ σ (under 2 m) (under 2 f) b in
+    choose-typed t (truthOf (ev types ρ σ (under 0 m) (under 0 f) c)) (taken (typeOf types a) t u) (taken (typeOf types b) t v) (taken-typed (typeOf types a) t u) (taken-typed (typeOf types b) t v)
 
 module _ (types values : List ℕ) where
   pub evaluated-typed : (e : Expr) {t : ℕ} {v : Value} → t ≡ typeOf types e → v ≡ evaluated types values e → Typed t v
   unfolding evaluated
-  evaluated-typed e et ee = rw (et, ee) (ev-typed types (λ n. getD values n 0) (λ n. getD values n 0) (λ t a. 0) (λ path. 0) e)
+  evaluated-typed e et ee = rw (et, ee) (ev-typed types (λ n. getD values n 0) (λ n. getD values n 0) (λ path t a. 0) (λ path. 0) e)
 
   -- evaluation by the root
   evaluated-load : (t : ℕ) (a : Expr) → evaluated types values (load t a) ≡ blank (evaluated types values a)

@@ -15,42 +15,54 @@ use Rattle.value.specs.Operators.{chosen, taken, truthOf, operate, choos
 abbrev pub Values : Type 0
 Values = ℕ → ℕ
 
--- 'Values', loads: memory yields a number for each type and address, so two loads of one type and address agree.
-abbrev pub Memory : Type 0
-Memory = ℕ → ℕ → ℕ
+-- a choice for each place of a tree: by its path from the root, the children's places one after the other
+abbrev pub ByPath : Type 0 → Type 0
+ByPath A = List ℕ → A
 
--- 'Values', effects: each occurrence has its own value: a number for each path in the tree, by the children's places.
-abbrev pub Effects : Type 0
-Effects = List ℕ → ℕ
-
--- the effects of the tree's child at place k
-abbrev pub under : ℕ → Effects → Effects
+-- the choices for the tree's child at place k
+abbrev pub under : {A : Type 0} → ℕ → ByPath A → ByPath A
 under k f path = f (k ∷ path)
 
+-- 'Values', effects: each occurrence has its own value.
+abbrev pub Effects : Type 0
+Effects = ByPath ℕ
+
+-- what stands in memory, for each type and address
+abbrev pub Contents : Type 0
+Contents = ℕ → ℕ → ℕ
+
+-- 'Values', loads: what each load of a tree finds. Nothing makes two loads agree.
+abbrev pub Memory : Type 0
+Memory = ByPath Contents
+
+-- 'Values', loads: two loads of one address in one condition agree: all of its loads find the same contents.
+abbrev pub shared : Contents → Memory
+shared m path = m
+
 -- 'Values', a load of type t: what memory has at the address, a value of type s taken as a pointer
-abbrev pub loaded : ℕ → ℕ → Memory → Value → Value
+abbrev pub loaded : ℕ → ℕ → Contents → Value → Value
 loaded t s m (Of x) = chosen t (m t (convert s 8 x))
 loaded t s m NoValue = NoValue
 
--- 'Values': the value of an expression over variables of these types. ρ gives the variables' values outside loads, σ from a load inwards, m is
--- memory, f the effects' values.
+-- 'Values': the value of an expression over variables of these types. ρ gives the variables' values outside loads, σ from a load inwards, m what
+-- its loads find in memory, f the effects' values.
 unfoldable pub ev : List ℕ → Values → Values → Memory → Effects → Expr → Value
 ev types ρ σ m f (variable n) = chosen (getD types n 0) (ρ n)
 ev types ρ σ m f (constant w x) = chosen (constantType w) x
 ev types ρ σ m f conditionTrue = Of 1
 ev types ρ σ m f conditionFalse = Of 0
 ev types ρ σ m f (effect t) = chosen t (f [])
-ev types ρ σ m f (load t a) = loaded t (typeOf types a) m (ev types σ σ m (under 0 f) a)
-ev types ρ σ m f (cast t a) = taken (typeOf types a) t (ev types ρ σ m (under 0 f) a)
+ev types ρ σ m f (load t a) = loaded t (typeOf types a) (m []) (ev types σ σ (under 0 m) (under 0 f) a)
+ev types ρ σ m f (cast t a) = taken (typeOf types a) t (ev types ρ σ (under 0 m) (under 0 f) a)
 ev types ρ σ m f (binary o a b) =
-    operate o (typeOf types a) (typeOf types b) (ev types ρ σ m (under 0 f) a) (ev types ρ σ m (under 1 f) b)
+    operate o (typeOf types a) (typeOf types b) (ev types ρ σ (under 0 m) (under 0 f) a) (ev types ρ σ (under 1 m) (under 1 f) b)
 ev types ρ σ m f (ternary c a b) =
     let t = together (typeOf types a) (typeOf types b) in
-    choose (truthOf (ev types ρ σ m (under 0 f) c)) (taken (typeOf types a) t (ev types ρ σ m (under 1 f) a)) (taken (typeOf types b) t (ev types ρ σ m (under 2 f) b))
+    choose (truthOf (ev types ρ σ (under 0 m) (under 0 f) c)) (taken (typeOf types a) t (ev types ρ σ (under 1 m) (under 1 f) a)) (taken (typeOf types b) t (ev types ρ σ (under 2 m) (under 2 f) b))
 
 -- The value of an expression on lent values, extra ones unread; what a load or an effect yields is then 0.
 unfoldable pub evaluated : List ℕ → List ℕ → Expr → Value
-evaluated types values e = ev types (λ n. getD values n 0) (λ n. getD values n 0) (λ t a. 0) (λ path. 0) e
+evaluated types values e = ev types (λ n. getD values n 0) (λ n. getD values n 0) (λ path t a. 0) (λ path. 0) e
 
 -- a condition on lent values
 abbrev pub settled : List ℕ → List ℕ → Expr → Truth

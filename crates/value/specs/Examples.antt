@@ -2,8 +2,9 @@
 use mathlib.Core.Path.{_≡_, refl}
 use mathlib.Core.List.{List, [], _∷_, map}
 use Prim.Native.Nat.{ℕ, _-_, _^_}
+use lib.ListN.{getD}
 use Rattle.expr.specs.Tree.{Expr}
-use Rattle.expr.specs.Tree.Expr.{variable, constant, conditionTrue, conditionFalse, cast, binary, ternary}
+use Rattle.expr.specs.Tree.Expr.{variable, constant, conditionTrue, conditionFalse, load, cast, binary, ternary}
 use Rattle.expr.specs.Types.{promoted, common, constantType, binaryType, typeOf}
 use Rattle.arith.specs.Numbers.{bits, negative, number, residue, convert, quotient, remainder, shiftRight, count, below}
 use Rattle.value.specs.declared.Value.{Value}
@@ -113,9 +114,10 @@ side-needed : all (binary 16 conditionTrue zeroth ∷ binary 16 zeroth condition
 unfolding types values evaluated ev typeOf constantType binaryType promoted common operate operators arithmetics shifts comparisons convert number negative residue bits quotient
 side-needed = refl
 
--- a run from variables that are all 7, where a 0-statement makes each 5
+-- a run from variables that are all 7, where a 0-statement makes each 5; in an assignment a load that is a left operand finds 0, one that is a right
+-- operand 1, and in the condition every load finds 3
 abbrev free : Choices
-free = record { start = λ n. 7; memory = λ i t a. 0; effects = λ i path. 0; renewed = λ i n. 5 }
+free = record { start = λ n. 7; memory = λ i path t a. getD path 0 0; contents = λ t a. 3; effects = λ i path. 0; renewed = λ i n. 5 }
 
 abbrev is : ℕ → Expr
 is n = binary 10 s32 (constant 4 n)
@@ -129,3 +131,13 @@ renewed = refl
 no-outcome : run types (assignment 1 zeroth ∷ []) (is 7) free ≡ NoOutcome
 unfolding runFrom types ev typeOf constantType binaryType promoted common operate operators arithmetics shifts comparisons convert number negative residue bits quotient
 no-outcome = refl
+
+-- two loads of one address in an assignment may differ
+loads-differ : run types (assignment 0 (binary 1 (load 2 s64) (load 2 s64)) ∷ []) (is (2 ^ 32 - 1)) free ≡ Holds
+unfolding runFrom types ev typeOf constantType binaryType promoted common operate operators arithmetics shifts comparisons convert number negative residue bits quotient
+loads-differ = refl
+
+-- in the condition they agree
+loads-agree : run types [] (binary 10 (load 2 s64) (load 2 s64)) free ≡ Holds
+unfolding runFrom types ev typeOf constantType binaryType promoted common operate operators arithmetics shifts comparisons convert number negative residue bits quotient
+loads-agree = refl

@@ -11,13 +11,15 @@ use Rattle.value.specs.declared.Value.the-variants.{Of, NoValue}
 use Rattle.value.specs.declared.Truth.{Truth}
 use Rattle.value.specs.declared.Truth.the-variants.{NoOutcome}
 use Rattle.value.specs.Operators.{truthOf}
-use Rattle.value.specs.Evaluation.{Values, Memory, Effects, ev}
+use Rattle.value.specs.Evaluation.{Values, Contents, Memory, Effects, shared, ev}
 
--- 'Machine': what is free in a run: the variables' values at the start; and for the statement of each number, counted from 0, the memory that it
--- finds, its effects, and, if it is a 0-statement, the variables' new values. The condition's number is the count of statements.
+-- 'Machine': what is free in a run: the variables' values at the start; and for the statement of each number, counted from 0, what its
+-- loads find in memory, its effects, and, if it is a 0-statement, the variables' new values; for the condition what memory holds, and its effects,
+-- by the count of statements as its number.
 pub record Choices : Type 0 where
   pub start : Values
   pub memory : ℕ → Memory
+  pub contents : Contents
   pub effects : ℕ → Effects
   pub renewed : ℕ → Values
 
@@ -33,7 +35,7 @@ given NoValue next = NoOutcome
 -- 'Machine': the run from the statement of number i on, at the values ρ. An assignment sets its variable, a 0-statement sets each variable to any
 -- value of its type; the outcome is whether the condition then holds.
 unfoldable pub runFrom : List ℕ → Choices → Expr → ℕ → List Statement → Values → Truth
-runFrom types c condition i [] ρ = truthOf (ev types ρ ρ (c .memory i) (c .effects i) condition)
+runFrom types c condition i [] ρ = truthOf (ev types ρ ρ (shared (c .contents)) (c .effects i) condition)
 runFrom types c condition i (assignment v e ∷ rest) ρ =
     given (ev types ρ ρ (c .memory i) (c .effects i) e) (λ x. runFrom types c condition (suc i) rest (update v x ρ))
 runFrom types c condition i (other ∷ rest) ρ = runFrom types c condition (suc i) rest (c .renewed i)

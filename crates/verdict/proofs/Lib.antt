@@ -2,4 +2,6 @@
 pub mod Answers
 pub mod Sound
 pub mod Forced
+pub mod Public
 pub mod Nodes
+pub mod Outcomes

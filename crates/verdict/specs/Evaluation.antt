@@ -1,5 +1,5 @@
 -- The evaluation: its answers, in the scope document's numbers, from any bytes and any lent values.
-use Prim.Native.Nat.{ℕ}
+use Prim.Native.Nat.{ℕ, zero, suc}
 use mathlib.Core.Path.{_≡_}
 use mathlib.Core.List.{List, []}
 use mathlib.Core.Bool.{cond}
@@ -12,6 +12,9 @@ use Rattle.sheet.specs.declared.Reading.the-variants as reading
 use Rattle.sheet.specs.Sheet.{sheetAt, readingOf}
 use Rattle.evaluate.specs.declared.Evaluation.{Evaluation}
 use Rattle.evaluate.specs.declared.Evaluation.the-variants as evaluation
+use Rattle.value.specs.declared.Truth.{Truth}
+use Rattle.value.specs.declared.Truth.the-variants as truth
+use Rattle.value.specs.Run.{Choices, run}
 use Rattle.evaluate.specs.Evaluate.{evaluationOf}
 
 -- An answer in numbers: 1 where the condition holds, 0 where it does not; a refusal has a number and a place.
@@ -28,10 +31,17 @@ inNumbers (evaluation.Refused number place) = refused number place
 abbrev pub noNode : Node
 noNode = record { types = []; statements = []; condition = conditionTrue; addresses = [] }
 
+-- the node of that number
+abbrev pub nodeNumbered : List ℕ → ℕ → Node
+nodeNumbered s number = getD (sheetAt s .nodes .list) number noNode
+
+-- where its record starts
+abbrev pub nodePlace : List ℕ → ℕ → ℕ
+nodePlace s number = getD (sheetAt s .nodes .places) number 0
+
 -- the evaluation of the node of that number
 unfoldable pub evaluatedNode : List ℕ → ℕ → List ℕ → Evaluation
-evaluatedNode s number values =
-    evaluationOf (getD (sheetAt s .nodes .list) number noNode) (getD (sheetAt s .nodes .places) number 0) values
+evaluatedNode s number values = evaluationOf (nodeNumbered s number) (nodePlace s number) values
 
 -- Turned back, evaluation: 13 where there is no node of that number, at place 0.
 abbrev pub nodeOn : Reading → List ℕ → ℕ → List ℕ → Evaluated
@@ -47,3 +57,18 @@ evaluationAnswer s number values = nodeOn (readingOf s) s number values
 abbrev pub Returned : ℕ → ℕ → Evaluated → Type 0
 Returned r out (outcome value) = (r ≡ 0) × (out ≡ value)
 Returned r out (refused number place) = (r ≡ number) × (out ≡ place)
+
+-- the run of the node of that number
+abbrev pub nodeRun : List ℕ → ℕ → Choices → Truth
+nodeRun s number c = run (nodeNumbered s number .types) (nodeNumbered s number .statements) (nodeNumbered s number .condition) c
+
+-- What an answer says of a run's outcome: 1 that the condition holds, 0 that it does not, 14 that there is none; other refusals say nothing.
+abbrev pub SaysOf : Evaluated → Truth → Type 0
+SaysOf (outcome zero) t = t ≡ truth.Fails
+SaysOf (outcome (suc value)) t = t ≡ truth.Holds
+SaysOf (refused number place) t = number ≡ 14 → t ≡ truth.NoOutcome
+
+-- an answer that comes from the node's run: an outcome, or 14
+abbrev pub AnswerFromRun : Evaluated → Type 0
+AnswerFromRun (outcome value) = Unit {0}
+AnswerFromRun (refused number place) = number ≡ 14
