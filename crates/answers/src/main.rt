@@ -2,28 +2,28 @@
 // line for each: what reading it answers.
 use sheet::Reading;
 use sheet::Sheet;
-use stream::Next;
+use test_io::Next;
 
 // The three counts, and where the records start.
 fn accepted(sheet: Sheet) {
     let i = sheet.instructions;
     let b = sheet.blocks;
     let n = sheet.nodes;
-    stream::word(b"accepted");
-    stream::number(i.count);
-    stream::number(b.count);
-    stream::number(n.count);
-    stream::word(b" at");
-    stream::number(i.at as u64);
-    stream::number(b.at as u64);
-    stream::number(n.at as u64);
+    test_io::word(b"accepted");
+    test_io::number(i.count);
+    test_io::number(b.count);
+    test_io::number(n.count);
+    test_io::word(b" at");
+    test_io::number(i.at as u64);
+    test_io::number(b.at as u64);
+    test_io::number(n.at as u64);
 }
 
 fn refused(k: u64, at: usize) {
-    stream::word(b"refused");
-    stream::number(k);
-    stream::word(b" at");
-    stream::number(at as u64);
+    test_io::word(b"refused");
+    test_io::number(k);
+    test_io::word(b" at");
+    test_io::number(at as u64);
 }
 
 fn answer(s: &[u8]) {
@@ -32,12 +32,12 @@ fn answer(s: &[u8]) {
         Reading::Accepted(sheet) => accepted(sheet),
         Reading::Refused(k, at) => refused(k, at),
     }
-    stream::word(b"\n");
+    test_io::word(b"\n");
 }
 
 // Answers one sheet, and whether there was one.
 fn answer_next(buf: &mut [u8]) -> bool {
-    let next = stream::next_sheet(buf);
+    let next = test_io::next_sheet(buf);
     match next {
         Next::End => false,
         Next::Sheet(n) => {
@@ -57,6 +57,6 @@ fn answer_all(buf: &mut [u8]) {
 }
 
 fn main() {
-    let mut buf = stream::room();
+    let mut buf = test_io::room();
     answer_all(&mut buf);
 }

@@ -1,31 +1,31 @@
 // A test program: it reads sheets from standard input, each behind its length in 4 bytes, little-endian, and writes one
 // line for each: the verdict on every block (a1 always, v1 never, u undecided, n no branch), or the refusal.
+use pomthija::BlockAnswer;
 use sheet::Reading;
-use stream::Next;
-use verdict::BlockAnswer;
+use test_io::Next;
 
 fn refused(k: u64, at: usize) {
-    stream::word(b"refused");
-    stream::number(k);
-    stream::word(b" at");
-    stream::number(at as u64);
+    test_io::word(b"refused");
+    test_io::number(k);
+    test_io::word(b" at");
+    test_io::number(at as u64);
 }
 
 fn say(a: BlockAnswer) {
     match a {
-        BlockAnswer::NoBranch => stream::word(b" n"),
-        BlockAnswer::Undecided => stream::word(b" u"),
-        BlockAnswer::Always => stream::word(b" a1"),
-        BlockAnswer::Never => stream::word(b" v1"),
+        BlockAnswer::NoBranch => test_io::word(b" n"),
+        BlockAnswer::Undecided => test_io::word(b" u"),
+        BlockAnswer::Always => test_io::word(b" a1"),
+        BlockAnswer::Never => test_io::word(b" v1"),
         BlockAnswer::Refused(k, at) => refused(k, at),
     }
 }
 
 fn say_blocks(s: &[u8], n: u64) {
-    stream::word(b"blocks");
+    test_io::word(b"blocks");
     let mut i: u64 = 0;
     while i < n {
-        say(verdict::block_verdict(s, i));
+        say(pomthija::block_verdict(s, i));
         i += 1;
     }
 }
@@ -39,12 +39,12 @@ fn answer(s: &[u8]) {
         }
         Reading::Refused(k, at) => refused(k, at),
     }
-    stream::word(b"\n");
+    test_io::word(b"\n");
 }
 
 // Answers one sheet, and whether there was one.
 fn answer_next(buf: &mut [u8]) -> bool {
-    let next = stream::next_sheet(buf);
+    let next = test_io::next_sheet(buf);
     match next {
         Next::End => false,
         Next::Sheet(n) => {
@@ -64,6 +64,6 @@ fn answer_all(buf: &mut [u8]) {
 }
 
 fn main() {
-    let mut buf = stream::room();
+    let mut buf = test_io::room();
     answer_all(&mut buf);
 }

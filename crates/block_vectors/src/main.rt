@@ -1,8 +1,8 @@
 // Replays stored sheets with the verdicts on their blocks, and says which case is answered otherwise. The list on
 // standard input: for each case the sheet's length (4 bytes), the sheet, the number of blocks (4 bytes), and a byte for
 // each block (0 no branch, 1 undecided, 2 always, 3 never).
-use stream::Next;
-use verdict::BlockAnswer;
+use pomthija::BlockAnswer;
+use test_io::Next;
 
 fn code(a: BlockAnswer) -> u8 {
     match a {
@@ -16,7 +16,7 @@ fn code(a: BlockAnswer) -> u8 {
 
 // Whether there is no block of that number.
 fn is_missing(s: &[u8], number: u64) -> bool {
-    let a = verdict::block_verdict(s, number);
+    let a = pomthija::block_verdict(s, number);
     match a {
         BlockAnswer::Refused(k, at) => (k == 13) & (at == 0),
         BlockAnswer::NoBranch => false,
@@ -29,7 +29,7 @@ fn is_missing(s: &[u8], number: u64) -> bool {
 fn agrees(s: &[u8], want: &[u8]) -> bool {
     let mut i: usize = 0;
     while i < want.len() {
-        if code(verdict::block_verdict(s, i as u64)) != want[i] {
+        if code(pomthija::block_verdict(s, i as u64)) != want[i] {
             return false;
         }
         i += 1;
@@ -57,12 +57,12 @@ fn judge(s: &[u8], n: usize, want: &[u8], blocks: usize) -> Case {
 }
 
 fn next_case(buf: &mut [u8], want: &mut [u8]) -> Case {
-    let next = stream::next_sheet(buf);
+    let next = test_io::next_sheet(buf);
     match next {
         Next::End => Case::End,
         Next::Sheet(n) => {
-            let blocks = stream::next_number();
-            if stream::next_bytes(want, blocks) {
+            let blocks = test_io::next_number();
+            if test_io::next_bytes(want, blocks) {
                 return judge(buf, n, want, blocks);
             }
             Case::Wrong
@@ -72,9 +72,9 @@ fn next_case(buf: &mut [u8], want: &mut [u8]) -> Case {
 
 // The number of a wrong case, on a line of its own.
 fn tell(number: u64) {
-    stream::word(b"wrong: case");
-    stream::number(number);
-    stream::word(b"\n");
+    test_io::word(b"wrong: case");
+    test_io::number(number);
+    test_io::word(b"\n");
 }
 
 // How many cases there were.
@@ -93,10 +93,10 @@ fn replay(buf: &mut [u8], want: &mut [u8]) -> u64 {
 }
 
 fn main() {
-    let mut buf = stream::room();
-    let mut want = stream::room();
+    let mut buf = test_io::room();
+    let mut want = test_io::room();
     let cases = replay(&mut buf, &mut want);
-    stream::word(b"cases:");
-    stream::number(cases);
-    stream::word(b"\n");
+    test_io::word(b"cases:");
+    test_io::number(cases);
+    test_io::word(b"\n");
 }

@@ -2,8 +2,8 @@
 // the sheet's length (4 bytes), the sheet, the node's number (4 bytes), the number of values (4 bytes), the values (8
 // bytes each), and the answer: the refusal's number (4 bytes, 0 where there is none), its place (4 bytes), and 1 or 0 (4
 // bytes) where the condition holds or not.
-use evaluate::Evaluation;
-use stream::Next;
+use evaluate_node::Evaluation;
+use test_io::Next;
 
 // What a case expects.
 struct Expected {
@@ -13,9 +13,9 @@ struct Expected {
 }
 
 fn next_expected() -> Expected {
-    let number = stream::next_number();
-    let place = stream::next_number();
-    let value = stream::next_number();
+    let number = test_io::next_number();
+    let place = test_io::next_number();
+    let value = test_io::next_number();
     Expected {
         number,
         place,
@@ -42,7 +42,7 @@ enum Case {
 fn judge(s: &[u8], n: usize, node: u64, values: &[u64], count: usize, want: Expected) -> Case {
     if n <= s.len() {
         if count <= values.len() {
-            if agrees(verdict::evaluation(&s[..n], node, &values[..count]), want) {
+            if agrees(pomthija::evaluation(&s[..n], node, &values[..count]), want) {
                 return Case::Right;
             }
         }
@@ -51,16 +51,16 @@ fn judge(s: &[u8], n: usize, node: u64, values: &[u64], count: usize, want: Expe
 }
 
 fn next_case(buf: &mut [u8], values: &mut [u64]) -> Case {
-    let next = stream::next_sheet(buf);
+    let next = test_io::next_sheet(buf);
     match next {
         Next::End => Case::End,
         Next::Sheet(n) => {
-            let node = stream::next_number();
-            let count = stream::next_number();
+            let node = test_io::next_number();
+            let count = test_io::next_number();
             if values.len() < count {
                 return Case::End;
             }
-            stream::next_values(&mut values[..count]);
+            test_io::next_values(&mut values[..count]);
             let want = next_expected();
             judge(buf, n, node as u64, values, count, want)
         }
@@ -69,9 +69,9 @@ fn next_case(buf: &mut [u8], values: &mut [u64]) -> Case {
 
 // The number of a wrong case, on a line of its own.
 fn tell(number: u64) {
-    stream::word(b"wrong: case");
-    stream::number(number);
-    stream::word(b"\n");
+    test_io::word(b"wrong: case");
+    test_io::number(number);
+    test_io::word(b"\n");
 }
 
 // How many cases there were.
@@ -90,10 +90,10 @@ fn replay(buf: &mut [u8], values: &mut [u64]) -> u64 {
 }
 
 fn main() {
-    let mut buf = stream::room();
+    let mut buf = test_io::room();
     let mut values = [0u64; 256];
     let cases = replay(&mut buf, &mut values);
-    stream::word(b"cases:");
-    stream::number(cases);
-    stream::word(b"\n");
+    test_io::word(b"cases:");
+    test_io::number(cases);
+    test_io::word(b"\n");
 }

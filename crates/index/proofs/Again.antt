@@ -4,12 +4,12 @@ use mathlib.Core.Path.{_≡_, refl, sym, ap, _∙_}
 use mathlib.Core.List.{List, [], _∷_, _++_, map}
 use mathlib.Core.Bool.{true}
 use lib.Dec.{eqb}
-use Rattle.field.specs.declared.Place.{Place}
-use Rattle.field.specs.declared.Place.the-variants.{At}
-use Rattle.field.specs.Field.{startOf}
+use Rattle.sheet_field.specs.declared.Place.{Place}
+use Rattle.sheet_field.specs.declared.Place.the-variants.{At}
+use Rattle.sheet_field.specs.Field.{startOf}
 use Rattle.isa.specs.declared.Instruction.{Instruction}
-use Rattle.instructions.specs.Instruction.{instructionAt}
-use Rattle.instructions.proofs.Accepted.{instruction-on}
+use Rattle.sheet_instruction.specs.Instruction.{instructionAt}
+use Rattle.sheet_instruction.proofs.Accepted.{instruction-on}
 use Rattle.sheet.specs.Sheet.{instructionsFrom}
 
 abbrev pub reread : List ℕ → ℕ → Instruction

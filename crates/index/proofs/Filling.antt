@@ -7,12 +7,12 @@ use native.Mathlib.Numerals.{add-one}
 use lib.Dec.{eqb}
 use lib.ListN.{length, drop, set, getD, length-append, length-drop}
 use lib.Seq.{set-at, drop-cons}
-use Rattle.field.specs.declared.Place.{Place}
-use Rattle.field.specs.declared.Place.the-variants.{At}
-use Rattle.field.specs.Field.{startOf}
+use Rattle.sheet_field.specs.declared.Place.{Place}
+use Rattle.sheet_field.specs.declared.Place.the-variants.{At}
+use Rattle.sheet_field.specs.Field.{startOf}
 use Rattle.isa.specs.declared.Instruction.{Instruction}
-use Rattle.instructions.specs.declared.InstructionField.{InstructionField}
-use Rattle.instructions.specs.Instruction.{instructionAt}
+use Rattle.sheet_instruction.specs.declared.InstructionField.{InstructionField}
+use Rattle.sheet_instruction.specs.Instruction.{instructionAt}
 use Rattle.sheet.specs.Sheet.{InstructionsRead, instructionsFrom}
 use Rattle.index.specs.Index.{addressesOf, Filled}
 

@@ -4,7 +4,7 @@ use mathlib.Core.Path.{_≡_, refl, sym, ap, _∙_}
 use mathlib.Core.List.{List, _++_}
 use lib.ListN.{length, take, drop}
 use lib.Seq.{take-at}
-use Rattle.field.specs.declared.Place.the-variants.{At}
+use Rattle.sheet_field.specs.declared.Place.the-variants.{At}
 use Rattle.sheet.specs.declared.Sheet.{Sheet}
 use Rattle.sheet.specs.declared.Reading.the-variants.{Accepted}
 use Rattle.sheet.specs.Sheet.{instructionsFrom, sheetAt, readingOf}

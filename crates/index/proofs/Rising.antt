@@ -7,10 +7,10 @@ use lib.Dec.{eqb}
 use lib.ListN.{length, getD, length-append}
 use lib.Seq.{getD-at}
 use borrow.Author.Tests.{ne-eqb}
-use Rattle.field.specs.declared.Place.{Place}
-use Rattle.field.specs.declared.Place.the-variants.{At}
-use Rattle.instructions.proofs.Accepted.{instruction-on}
-use Rattle.instructions.specs.Instruction.{instructionAt}
+use Rattle.sheet_field.specs.declared.Place.{Place}
+use Rattle.sheet_field.specs.declared.Place.the-variants.{At}
+use Rattle.sheet_instruction.proofs.Accepted.{instruction-on}
+use Rattle.sheet_instruction.specs.Instruction.{instructionAt}
 use Rattle.sheet.specs.Sheet.{instructionsFrom}
 use Rattle.search.specs.Ascending.{Ascending}
 use Rattle.search.proofs.Laws.{ascending-none, ascending-more}

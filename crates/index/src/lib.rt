@@ -1,11 +1,11 @@
 // The index of a sheet's instructions: for each its address and its byte place, so that an instruction is found by a
 // binary search (see the crate search) and read again where it stands.
-use field::Place;
 use sheet::Sheet;
+use sheet_field::Place;
 ghost use mathlib.Core.Path.{_≡_};
 ghost use Prim.Native.Nat.{_≤_};
 ghost use lib.ListN.{length};
-ghost use Rattle.field.specs.declared.Place.the-variants.{At};
+ghost use Rattle.sheet_field.specs.declared.Place.the-variants.{At};
 ghost use Rattle.sheet.specs.declared.Reading.the-variants.{Accepted};
 ghost use Rattle.sheet.specs.Sheet.{instructionsFrom, sheetAt, readingOf};
 ghost use Rattle.index.specs.Index.{Filled};
@@ -19,10 +19,10 @@ fn fill_from(s: &[u8], at: usize, n: u64, addresses: &mut [u64], places: &mut [u
     let mut next = Place::At(at);
     let mut i: u64 = 0;
     while i < n {
-        let r = instructions::take_instruction(s, next, i == 0, last);
+        let r = sheet_instruction::take_instruction(s, next, i == 0, last);
         let it = r.instruction;
         addresses[i as usize] = it.address;
-        places[i as usize] = field::start(next) as u64;
+        places[i as usize] = sheet_field::start(next) as u64;
         last = it.address;
         next = r.next;
         i += 1;

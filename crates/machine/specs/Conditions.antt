@@ -5,7 +5,7 @@ use mathlib.Core.Option.{Option, some, none}
 use lib.Dec.{leb, eqb}
 use Rattle.isa.specs.declared.Register.{Register}
 use Rattle.alu.specs.declared.Flag.{Flag}
-use Rattle.effects.specs.Conditions.{flagCondition, isZero}
+use Rattle.known.specs.Conditions.{flagCondition, isZero}
 use Rattle.machine.specs.declared.State.{State}
 use Rattle.machine.specs.declared.Decided.{Decided}
 use Rattle.machine.specs.declared.Decided.the-variants.{Holds, Fails, Undecided}

@@ -10,10 +10,10 @@ use Rattle.isa.specs.declared.Operand.the-variants.{Absent, Reg, Imm, Mem}
 use Rattle.isa.specs.declared.Instruction.{Instruction}
 use Rattle.alu.specs.declared.Flags.{Flags}
 use Rattle.alu.specs.Width.{bits, widthOf}
-use Rattle.effects.specs.declared.Value.{Value}
-use Rattle.effects.specs.declared.Value.the-variants.{Known, Unknown}
-use Rattle.effects.specs.Values.{extracted, onValue, merged}
-use Rattle.effects.specs.Operations.{noFlags, forgetFlags}
+use Rattle.known.specs.declared.Value.{Value}
+use Rattle.known.specs.declared.Value.the-variants.{Known, Unknown}
+use Rattle.known.specs.Values.{extracted, onValue, merged}
+use Rattle.known.specs.Operations.{noFlags, forgetFlags}
 use Rattle.machine.specs.declared.Slot.{Slot}
 use Rattle.machine.specs.declared.State.{State}
 

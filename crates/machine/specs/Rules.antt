@@ -1,7 +1,7 @@
 -- Machine: what an instruction leaves known. The section's rules in its order, and where each is: what is known, and that
 -- all starts unknown: `Registers`, `nothingKnown`; call-like instructions: `stepped`; what is modelled: isa's `modelled`;
--- writes of 32, 16 and 8 bits and unknown ones: effects' `merged`; results that wrap, and PF: alu's `result`, `evenParity`;
--- a register with itself: effects' `settled`; an unknown operand: effects' `unsettled`; inc, dec, neg of an unknown
+-- writes of 32, 16 and 8 bits and unknown ones: known's `merged`; results that wrap, and PF: alu's `result`, `evenParity`;
+-- a register with itself: known's `settled`; an unknown operand: known's `unsettled`; inc, dec, neg of an unknown
 -- register: `unaryUnknown`; all else: `Registers`, `forgotten`; jumps: `Conditions`, `decided`.
 use Prim.Native.Nat.{ℕ}
 use mathlib.Core.Bool.{Bool, true, false, cond, not, _&&_, _||_}
@@ -13,10 +13,10 @@ use Rattle.isa.specs.declared.Operand.the-variants.{Absent, Reg, Imm, Mem}
 use Rattle.isa.specs.declared.Instruction.{Instruction}
 use Rattle.isa.specs.Modelled.{modelled}
 use Rattle.alu.specs.Width.{widthOf}
-use Rattle.effects.specs.declared.Value.{Value}
-use Rattle.effects.specs.declared.Value.the-variants.{Known, Unknown}
-use Rattle.effects.specs.declared.Effect.{Effect}
-use Rattle.effects.specs.Operations.{carryRule, complement, arithEffect, withCarry, unknownCarry, unaryEffect}
+use Rattle.known.specs.declared.Value.{Value}
+use Rattle.known.specs.declared.Value.the-variants.{Known, Unknown}
+use Rattle.known.specs.declared.Effect.{Effect}
+use Rattle.known.specs.Operations.{carryRule, complement, arithEffect, withCarry, unknownCarry, unaryEffect}
 use Rattle.machine.specs.declared.State.{State}
 use Rattle.machine.specs.Registers.{nothingKnown, readOf, written, operandOf, withFlags, forgotten}
 

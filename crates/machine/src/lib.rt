@@ -1,11 +1,11 @@
 // A state of registers and flags, as far as they are known; stepping over an instruction; what is known of a jump.
 use alu::Flag;
 use alu::Flags;
-use effects::Effect;
-use effects::Value;
 use isa::Instruction;
 use isa::Operand;
 use isa::Register;
+use known::Effect;
+use known::Value;
 ghost use mathlib.Core.Path.{_≡_};
 ghost use mathlib.Core.Bool.{cond};
 ghost use Prim.Native.Nat.{min, _≤_};
@@ -105,7 +105,7 @@ pub fn read(s: State, r: Register) -> Value
     if r.class == 1 {
         let w = alu::width_of(r.size);
         let v = whole(s, r.index);
-        effects::part(w, r.offset, v)
+        known::part(w, r.offset, v)
     } else {
         Value::Unknown
     }
@@ -118,7 +118,7 @@ pub fn write(s: State, r: Register, v: Value) -> State
     if r.class == 1 {
         let w = alu::width_of(r.size);
         let old = whole(s, r.index);
-        let new = effects::merge(w, r.offset, old, v);
+        let new = known::merge(w, r.offset, old, v);
         replace(s, r.index, new)
     } else {
         s
@@ -176,7 +176,7 @@ fn forget(s: State, i: Instruction) -> State
     let n = at_most_eight(i.count);
     let after = forget_registers(s, registers, n);
     let flags = after.flags;
-    let left = effects::forget_flags(i.flags, flags);
+    let left = known::forget_flags(i.flags, flags);
     with_flags(after, left)
 }
 
@@ -220,7 +220,7 @@ fn arith(s: State, m: u64, d: Register, o: Operand) -> State
     let same = is_same(d, o);
     let a = read(s, d);
     let b = operand(s, size, o);
-    let e = effects::arith_effect(m, w, same, a, b);
+    let e = known::arith_effect(m, w, same, a, b);
     finish(s, !((m == 8) | (m == 12)), d, e)
 }
 
@@ -232,8 +232,8 @@ fn unary_unknown(s: State, i: Instruction) -> State
     let cf = before.cf;
     let after = forget(s, i);
     let flags = after.flags;
-    let carry = effects::unknown_carry(i.mnemonic, cf);
-    with_flags(after, effects::with_carry(flags, carry))
+    let carry = known::unknown_carry(i.mnemonic, cf);
+    with_flags(after, known::with_carry(flags, carry))
 }
 
 fn unary_on(s: State, i: Instruction, d: Register, v: Value) -> State
@@ -244,7 +244,7 @@ fn unary_on(s: State, i: Instruction, d: Register, v: Value) -> State
             let w = alu::width_of(d.size);
             let flags = s.flags;
             let cf = flags.cf;
-            let e = effects::unary_effect(i.mnemonic, w, cf, a);
+            let e = known::unary_effect(i.mnemonic, w, cf, a);
             finish(s, true, d, e)
         }
         Value::Unknown => unary_unknown(s, i),
@@ -270,7 +270,7 @@ fn on_register(s: State, i: Instruction, d: Register) -> State
         return write(s, d, v);
     }
     if m == 5 {
-        let v = effects::complement_of(read(s, d));
+        let v = known::complement_of(read(s, d));
         return write(s, d, v);
     }
     if m <= 12 {
@@ -296,8 +296,8 @@ fn step_modelled(s: State, i: Instruction) -> State
     if i.mnemonic <= 3 {
         let flags = s.flags;
         let cf = flags.cf;
-        let new = effects::carry_rule(i.mnemonic, cf);
-        return with_flags(s, effects::with_carry(flags, new));
+        let new = known::carry_rule(i.mnemonic, cf);
+        return with_flags(s, known::with_carry(flags, new));
     }
     let first = i.first;
     on_first(s, i, first)
@@ -350,7 +350,7 @@ pub fn condition(s: State, m: u64) -> Decided
 {
     if (16 <= m) & (m <= 31) {
         let flags = s.flags;
-        return verdict(effects::holds(m, flags));
+        return verdict(known::holds(m, flags));
     }
     if (32 <= m) & (m <= 34) {
         let r = Register {
@@ -359,7 +359,7 @@ pub fn condition(s: State, m: u64) -> Decided
             size: count_size(m),
             offset: 0,
         };
-        return verdict(effects::is_zero(read(s, r)));
+        return verdict(known::is_zero(read(s, r)));
     }
     Decided::Undecided
 }

@@ -10,16 +10,16 @@ use lib.Dec.{eqb}
 use lib.ListN.{length, getD, length-append, List·getD-append}
 use lib.Seq.{getD-at}
 use borrow.Author.Tests.{ne-eqb}
-use Rattle.field.specs.declared.Place.{Place}
-use Rattle.field.specs.declared.Place.the-variants.{At, Refused}
-use Rattle.field.specs.Field.{fieldAt, startOf, countAt, WentOn}
-use Rattle.field.proofs.Fields.{judge-at, field-at, count-at, count-most, code-on, count-on}
+use Rattle.sheet_field.specs.declared.Place.{Place}
+use Rattle.sheet_field.specs.declared.Place.the-variants.{At, Refused}
+use Rattle.sheet_field.specs.Field.{fieldAt, startOf, countAt, WentOn}
+use Rattle.sheet_field.proofs.Fields.{judge-at, field-at, count-at, count-most, code-on, count-on}
 use Rattle.isa.specs.declared.Instruction.{Instruction}
-use Rattle.instructions.specs.Instruction.{instructionAt}
-use Rattle.instructions.proofs.Accepted.{instruction-on}
+use Rattle.sheet_instruction.specs.Instruction.{instructionAt}
+use Rattle.sheet_instruction.proofs.Accepted.{instruction-on}
 use native.Mathlib.Numerals.{add-one}
-use Rattle.nodes.specs.Node.{Node, nodeAt, nodeOf}
-use Rattle.nodes.proofs.Accepted.{node-on}
+use Rattle.sheet_node.specs.Node.{Node, nodeAt, nodeOf}
+use Rattle.sheet_node.proofs.Accepted.{node-on}
 use Rattle.sheet.specs.declared.Sheet.{Sheet}
 use Rattle.sheet.specs.declared.Reading.the-variants as reading
 use Rattle.sheet.specs.declared.BlockField.{BlockField}

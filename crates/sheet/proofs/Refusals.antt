@@ -6,15 +6,15 @@ use mathlib.Core.Bool.{Bool, true, false, cond}
 use native.Mathlib.Omega.{arith}
 use lib.Dec.{leb, eqb}
 use lib.ListN.{length}
-use Rattle.field.specs.declared.Place.{Place}
-use Rattle.field.specs.declared.Place.the-variants.{At, Refused}
-use Rattle.field.specs.declared.Field.{Field}
-use Rattle.field.specs.Field.{fieldAt, judge, checkField, codeAt, countAt}
-use Rattle.instructions.specs.declared.OperandField.{OperandField}
-use Rattle.instructions.specs.declared.Registers.{Registers}
-use Rattle.instructions.specs.Instruction.{registerAt, operandAt, withRegister, registersFrom, registersAt, optionalRegisters, optionalOperand, bitOf, mapAt, addressAt, headAt, tailAt, instructionAt}
-use Rattle.expressions.specs.Expression.{hasArgument, argumentAt, constantAt, recordAt, takenMore, takenFrom, expressionAt}
-use Rattle.nodes.specs.Node.{StatementRead, mapAt as statementMapAt, assignmentAt, statementAt, typesFrom, statementsFrom, addressesFrom, nodeAt}
+use Rattle.sheet_field.specs.declared.Place.{Place}
+use Rattle.sheet_field.specs.declared.Place.the-variants.{At, Refused}
+use Rattle.sheet_field.specs.declared.Field.{Field}
+use Rattle.sheet_field.specs.Field.{fieldAt, judge, checkField, codeAt, countAt}
+use Rattle.sheet_instruction.specs.declared.OperandField.{OperandField}
+use Rattle.sheet_instruction.specs.declared.Registers.{Registers}
+use Rattle.sheet_instruction.specs.Instruction.{registerAt, operandAt, withRegister, registersFrom, registersAt, optionalRegisters, optionalOperand, bitOf, mapAt, addressAt, headAt, tailAt, instructionAt}
+use Rattle.sheet_expression.specs.Expression.{hasArgument, argumentAt, constantAt, recordAt, takenMore, takenFrom, expressionAt}
+use Rattle.sheet_node.specs.Node.{StatementRead, mapAt as statementMapAt, assignmentAt, statementAt, typesFrom, statementsFrom, addressesFrom, nodeAt}
 use Rattle.sheet.specs.declared.Reading.the-variants as reading
 use Rattle.sheet.specs.Sheet.{instructionsFrom, blockAt, blocksFrom, nodesFrom, sheetAt, answerOf, readingOf}
 

@@ -5,13 +5,13 @@ use mathlib.Core.List.{List}
 use mathlib.Core.Bool.{Bool}
 use native.Mathlib.Numerals.{add-one}
 use lib.Dec.{eqb}
-use Rattle.field.specs.declared.Place.{Place}
-use Rattle.field.specs.declared.Place.the-variants.{At, Refused}
-use Rattle.field.specs.declared.Field.{Field}
-use Rattle.field.specs.Field.{countAt, startOf}
-use Rattle.instructions.specs.Instruction.{instructionAt}
-use Rattle.instructions.specs.declared.InstructionField.{InstructionField}
-use Rattle.nodes.specs.Node.{nodeAt}
+use Rattle.sheet_field.specs.declared.Place.{Place}
+use Rattle.sheet_field.specs.declared.Place.the-variants.{At, Refused}
+use Rattle.sheet_field.specs.declared.Field.{Field}
+use Rattle.sheet_field.specs.Field.{countAt, startOf}
+use Rattle.sheet_instruction.specs.Instruction.{instructionAt}
+use Rattle.sheet_instruction.specs.declared.InstructionField.{InstructionField}
+use Rattle.sheet_node.specs.Node.{nodeAt}
 use Rattle.sheet.specs.declared.Instructions.{Instructions}
 use Rattle.sheet.specs.declared.Sheet.{Sheet}
 use Rattle.sheet.specs.declared.Reading.{Reading}

@@ -5,13 +5,13 @@ use mathlib.Core.List.{List, [], _∷_, _++_}
 use mathlib.Core.Bool.{Bool}
 use lib.Dec.{eqb, leb}
 use lib.ListN.{length}
-use Rattle.field.specs.declared.Place.{Place}
-use Rattle.field.specs.declared.Place.the-variants.{At, Refused}
-use Rattle.field.specs.Field.{fieldAt, startOf, judge, countAt}
+use Rattle.sheet_field.specs.declared.Place.{Place}
+use Rattle.sheet_field.specs.declared.Place.the-variants.{At, Refused}
+use Rattle.sheet_field.specs.Field.{fieldAt, startOf, judge, countAt}
 use Rattle.isa.specs.declared.Instruction.{Instruction}
-use Rattle.instructions.specs.Instruction.{instructionAt}
-use Rattle.nodes.specs.declared.NodeField.{NodeField}
-use Rattle.nodes.specs.Node.{Node, nodeAt, nodeOf}
+use Rattle.sheet_instruction.specs.Instruction.{instructionAt}
+use Rattle.sheet_node.specs.declared.NodeField.{NodeField}
+use Rattle.sheet_node.specs.Node.{Node, nodeAt, nodeOf}
 use Rattle.sheet.specs.declared.Section.{Section}
 use Rattle.sheet.specs.declared.Sheet.{Sheet}
 use Rattle.sheet.specs.declared.Reading.{Reading}

@@ -1,6 +1,6 @@
 // The sheet: read whole, it is accepted, with the counts of its records and where they start, or refused.
-use field::Place;
-use field::Width;
+use sheet_field::Place;
+use sheet_field::Width;
 ghost use mathlib.Core.Path.{_≡_};
 ghost use Rattle.sheet.specs.Sheet.{instructionsFrom, Checked, blockAt, blocksFrom, nodesFrom, ended, answerOf, readingOf};
 
@@ -42,7 +42,7 @@ fn check_instructions(s: &[u8], p: Place, n: u64) -> Instructions
     let mut next = p;
     let mut i: u64 = 0;
     while i < n {
-        let r = instructions::take_instruction(s, next, i == 0, last);
+        let r = sheet_instruction::take_instruction(s, next, i == 0, last);
         let it = r.instruction;
         last = it.address;
         next = r.next;
@@ -55,9 +55,9 @@ fn check_instructions(s: &[u8], p: Place, n: u64) -> Instructions
 pub fn take_block(s: &[u8], p: Place) -> BlockField
     ensures { λ r. ⌜ r ≡ blockAt (now (s .entry)) p ⌝ }
 {
-    let from = field::take_field(s, p, Width::Eight);
+    let from = sheet_field::take_field(s, p, Width::Eight);
     let after = from.next;
-    let to = field::take_field(s, after, Width::Eight);
+    let to = sheet_field::take_field(s, after, Width::Eight);
     let next = to.next;
     BlockField {
         from: from.value,
@@ -86,7 +86,7 @@ pub fn check_nodes(s: &[u8], p: Place, n: u64) -> Place
     let mut next = p;
     let mut i: u64 = 0;
     while i < n {
-        let node = nodes::take_node(s, next);
+        let node = sheet_node::take_node(s, next);
         next = node.next;
         i += 1;
     }
@@ -97,8 +97,8 @@ pub fn check_nodes(s: &[u8], p: Place, n: u64) -> Place
 fn end(s: &[u8], p: Place) -> Place
     ensures { λ r. ⌜ r ≡ ended (now (s .entry)) p ⌝ }
 {
-    let at = field::start(p);
-    field::judged(p, s.len() <= at, 1, at)
+    let at = sheet_field::start(p);
+    sheet_field::judged(p, s.len() <= at, 1, at)
 }
 
 fn answer(p: Place, sheet: Sheet) -> Reading
@@ -114,28 +114,28 @@ fn answer(p: Place, sheet: Sheet) -> Reading
 pub fn read(s: &[u8]) -> Reading
     ensures { λ r. ⌜ r ≡ readingOf (now (s .entry)) ⌝ }
 {
-    let i = field::count(s, Place::At(0), 0, 2048);
+    let i = sheet_field::count(s, Place::At(0), 0, 2048);
     let code = i.next;
     let instructions = check_instructions(s, code, i.value);
     let after_instructions = instructions.next;
-    let b = field::count(s, after_instructions, 0, 1024);
+    let b = sheet_field::count(s, after_instructions, 0, 1024);
     let ranges = b.next;
     let after_blocks = check_blocks(s, ranges, b.value);
-    let n = field::count(s, after_blocks, 0, 1024);
+    let n = sheet_field::count(s, after_blocks, 0, 1024);
     let graph = n.next;
     let after_nodes = check_nodes(s, graph, n.value);
     let sheet = Sheet {
         instructions: Section {
             count: i.value,
-            at: field::start(code),
+            at: sheet_field::start(code),
         },
         blocks: Section {
             count: b.value,
-            at: field::start(ranges),
+            at: sheet_field::start(ranges),
         },
         nodes: Section {
             count: n.value,
-            at: field::start(graph),
+            at: sheet_field::start(graph),
         },
     };
     answer(end(s, after_nodes), sheet)

@@ -2,7 +2,7 @@
 // The list on standard input: for each case the sheet's length (4 bytes), the sheet, the refusal's number (4 bytes, 0
 // where it is accepted), its place (4 bytes), and the three counts (4 bytes each, 0 where it is refused).
 use sheet::Reading;
-use stream::Next;
+use test_io::Next;
 
 // What a case expects.
 struct Expected {
@@ -14,11 +14,11 @@ struct Expected {
 }
 
 fn next_expected() -> Expected {
-    let number = stream::next_number();
-    let place = stream::next_number();
-    let instructions = stream::next_number();
-    let blocks = stream::next_number();
-    let nodes = stream::next_number();
+    let number = test_io::next_number();
+    let place = test_io::next_number();
+    let instructions = test_io::next_number();
+    let blocks = test_io::next_number();
+    let nodes = test_io::next_number();
     Expected {
         number,
         place,
@@ -51,7 +51,7 @@ enum Case {
 }
 
 fn next_case(buf: &mut [u8]) -> Case {
-    let next = stream::next_sheet(buf);
+    let next = test_io::next_sheet(buf);
     match next {
         Next::End => Case::End,
         Next::Sheet(n) => {
@@ -69,9 +69,9 @@ fn next_case(buf: &mut [u8]) -> Case {
 
 // The number of a wrong case, on a line of its own.
 fn tell(number: u64) {
-    stream::word(b"wrong: case");
-    stream::number(number);
-    stream::word(b"\n");
+    test_io::word(b"wrong: case");
+    test_io::number(number);
+    test_io::word(b"\n");
 }
 
 // How many cases there were.
@@ -90,9 +90,9 @@ fn replay(buf: &mut [u8]) -> u64 {
 }
 
 fn main() {
-    let mut buf = stream::room();
+    let mut buf = test_io::room();
     let cases = replay(&mut buf);
-    stream::word(b"cases:");
-    stream::number(cases);
-    stream::word(b"\n");
+    test_io::word(b"cases:");
+    test_io::number(cases);
+    test_io::word(b"\n");
 }

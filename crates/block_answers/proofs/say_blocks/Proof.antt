@@ -5,8 +5,8 @@ use Rattle.block_answers.proofs.say_blocks.Tie as tie
 use Rattle.block_answers.proofs.say_blocks.Reads as reads
 use Rattle.block_answers.proofs.say_blocks.Lts as lts
 use Rattle.block_answers.proofs.say.Reads as say-reads
-use Rattle.stream.proofs.word.Reads as word-reads
-use Rattle.verdict.proofs.block_verdict.Reads as block-verdict-reads
+use Rattle.test_io.proofs.word.Reads as word-reads
+use Rattle.pomthija.proofs.block_verdict.Reads as block-verdict-reads
 
 abbrev Inv-loop : tie.InvT-loop
 Inv-loop s n i₀ i = i ≤ n

@@ -7,7 +7,7 @@ use Rattle.block_vectors.proofs.agrees.Reads as reads
 use Rattle.block_vectors.proofs.agrees.Lts as lts
 use Rattle.block_vectors.proofs.code.Reads as code-reads
 use Rattle.block_vectors.proofs.is_missing.Reads as is-missing-reads
-use Rattle.verdict.proofs.block_verdict.Reads as block-verdict-reads
+use Rattle.pomthija.proofs.block_verdict.Reads as block-verdict-reads
 
 abbrev Inv-loop : tie.InvT-loop
 Inv-loop s want i₀ i = i ≤ length want

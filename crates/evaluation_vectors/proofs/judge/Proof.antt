@@ -7,7 +7,7 @@ use Rattle.evaluation_vectors.proofs.judge.Tie as tie
 use Rattle.evaluation_vectors.proofs.judge.Reads as reads
 use Rattle.evaluation_vectors.proofs.judge.Lts as lts
 use Rattle.evaluation_vectors.proofs.agrees.Reads as agrees-reads
-use Rattle.verdict.proofs.evaluation.Reads as evaluation-reads
+use Rattle.pomthija.proofs.evaluation.Reads as evaluation-reads
 
 -- src/main.rt:45:43
 slice-aggregate-evaluation : tie.Need-slice-aggregate-evaluation

@@ -8,9 +8,9 @@ use Rattle.evaluation_vectors.proofs.next_case.Reads as reads
 use Rattle.evaluation_vectors.proofs.next_case.Lts as lts
 use Rattle.evaluation_vectors.proofs.judge.Reads as judge-reads
 use Rattle.evaluation_vectors.proofs.next_expected.Reads as next-expected-reads
-use Rattle.stream.proofs.next_number.Reads as next-number-reads
-use Rattle.stream.proofs.next_sheet.Reads as next-sheet-reads
-use Rattle.stream.proofs.next_values.Reads as next-values-reads
+use Rattle.test_io.proofs.next_number.Reads as next-number-reads
+use Rattle.test_io.proofs.next_sheet.Reads as next-sheet-reads
+use Rattle.test_io.proofs.next_values.Reads as next-values-reads
 
 -- src/main.rt:54:9
 next-sheet-requires : tie.Need-next-sheet-requires

@@ -7,7 +7,7 @@ use Rattle.evaluations.proofs.answer.Tie as tie
 use Rattle.evaluations.proofs.answer.Reads as reads
 use Rattle.evaluations.proofs.answer.Lts as lts
 use Rattle.evaluations.proofs.say.Reads as say-reads
-use Rattle.verdict.proofs.evaluation.Reads as evaluation-reads
+use Rattle.pomthija.proofs.evaluation.Reads as evaluation-reads
 
 -- src/main.rt:25:37
 slice-aggregate-evaluation : tie.Need-slice-aggregate-evaluation

@@ -7,9 +7,9 @@ use Rattle.evaluations.proofs.answer_next.Tie as tie
 use Rattle.evaluations.proofs.answer_next.Reads as reads
 use Rattle.evaluations.proofs.answer_next.Lts as lts
 use Rattle.evaluations.proofs.answer.Reads as answer-reads
-use Rattle.stream.proofs.next_number.Reads as next-number-reads
-use Rattle.stream.proofs.next_sheet.Reads as next-sheet-reads
-use Rattle.stream.proofs.next_values.Reads as next-values-reads
+use Rattle.test_io.proofs.next_number.Reads as next-number-reads
+use Rattle.test_io.proofs.next_sheet.Reads as next-sheet-reads
+use Rattle.test_io.proofs.next_values.Reads as next-values-reads
 
 -- src/main.rt:32:9
 next-sheet-requires : tie.Need-next-sheet-requires

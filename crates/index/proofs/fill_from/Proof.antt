@@ -3,15 +3,15 @@ use mathlib.Core.Path.{_≡_, refl}
 use lib.ListN.{length, length-set}
 use borrow.Author.Needs.{needs}
 use native.Mathlib.Omega.{arith}
-use Rattle.field.specs.declared.Place.the-variants.{At}
+use Rattle.sheet_field.specs.declared.Place.the-variants.{At}
 use Rattle.sheet.specs.Sheet.{instructionsFrom}
 use Rattle.index.proofs.Filling.{Filling, filling-none, filling-more, filled-addresses, filled-places}
 use Rattle.index.proofs.fill_from.Statement.{statement}
 use Rattle.index.proofs.fill_from.Tie as tie
 use Rattle.index.proofs.fill_from.Reads as reads
 use Rattle.index.proofs.fill_from.Lts as lts
-use Rattle.field.proofs.start.Reads as start-reads
-use Rattle.instructions.proofs.take_instruction.Reads as take-instruction-reads
+use Rattle.sheet_field.proofs.start.Reads as start-reads
+use Rattle.sheet_instruction.proofs.take_instruction.Reads as take-instruction-reads
 
 abbrev Inv-loop : tie.InvT-loop
 Inv-loop s at n addresses₀ places₀ last₀ next₀ i₀ addresses places last next i =

@@ -8,7 +8,7 @@ use Rattle.sheet.proofs.check_instructions.Statement.{statement}
 use Rattle.sheet.proofs.check_instructions.Tie as tie
 use Rattle.sheet.proofs.check_instructions.Reads as reads
 use Rattle.sheet.proofs.check_instructions.Lts as lts
-use Rattle.instructions.proofs.take_instruction.Reads as take-instruction-reads
+use Rattle.sheet_instruction.proofs.take_instruction.Reads as take-instruction-reads
 
 abbrev Inv-loop : tie.InvT-loop
 Inv-loop s n last₀ next₀ i₀ last next i =

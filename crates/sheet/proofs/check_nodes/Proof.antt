@@ -8,7 +8,7 @@ use Rattle.sheet.proofs.check_nodes.Statement.{statement}
 use Rattle.sheet.proofs.check_nodes.Tie as tie
 use Rattle.sheet.proofs.check_nodes.Reads as reads
 use Rattle.sheet.proofs.check_nodes.Lts as lts
-use Rattle.nodes.proofs.take_node.Reads as take-node-reads
+use Rattle.sheet_node.proofs.take_node.Reads as take-node-reads
 
 abbrev Inv-loop : tie.InvT-loop
 Inv-loop s n next₀ i₀ next i = (i ≤ n) × (next ≡ nodesFrom s next₀ i .next)

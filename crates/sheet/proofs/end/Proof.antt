@@ -3,8 +3,8 @@ use Rattle.sheet.proofs.end.Statement.{statement}
 use Rattle.sheet.proofs.end.Tie as tie
 use Rattle.sheet.proofs.end.Reads as reads
 use Rattle.sheet.proofs.end.Lts as lts
-use Rattle.field.proofs.judged.Reads as judged-reads
-use Rattle.field.proofs.start.Reads as start-reads
+use Rattle.sheet_field.proofs.judged.Reads as judged-reads
+use Rattle.sheet_field.proofs.start.Reads as start-reads
 
 -- src/lib.rt:98:9
 start-requires : tie.Need-start-requires

@@ -4,8 +4,8 @@ use Rattle.sheet.proofs.read.Statement.{statement}
 use Rattle.sheet.proofs.read.Tie as tie
 use Rattle.sheet.proofs.read.Reads as reads
 use Rattle.sheet.proofs.read.Lts as lts
-use Rattle.field.proofs.count.Reads as count-reads
-use Rattle.field.proofs.start.Reads as start-reads
+use Rattle.sheet_field.proofs.count.Reads as count-reads
+use Rattle.sheet_field.proofs.start.Reads as start-reads
 use Rattle.sheet.proofs.answer.Reads as answer-reads
 use Rattle.sheet.proofs.check_blocks.Reads as check-blocks-reads
 use Rattle.sheet.proofs.check_instructions.Reads as check-instructions-reads

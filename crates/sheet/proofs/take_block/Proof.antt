@@ -4,7 +4,7 @@ use Rattle.sheet.proofs.take_block.Statement.{statement}
 use Rattle.sheet.proofs.take_block.Tie as tie
 use Rattle.sheet.proofs.take_block.Reads as reads
 use Rattle.sheet.proofs.take_block.Lts as lts
-use Rattle.field.proofs.take_field.Reads as take-field-reads
+use Rattle.sheet_field.proofs.take_field.Reads as take-field-reads
 
 -- src/lib.rt:57:9
 take-field-requires : tie.Need-take-field-requires

@@ -7,7 +7,7 @@ use Rattle.vectors.proofs.next_case.Tie as tie
 use Rattle.vectors.proofs.next_case.Reads as reads
 use Rattle.vectors.proofs.next_case.Lts as lts
 use Rattle.sheet.proofs.read.Reads as read-reads
-use Rattle.stream.proofs.next_sheet.Reads as next-sheet-reads
+use Rattle.test_io.proofs.next_sheet.Reads as next-sheet-reads
 use Rattle.vectors.proofs.agrees.Reads as agrees-reads
 use Rattle.vectors.proofs.next_expected.Reads as next-expected-reads
 

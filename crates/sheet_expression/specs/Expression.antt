@@ -1,0 +1,97 @@
+-- Expressions of a sheet: a count, then records in postfix order that form one tree.
+use Prim.Native.Nat.{ℕ, zero, suc, _+_, _-_, _*_, _^_}
+use mathlib.Core.List.{List, [], _∷_, _++_}
+use mathlib.Core.Bool.{Bool, true, false, cond, not, _&&_, _||_}
+use mathlib.Core.Path.{_≡_}
+use lib.ListN.{length, drop}
+use lib.Dec.{leb, ltb, eqb}
+use Rattle.sheet_field.specs.declared.Place.{Place}
+use Rattle.sheet_field.specs.declared.Field.{Field}
+use Rattle.sheet_field.specs.Field.{fieldAt, startOf, judge, checkField, codeAt, countAt}
+use Rattle.expr.specs.Tree.{arityOf}
+use Rattle.sheet_expression.specs.declared.RecordField.{RecordField}
+
+-- Expression: true (2), false (3) and ternary (8) have no argument; every other kind has one, a byte.
+abbrev pub hasArgument : ℕ → Bool
+hasArgument kind = not (eqb kind 2 || eqb kind 3 || eqb kind 8)
+
+-- Turned back, 2, the tables: a variable's number (0) is below the node's count of variables; a constant's width (1) is 1,
+-- 2, 4 or 8; an effect, a load and a cast (4 to 6) have a type, 0 to 9; a binary (7) has an operator, 0 to 17.
+abbrev pub argumentOk : ℕ → ℕ → ℕ → Bool
+argumentOk variables kind x =
+    (eqb kind 0 && ltb x variables)
+    || (eqb kind 1 && (eqb x 1 || eqb x 2 || eqb x 4 || eqb x 8))
+    || (leb 4 kind && leb kind 6 && ltb x 10)
+    || (eqb kind 7 && ltb x 18)
+
+unfoldable pub argumentAt : ℕ → ℕ → List ℕ → Place → Field
+argumentAt variables kind s p =
+    let f = fieldAt 1 s p in
+    cond (hasArgument kind) (checkField (argumentOk variables kind (f .value)) 2 (startOf p) f) (record { value = 0; next = p })
+
+-- Expression, kind 1: a constant has a value of 8 bytes behind its width.
+unfoldable pub constantAt : ℕ → List ℕ → Place → Field
+constantAt kind s p = cond (eqb kind 1) (fieldAt 8 s p) (record { value = 0; next = p })
+
+-- Turned back, 8: a constant of 1, 2 or 4 bytes is below 2 to the 8, 16 or 32; 8 bytes hold any value.
+abbrev pub fitsWidth : ℕ → ℕ → ℕ → Bool
+fitsWidth kind width value =
+    not (eqb kind 1)
+    || ((not (eqb width 1) || ltb value (2 ^ 8))
+    && (not (eqb width 2) || ltb value (2 ^ 16))
+    && (not (eqb width 4) || ltb value (2 ^ 32)))
+
+-- A record takes its children from the trees before it and leaves one: how many trees are complete then.
+abbrev pub depthAfter : ℕ → ℕ → ℕ
+depthAfter depth arity = depth - arity + 1
+
+-- A record, behind `depth` complete trees and with `left` records after it. Its checks at its last byte, in the order of
+-- their numbers. Turned back, 7: a record lacks a child, at its kind byte; or behind the last record there is not one
+-- tree, at the byte after the expression. Turned back, 8: a constant above its width, at its value.
+unfoldable pub recordAt : ℕ → ℕ → ℕ → List ℕ → Place → RecordField
+recordAt variables depth left s p =
+    let kind = codeAt 9 s p in
+    let argument = argumentAt variables (kind .value) s (kind .next) in
+    let value = constantAt (kind .value) s (argument .next) in
+    let tag = kind .value + 16 * argument .value in
+    let after = depthAfter depth (arityOf tag) in
+    let whole = judge (leb (arityOf tag) depth) 7 (startOf p) (value .next) in
+    let one = judge (not (eqb left 0) || eqb after 1) 7 (startOf (value .next)) whole in
+    let fits = judge (fitsWidth (kind .value) (argument .value) (value .value)) 8 (startOf (argument .next)) one in
+    record { tag = tag; value = value .value; depth = after; next = fits }
+
+-- what records that were read one after the other give: their words, how many trees are complete, and the place after them
+pub record Taken : Type 0 where
+  pub words : List ℕ
+  pub depth : ℕ
+  pub next : Place
+
+-- one record more, with `left` after it
+unfoldable pub takenMore : ℕ → ℕ → List ℕ → Taken → Taken
+takenMore variables left s before =
+    let r = recordAt variables (before .depth) left s (before .next) in
+    record { words = before .words ++ (r .tag ∷ r .value ∷ []); depth = r .depth; next = r .next }
+
+-- after the first k of `total` records, from a place on
+unfoldable pub takenFrom : ℕ → ℕ → List ℕ → Place → ℕ → Taken
+takenFrom variables total s p zero = record { words = []; depth = 0; next = p }
+takenFrom variables total s p (suc k) = takenMore variables (total - suc k) s (takenFrom variables total s p k)
+
+-- Expression: a count from 1 to 128, then as many records.
+unfoldable pub expressionAt : ℕ → List ℕ → Place → Taken
+expressionAt variables s p =
+    let n = countAt 1 128 s p in
+    takenFrom variables (n .value) s (n .next) (n .value)
+
+-- what a reader of records leaves: the depth, the place, and a lent list that was `before` and is `after`: the words stand
+-- at its front, and the rest is as it was
+pub record Took (depth : ℕ) (next : Place) (before after : List ℕ) (t : Taken) : Type 0 where
+  pub trees : depth ≡ t .depth
+  pub place : next ≡ t .next
+  pub list : after ≡ t .words ++ drop (length (t .words)) before
+
+-- what a reader of an expression leaves: how many records it has, the place, and the lent list with the words at its front
+pub record TookExpression (records : ℕ) (next : Place) (before after : List ℕ) (t : Taken) : Type 0 where
+  pub size : length (t .words) ≡ 2 * records
+  pub place : next ≡ t .next
+  pub list : after ≡ t .words ++ drop (2 * records) before

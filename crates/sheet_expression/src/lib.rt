@@ -1,0 +1,151 @@
+// Expression records of a sheet: one reader, which checks an expression and takes its records as words, two a record
+// (see the crate expr).
+use sheet_field::Field;
+use sheet_field::Place;
+use sheet_field::Width;
+ghost use mathlib.Core.Path.{_≡_};
+ghost use Prim.Native.Nat.{_*_, _≤_};
+ghost use lib.ListN.{length};
+ghost use Rattle.sheet_expression.specs.Expression.{hasArgument, argumentOk, argumentAt, constantAt, fitsWidth, depthAfter, recordAt, Took, takenFrom, expressionAt, TookExpression};
+
+// A record's two words, how many trees are complete after it, and the place after it.
+pub struct RecordField {
+    pub tag: u64,
+    pub value: u64,
+    pub depth: u64,
+    pub next: Place,
+}
+
+// How many trees are complete behind some records, and the place after them.
+pub struct Records {
+    pub depth: u64,
+    pub next: Place,
+}
+
+// How many records an expression has, and the place after it.
+pub struct Expression {
+    pub records: u64,
+    pub next: Place,
+}
+
+fn has_argument(kind: u64) -> bool
+    ensures { λ r. ⌜ r ≡ hasArgument kind ⌝ }
+{
+    !((kind == 2) | (kind == 3) | (kind == 8))
+}
+
+// Whether x is in the table of a record of this kind.
+fn argument_ok(variables: u64, kind: u64, x: u64) -> bool
+    ensures { λ r. ⌜ r ≡ argumentOk variables kind x ⌝ }
+{
+    ((kind == 0) & (x < variables))
+        | ((kind == 1) & ((x == 1) | (x == 2) | (x == 4) | (x == 8)))
+        | ((4 <= kind) & (kind <= 6) & (x < 10))
+        | ((kind == 7) & (x < 18))
+}
+
+// The argument byte of a record of this kind, where it has one.
+fn take_argument(s: &[u8], p: Place, variables: u64, kind: u64) -> Field
+    ensures { λ r. ⌜ r ≡ argumentAt variables kind (now (s .entry)) p ⌝ }
+{
+    if has_argument(kind) {
+        let f = sheet_field::take_field(s, p, Width::One);
+        let ok = argument_ok(variables, kind, f.value);
+        sheet_field::checked(f, ok, 2, sheet_field::start(p))
+    } else {
+        Field { value: 0, next: p }
+    }
+}
+
+// A constant's value.
+fn take_constant(s: &[u8], p: Place, kind: u64) -> Field
+    ensures { λ r. ⌜ r ≡ constantAt kind (now (s .entry)) p ⌝ }
+{
+    if kind == 1 {
+        sheet_field::take_field(s, p, Width::Eight)
+    } else {
+        Field { value: 0, next: p }
+    }
+}
+
+// Whether a constant is within its width; other records have none.
+fn fits_width(kind: u64, width: u64, value: u64) -> bool
+    ensures { λ r. ⌜ r ≡ fitsWidth kind width value ⌝ }
+{
+    (kind != 1)
+        | (((width != 1) | (value < 256))
+            & ((width != 2) | (value < 65536))
+            & ((width != 4) | (value < 4294967296)))
+}
+
+fn depth_after(depth: u64, arity: u64) -> u64
+    requires { ⌜ depth ≤ 128 ⌝ }
+    ensures { λ r. ⌜ r ≡ depthAfter depth arity ⌝ }
+{
+    if arity <= depth { depth - arity + 1 } else { 1 }
+}
+
+// The record at a place, with `depth` complete trees before it and `left` records after it.
+pub fn take_record(s: &[u8], p: Place, variables: u64, depth: u64, left: u64) -> RecordField
+    requires { ⌜ (variables ≤ 32) × (depth ≤ 128) ⌝ }
+    ensures { λ r. ⌜ r ≡ recordAt variables depth left (now (s .entry)) p ⌝ }
+{
+    let kind = sheet_field::code(s, p, 9);
+    let after_kind = kind.next;
+    let argument = take_argument(s, after_kind, variables, kind.value);
+    let after_argument = argument.next;
+    let value = take_constant(s, after_argument, kind.value);
+    let end = value.next;
+    let tag = kind.value + 16 * argument.value;
+    let arity = expr::arity(tag);
+    let after = depth_after(depth, arity);
+    let whole = sheet_field::judged(end, arity <= depth, 7, sheet_field::start(p));
+    let one = sheet_field::judged(
+        whole,
+        (left != 0) | (after == 1),
+        7,
+        sheet_field::start(end),
+    );
+    let fits = fits_width(kind.value, argument.value, value.value);
+    RecordField {
+        tag,
+        value: value.value,
+        depth: after,
+        next: sheet_field::judged(one, fits, 8, sheet_field::start(after_argument)),
+    }
+}
+
+// The first `total` records from a place on, as words at the front of `out`.
+fn take_records(s: &[u8], p: Place, variables: u64, total: u64, out: &mut [u64]) -> Records
+    requires { ⌜ (variables ≤ 32) × (total ≤ 128) × (2 * total ≤ length (now out)) ⌝ }
+    ensures { λ r. ⌜ Took (r .depth) (r .next) (now (out .entry)) (now (out .exit)) (takenFrom variables total (now (s .entry)) p total) ⌝ }
+{
+    let mut depth: u64 = 0;
+    let mut next = p;
+    let mut i: u64 = 0;
+    while i < total {
+        let r = take_record(s, next, variables, depth, total - i - 1);
+        let at = 2 * (i as usize);
+        out[at] = r.tag;
+        out[at + 1] = r.value;
+        depth = r.depth;
+        next = r.next;
+        i += 1;
+    }
+    Records { depth, next }
+}
+
+// The expression at a place, its records as words at the front of `out`.
+pub fn take_expression(s: &[u8], p: Place, variables: u64, out: &mut [u64]) -> Expression
+    requires { ⌜ (variables ≤ 32) × (256 ≤ length (now out)) ⌝ }
+    ensures { λ r. ⌜ TookExpression (r .records) (r .next) (now (out .entry)) (now (out .exit)) (expressionAt variables (now (s .entry)) p) ⌝ }
+{
+    let n = sheet_field::count(s, p, 1, 128);
+    let from = n.next;
+    let r = take_records(s, from, variables, n.value, out);
+    let next = r.next;
+    Expression {
+        records: n.value,
+        next,
+    }
+}

@@ -1,0 +1,24 @@
+use Rattle.sheet_field.specs.Field.{checkField}
+use borrow.Author.Needs.{needs}
+use Rattle.sheet_field.proofs.checked.Statement.{statement}
+use Rattle.sheet_field.proofs.checked.Tie as tie
+use Rattle.sheet_field.proofs.checked.Reads as reads
+use Rattle.sheet_field.proofs.checked.Lts as lts
+use Rattle.sheet_field.proofs.judged.Reads as judged-reads
+use Rattle.sheet_field.proofs.kept.Reads as kept-reads
+
+-- src/field.rt:142:9
+judged-requires : tie.Need-judged-requires
+judged-requires c κs = search needs
+
+-- src/field.rt:144:16
+kept-requires : tie.Need-kept-requires
+kept-requires c κs = search needs
+
+-- src/field.rt:138:1
+returns : tie.Need-returns
+unfolding checkField
+returns c = cc
+
+pub checked-spec : {M : Type 1} → statement M
+checked-spec = tie.close (tie.spec judged-requires kept-requires returns)

@@ -1,0 +1,29 @@
+use Rattle.sheet_field.specs.Field.{countAt}
+use borrow.Author.Needs.{needs}
+use Rattle.sheet_field.proofs.count.Statement.{statement}
+use Rattle.sheet_field.proofs.count.Tie as tie
+use Rattle.sheet_field.proofs.count.Reads as reads
+use Rattle.sheet_field.proofs.count.Lts as lts
+use Rattle.sheet_field.proofs.checked.Reads as checked-reads
+use Rattle.sheet_field.proofs.start.Reads as start-reads
+use Rattle.sheet_field.proofs.take_field.Reads as take-field-reads
+
+-- src/field.rt:161:9
+take-field-requires : tie.Need-take-field-requires
+take-field-requires c κs = search needs
+
+-- src/field.rt:162:59
+start-requires : tie.Need-start-requires
+start-requires c κs = search needs
+
+-- src/field.rt:162:5
+checked-requires : tie.Need-checked-requires
+checked-requires c κs = search needs
+
+-- src/field.rt:158:1
+returns : tie.Need-returns
+unfolding countAt
+returns c = cc
+
+pub count-spec : {M : Type 1} → statement M
+count-spec = tie.close (tie.spec take-field-requires start-requires checked-requires returns)

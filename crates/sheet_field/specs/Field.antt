@@ -1,0 +1,65 @@
+-- Fields of a sheet, the place that reading has come to, and checks.
+use Prim.Native.Nat.{ℕ, zero, suc, _+_, _*_}
+use mathlib.Core.Path.{_≡_}
+use mathlib.Core.List.{List}
+use mathlib.Core.Bool.{Bool, true, false, cond, _&&_}
+use lib.ListN.{length, getD}
+use lib.Dec.{leb, ltb}
+use Rattle.sheet_field.specs.declared.Place.{Place}
+use Rattle.sheet_field.specs.declared.Place.the-variants.{At, Refused}
+use Rattle.sheet_field.specs.declared.Field.{Field}
+use Rattle.sheet_field.specs.declared.Width.{Width}
+use Rattle.sheet_field.specs.declared.Width.the-variants.{One, Two, Eight}
+
+-- Fields are little-endian: the number that the n bytes from a place on spell, the first the lowest.
+unfoldable pub little : List ℕ → ℕ → ℕ → ℕ
+little s at zero = 0
+little s at (suc n) = getD s at 0 + 256 * little s (suc at) n
+
+abbrev pub bytesOf : Width → ℕ
+bytesOf One = 1
+bytesOf Two = 2
+bytesOf Eight = 8
+
+-- A field of n bytes: its number and the place after it. Turned back, 1: the sheet ends inside it; the refusal stands at
+-- the field. Where reading was refused before, it stays so.
+unfoldable pub fieldAt : ℕ → List ℕ → Place → Field
+fieldAt n s (At at) = cond (leb (at + n) (length s)) (record { value = little s at n; next = At (at + n) }) (record { value = 0; next = Refused 1 at })
+fieldAt n s (Refused k at) = record { value = 0; next = Refused k at }
+
+-- reading has not been refused at a place
+abbrev pub WentOn : Place → Type 0
+WentOn p = (b : ℕ) × (p ≡ At b)
+
+-- where a record that is read from a place on starts
+abbrev pub startOf : Place → ℕ
+startOf (At at) = at
+startOf (Refused k at) = at
+
+-- Turned back: a check made here. The first refusal wins, so one made before stays.
+abbrev pub judge : Bool → ℕ → ℕ → Place → Place
+judge ok k at (At next) = cond ok (At next) (Refused k at)
+judge ok k at (Refused k′ at′) = Refused k′ at′
+
+-- a value where reading went on, else 0
+abbrev pub keep : Place → ℕ → ℕ
+keep (At next) v = v
+keep (Refused k at) v = 0
+
+-- A check of a field: a refused field has the value 0.
+unfoldable pub checkField : Bool → ℕ → ℕ → Field → Field
+checkField ok k at f =
+    let p = judge ok k at (f .next) in
+    record { value = keep p (f .value); next = p }
+
+-- Turned back, 2: a code of one byte has to be below its table's end; the refusal stands at the field.
+unfoldable pub codeAt : ℕ → List ℕ → Place → Field
+codeAt limit s p =
+    let f = fieldAt 1 s p in
+    checkField (ltb (f .value) limit) 2 (startOf p) f
+
+-- Counts are 2 bytes. Turned back, 3: a count has to be within its limits; the refusal stands at the field.
+unfoldable pub countAt : ℕ → ℕ → List ℕ → Place → Field
+countAt least most s p =
+    let f = fieldAt 2 s p in
+    checkField (leb least (f .value) && leb (f .value) most) 3 (startOf p) f

@@ -1,0 +1,161 @@
+-- Where reading goes on after an instruction, it went on before it, and its address is above the one before.
+use Prim.Native.Nat.{ℕ, zero, suc, _+_, _<_}
+use mathlib.Core.Path.{_≡_, refl, sym, _∙_}
+use mathlib.Core.List.{List}
+use mathlib.Core.Bool.{Bool, true, false, not, _||_}
+use lib.Dec.{eqb, ltb}
+use borrow.Author.Tests.{ltb-true, not-true}
+use Rattle.isa.specs.declared.Operand.{Operand}
+use Rattle.isa.specs.declared.Operand.the-variants.{Absent, Reg, Imm, Mem}
+use Rattle.isa.specs.Register.{wellFormed}
+use Rattle.isa.specs.Modelled.{atFault}
+use Rattle.sheet_field.specs.declared.Place.{Place}
+use Rattle.sheet_field.specs.declared.Place.the-variants.{At, Refused}
+use Rattle.sheet_field.specs.declared.Field.{Field}
+use Rattle.sheet_field.specs.Field.{fieldAt, startOf, codeAt, countAt, checkField, judge, keep, WentOn}
+use Rattle.sheet_field.proofs.Fields.{judge-at, check-at, field-at, code-at, count-at, not-both, field-on, code-on}
+use Rattle.sheet_instruction.specs.Instruction.{registerAt, operandAt, withRegister, registersFrom, registersAt, optionalRegisters, optionalOperand, optionalField, optionalCode, bitOf, mapAt, addressAt, headAt, tailAt, instructionAt}
+
+register-on : (s : List ℕ) (p : Place) {a : ℕ} → registerAt s p .next ≡ At a → WentOn p
+unfolding registerAt
+register-on s p e =
+    let offset = field-on 1 s _ (judge-at _ 5 (startOf p) _ e .1) in
+    let size = field-on 1 s _ (offset .1) in
+    let index = field-on 1 s _ (size .1) in
+    field-on 1 s p (index .1)
+
+register-well : (s : List ℕ) (p : Place) {a : ℕ} → registerAt s p .next ≡ At a → wellFormed (registerAt s p .register) ≡ true
+unfolding registerAt
+register-well s p e =
+    let class = fieldAt 1 s p in
+    let index = fieldAt 1 s (class .next) in
+    let size = fieldAt 1 s (index .next) in
+    judge-at _ 5 (startOf p) (fieldAt 1 s (size .next) .next) e .0
+
+-- a register in an operand is well formed
+abbrev pub Well : Operand → Type 0
+Well Absent = Unit {0}
+Well (Reg r) = wellFormed r ≡ true
+Well (Imm x) = Unit {0}
+Well Mem = Unit {0}
+
+operand-well : (s : List ℕ) (p : Place) {a : ℕ} → operandAt s p .next ≡ At a → Well (operandAt s p .operand)
+unfolding operandAt
+operand-well s p e = zero-or (eqb (codeAt 3 s p .value) 0) (eqb (codeAt 3 s p .value) 1) refl refl
+  where
+    zero-or : (t u : Bool) → eqb (codeAt 3 s p .value) 0 ≡ t → eqb (codeAt 3 s p .value) 1 ≡ u → Well (operandAt s p .operand)
+    zero-or true u q r = rw q (register-well s (codeAt 3 s p .next) (rw q at e))
+    zero-or false true q r = rw (q, r) tt
+    zero-or false false q r = rw (q, r) tt
+
+operand-on : (s : List ℕ) (p : Place) {a : ℕ} → operandAt s p .next ≡ At a → WentOn p
+unfolding operandAt
+operand-on s p e = zero-or (eqb (codeAt 3 s p .value) 0) (eqb (codeAt 3 s p .value) 1) refl refl
+  where
+    zero-or : (t u : Bool) → eqb (codeAt 3 s p .value) 0 ≡ t → eqb (codeAt 3 s p .value) 1 ≡ u → WentOn p
+    zero-or true u q r = code-on 3 s p (register-on s (codeAt 3 s p .next) (rw q at e) .1)
+    zero-or false true q r = code-on 3 s p (field-on 8 s (codeAt 3 s p .next) (rw (q, r) at e) .1)
+    zero-or false false q r = code-on 3 s p (rw (q, r) at e)
+
+registers-from-on : (s : List ℕ) (p : Place) (k : ℕ) {a : ℕ} → registersFrom s p k .next ≡ At a → WentOn p
+unfolding registersFrom withRegister
+registers-from-on s p zero {a} e = (a, e)
+registers-from-on s p (suc k) e = registers-from-on s p k (register-on s (registersFrom s p k .next) e .1)
+
+registers-on : (s : List ℕ) (p : Place) {a : ℕ} → registersAt s p .next ≡ At a → WentOn p
+unfolding registersAt
+registers-on s p e =
+    let n = countAt 0 8 s p in
+    let w = count-at 0 8 s p (registers-from-on s (n .next) (n .value) e .1) .whole in
+    (w .from, w .there)
+
+optional-registers-on : (there : Bool) (s : List ℕ) (p : Place) {a : ℕ} → optionalRegisters there s p .next ≡ At a → WentOn p
+optional-registers-on true s p e = registers-on s p e
+optional-registers-on false s p e = registers-from-on s p 0 e
+
+optional-operand-on : (there : Bool) (s : List ℕ) (p : Place) {a : ℕ} → optionalOperand there s p .next ≡ At a → WentOn p
+optional-operand-on true s p e = operand-on s p e
+optional-operand-on false s p {a} e = (a, e)
+
+optional-operand-well : (there : Bool) (s : List ℕ) (p : Place) {a : ℕ} → optionalOperand there s p .next ≡ At a → Well (optionalOperand there s p .operand)
+optional-operand-well true s p e = operand-well s p e
+optional-operand-well false s p e = tt
+
+optional-field-on : (there : Bool) (s : List ℕ) (p : Place) {a : ℕ} → optionalField there s p .next ≡ At a → WentOn p
+optional-field-on true s p e = field-on 8 s p e
+optional-field-on false s p {a} e = (a, e)
+
+optional-code-on : (there : Bool) (limit : ℕ) (s : List ℕ) (p : Place) {a : ℕ} → optionalCode there limit s p .next ≡ At a → WentOn p
+optional-code-on true limit s p e = code-on limit s p e
+optional-code-on false limit s p {a} e = (a, e)
+
+tail-on : (map : ℕ) (s : List ℕ) (p : Place) {a : ℕ} → tailAt map s p .next ≡ At a → WentOn p
+unfolding tailAt
+tail-on map s p e =
+    let written = optional-code-on (bitOf map 32) 32 s _ e in
+    let two = optional-registers-on (bitOf map 16) s _ (written .1) in
+    let one = optional-operand-on (bitOf map 8) s _ (two .1) in
+    optional-operand-on (bitOf map 4) s p (one .1)
+
+tail-well : (map : ℕ) (s : List ℕ) (p : Place) {a : ℕ} → tailAt map s p .next ≡ At a
+    → Well (tailAt map s p .first) × Well (tailAt map s p .second)
+unfolding tailAt
+tail-well map s p e =
+    let written = optional-code-on (bitOf map 32) 32 s _ e in
+    let two = optional-registers-on (bitOf map 16) s _ (written .1) in
+    let one = optional-operand-on (bitOf map 8) s _ (two .1) in
+    (optional-operand-well (bitOf map 4) s p (one .1), optional-operand-well (bitOf map 8) s _ (two .1))
+
+-- what an instruction that was read whole is
+pub record Taken (first : Bool) (last : ℕ) (s : List ℕ) (p : Place) : Type 0 where
+  pub from : ℕ
+  pub there : p ≡ At from
+  pub above : first ≡ false → last < instructionAt first last s p .instruction .address
+  pub again : instructionAt true 0 s p ≡ instructionAt first last s p
+  pub one : Well (instructionAt first last s p .instruction .first)
+  pub two : Well (instructionAt first last s p .instruction .second)
+  pub sound : atFault (instructionAt first last s p .instruction) ≡ false
+
+-- a field that was read whole passes a check that holds
+check-true : (k at : ℕ) (f : Field) {a : ℕ} → f .next ≡ At a → checkField true k at f ≡ f
+unfolding checkField
+check-true k at f e = go (f .next) e
+  where
+    go : {a : ℕ} (p : Place) → p ≡ At a → _≡_ {A = Field} (record { value = keep (judge true k at p) (f .value); next = judge true k at p }) (record { value = f .value; next = p })
+    go (At b) q = refl
+    go (Refused n b) q = absurd (not-both q)
+
+-- an address is read alike where any would do
+address-again : (first : Bool) (last : ℕ) (s : List ℕ) (p : Place) {a : ℕ} → addressAt first last s p .next ≡ At a
+    → addressAt true 0 s p ≡ addressAt first last s p
+unfolding addressAt
+address-again first last s p e =
+    let c = check-at _ 4 (startOf p) (fieldAt 8 s p) e in
+    check-true 4 (startOf p) (fieldAt 8 s p) (c .1) ∙ sym (c .2)
+
+other-true : (a b : Bool) → (a || b) ≡ true → a ≡ false → b ≡ true
+other-true true b e q = cc
+other-true false b e q = e
+
+pub instruction-on : (first : Bool) (last : ℕ) (s : List ℕ) (p : Place) {a : ℕ} → instructionAt first last s p .next ≡ At a
+    → Taken first last s p
+unfolding instructionAt headAt mapAt addressAt
+instruction-on first last s p e =
+    let map = mapAt s p in
+    let address = addressAt first last s (map .next) in
+    let head = headAt first last s p in
+    let behind = tail-on (head .map) s (head .next) (judge-at _ 6 (startOf p) _ e .1) in
+    let target = optional-field-on (bitOf (map .value) 1) s _ (behind .1) in
+    let mnemonic = code-on 35 s (address .next) (target .1) in
+    let rises = check-at (first || ltb last (fieldAt 8 s (map .next) .value)) 4 (startOf (map .next)) (fieldAt 8 s (map .next)) (mnemonic .1) in
+    let mapped = field-on 8 s (map .next) (rises .1) in
+    let w = field-on 1 s p (check-at _ 2 (startOf p) (fieldAt 1 s p) (mapped .1) .1) in
+    record {
+      from = w .0;
+      there = w .1;
+      above = λ q. rw (rises .2) (ltb-true last _ (other-true first _ (rises .0) q));
+      one = tail-well (head .map) s (head .next) (judge-at _ 6 (startOf p) _ e .1) .0;
+      two = tail-well (head .map) s (head .next) (judge-at _ 6 (startOf p) _ e .1) .1;
+      sound = not-true _ (judge-at _ 6 (startOf p) (tailAt (head .map) s (head .next) .next) e .0);
+      again = rw (address-again first last s (map .next) (mnemonic .1));
+    }

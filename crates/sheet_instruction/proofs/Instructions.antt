@@ -1,0 +1,79 @@
+-- The cases of the definitions of instruction records, over plain values.
+use Prim.Native.Nat.{ℕ, zero, suc, _+_, _≤_, _<_}
+use mathlib.Core.Path.{_≡_, refl, ap, sym, subst}
+use mathlib.Core.List.{List}
+use borrow.Author.Tests.{eq-eqb, ne-eqb}
+use Rattle.isa.specs.declared.Operand.the-variants.{Absent, Reg, Imm, Mem}
+use Rattle.sheet_field.specs.declared.Place.{Place}
+use Rattle.sheet_field.specs.declared.Field.{Field}
+use Rattle.sheet_instruction.specs.declared.RegisterField.{RegisterField}
+use Rattle.sheet_instruction.specs.declared.OperandField.{OperandField}
+use Rattle.sheet_field.specs.Field.{fieldAt, codeAt}
+use Rattle.sheet_field.specs.Field.{checkField, countAt, judge, keep, startOf}
+use Rattle.sheet_instruction.specs.Instruction.{registerAt, operandAt, withRegister, registersFrom, bitOf, optionalOperand, optionalRegisters, optionalCode, headAt, tailAt, instructionAt}
+use Rattle.isa.specs.declared.Instruction.{Instruction}
+use Rattle.isa.specs.Modelled.{atFault}
+use Rattle.sheet_instruction.specs.declared.Head.{Head}
+use Rattle.sheet_instruction.specs.declared.Tail.{Tail}
+use Rattle.sheet_instruction.specs.declared.InstructionField.{InstructionField}
+use native.Mathlib.Numerals.{add-one}
+use native.Mathlib.Omega.{arith}
+use mathlib.Core.Bool.{Bool, true, false, not, _&&_}
+use lib.Dec.{leb}
+use borrow.Author.Tests.{leb-true}
+use Rattle.sheet_field.specs.declared.Place.the-variants.{At, Refused}
+use Rattle.sheet_instruction.specs.declared.Registers.{Registers}
+
+module _ (s : List ℕ) (p : Place) {kind : Field} (kind-is : kind ≡ codeAt 3 s p) where
+  pub operand-register : {r : RegisterField} → kind .value ≡ 0 → r ≡ registerAt s (kind .next)
+      → _≡_ {A = OperandField} (record { operand = Reg (r .register); next = r .next }) (operandAt s p)
+  unfolding operandAt
+  operand-register zero-is r-is = rw (r-is, ← kind-is, eq-eqb _ _ zero-is)
+
+  pub operand-immediate : {v : Field} → (kind .value ≡ 0 → ⊥) → kind .value ≡ 1 → v ≡ fieldAt 8 s (kind .next)
+      → _≡_ {A = OperandField} (record { operand = Imm (v .value); next = v .next }) (operandAt s p)
+  unfolding operandAt
+  operand-immediate not-zero one-is v-is = rw (v-is, ← kind-is, ne-eqb _ _ not-zero, eq-eqb _ _ one-is)
+
+  pub operand-memory : (kind .value ≡ 0 → ⊥) → (kind .value ≡ 1 → ⊥)
+      → _≡_ {A = OperandField} (record { operand = Mem; next = kind .next }) (operandAt s p)
+  unfolding operandAt
+  operand-memory not-zero not-one = rw (← kind-is, ne-eqb _ _ not-zero, ne-eqb _ _ not-one)
+
+pub registers-count : (s : List ℕ) (p : Place) (k : ℕ) → registersFrom s p k .count ≡ k
+unfolding registersFrom withRegister
+registers-count s p zero = refl
+registers-count s p (suc k) = rw (registers-count s p k, add-one)
+
+pub registers-more : (s : List ℕ) (p : Place) (k : ℕ) → withRegister s (registersFrom s p k) ≡ registersFrom s p (k + 1)
+unfolding registersFrom
+registers-more s p k = rw add-one
+
+-- a tail from its parts
+pub tail-is : (map : ℕ) (s : List ℕ) (p : Place) {b4 b8 b16 b32 : Bool} {one two : OperandField} {written : Registers} {flags : Field}
+    → b4 ≡ bitOf map 4 → one ≡ optionalOperand b4 s p
+    → b8 ≡ bitOf map 8 → two ≡ optionalOperand b8 s (one .next)
+    → b16 ≡ bitOf map 16 → written ≡ optionalRegisters b16 s (two .next)
+    → b32 ≡ bitOf map 32 → flags ≡ optionalCode b32 32 s (written .next)
+    → _≡_ {A = Tail}
+    (record { first = one .operand; second = two .operand; written = written .list; count = written .count; flags = flags .value; next = flags .next })
+    (tailAt map s p)
+unfolding tailAt
+tail-is map s p e4 one-is e8 two-is e16 written-is e32 flags-is =
+    rw (flags-is, written-is, two-is, one-is, e4, e8, e16, e32)
+
+-- an instruction from its parts
+pub instruction-is : (first : Bool) (last : ℕ) (s : List ℕ) (p : Place) {head : Head} {tail : Tail} {branch call fault : Bool} {start : ℕ} {next : Place}
+    → head ≡ headAt first last s p → tail ≡ tailAt (head .map) s (head .next)
+    → branch ≡ bitOf (head .map) 1 → call ≡ bitOf (head .map) 2
+    → fault ≡ atFault (record { address = head .address; mnemonic = head .mnemonic; branch = branch; target = head .target; call = call; first = tail .first; second = tail .second; written = tail .written; count = tail .count; flags = tail .flags })
+    → start ≡ startOf p → next ≡ judge (not fault) 6 start (tail .next)
+    → _≡_ {A = InstructionField}
+    (record {
+      instruction = record { address = head .address; mnemonic = head .mnemonic; branch = branch; target = head .target; call = call; first = tail .first; second = tail .second; written = tail .written; count = tail .count; flags = tail .flags };
+      next = next;
+    })
+    (instructionAt first last s p)
+unfolding instructionAt
+instruction-is first last s p head-is tail-is branch-is call-is fault-is start-is next-is =
+    rw (next-is, start-is, fault-is, branch-is, call-is, tail-is, head-is)

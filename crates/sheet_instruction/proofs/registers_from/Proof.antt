@@ -1,0 +1,47 @@
+use Prim.Native.Nat.{_≤_, _-_}
+use mathlib.Core.Path.{_≡_, refl}
+use borrow.Author.Needs.{needs}
+use native.Mathlib.Omega.{arith}
+use Rattle.sheet_instruction.specs.Instruction.{registersFrom}
+use Rattle.sheet_instruction.proofs.Instructions.{registers-count, registers-more}
+use Rattle.sheet_instruction.proofs.registers_from.Statement.{statement}
+use Rattle.sheet_instruction.proofs.registers_from.Tie as tie
+use Rattle.sheet_instruction.proofs.registers_from.Reads as reads
+use Rattle.sheet_instruction.proofs.registers_from.Lts as lts
+use Rattle.sheet_instruction.proofs.with_register.Reads as with-register-reads
+
+abbrev Inv-loop : tie.InvT-loop
+Inv-loop s n taken₀ i₀ taken i = (i ≤ n) × (taken ≡ registersFrom s (taken₀ .next) i)
+
+abbrev μ-loop : tie.MeasureT-loop
+μ-loop s n taken₀ i₀ taken i = n - i
+
+-- src/instruction.rt:133:5
+loop-holds : tie.Need-loop-holds Inv-loop μ-loop
+unfolding registersFrom
+loop-holds c = (search needs, refl)
+
+-- src/instruction.rt:134:9
+with-register-requires : tie.Need-with-register-requires Inv-loop μ-loop
+with-register-requires c κs = rw (c .before .loop .inv .1, registers-count) (omega arith)
+
+-- src/instruction.rt:135:9
+add-i : tie.Need-add-i Inv-loop μ-loop
+add-i c = search needs
+
+-- src/instruction.rt:133:5
+loop-less : tie.Need-loop-less Inv-loop μ-loop
+loop-less c = search needs
+
+-- src/instruction.rt:133:5
+loop-again : tie.Need-loop-again Inv-loop μ-loop
+loop-again c = (search needs, rw (c .with-register .ensures, c .before .before .loop .inv .1) (registers-more _ _ _))
+
+-- src/instruction.rt:117:1
+returns : tie.Need-returns Inv-loop μ-loop
+returns c = let e : c .before .before .before .args .n ≡ c .before .loop .i = omega arith in rw e (c .before .loop .inv .1)
+
+pub registers-from-spec : {M : Type 1} → statement M
+registers-from-spec =
+    tie.close
+    (tie.spec Inv-loop μ-loop loop-holds with-register-requires add-i loop-less loop-again returns)

@@ -1,0 +1,27 @@
+use borrow.Author.Needs.{needs}
+use Rattle.sheet_instruction.proofs.registers_if.Statement.{statement}
+use Rattle.sheet_instruction.proofs.registers_if.Tie as tie
+use Rattle.sheet_instruction.proofs.registers_if.Reads as reads
+use Rattle.sheet_instruction.proofs.registers_if.Lts as lts
+use Rattle.sheet_instruction.proofs.registers_from.Reads as registers-from-reads
+use Rattle.sheet_instruction.proofs.take_registers.Reads as take-registers-reads
+
+-- src/instruction.rt:152:9
+take-registers-requires : tie.Need-take-registers-requires
+take-registers-requires c κs = search needs
+
+-- src/instruction.rt:154:9
+registers-from-requires : tie.Need-registers-from-requires
+registers-from-requires c κs = search needs
+
+-- src/instruction.rt:148:1
+returns : tie.Need-returns
+returns c = rw (c .before .if1 .taken) (c .take-registers .ensures)
+
+-- src/instruction.rt:148:1
+returns-2 : tie.Need-returns-2
+returns-2 c = rw (c .before .if1 .left) (c .registers-from .ensures)
+
+pub registers-if-spec : {M : Type 1} → statement M
+registers-if-spec =
+    tie.close (tie.spec take-registers-requires registers-from-requires returns returns-2)

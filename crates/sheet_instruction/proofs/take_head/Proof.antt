@@ -1,0 +1,47 @@
+use Rattle.sheet_instruction.specs.Instruction.{headAt}
+use borrow.Author.Needs.{needs}
+use Rattle.sheet_instruction.proofs.take_head.Statement.{statement}
+use Rattle.sheet_instruction.proofs.take_head.Tie as tie
+use Rattle.sheet_instruction.proofs.take_head.Reads as reads
+use Rattle.sheet_instruction.proofs.take_head.Lts as lts
+use Rattle.sheet_field.proofs.code.Reads as code-reads
+use Rattle.sheet_instruction.proofs.bit.Reads as bit-reads
+use Rattle.sheet_instruction.proofs.field_if.Reads as field-if-reads
+use Rattle.sheet_instruction.proofs.take_address.Reads as take-address-reads
+use Rattle.sheet_instruction.proofs.take_map.Reads as take-map-reads
+
+-- src/instruction.rt:225:9
+take-map-requires : tie.Need-take-map-requires
+take-map-requires c κs = search needs
+
+-- src/instruction.rt:227:9
+take-address-requires : tie.Need-take-address-requires
+take-address-requires c κs = search needs
+
+-- src/instruction.rt:229:9
+code-requires : tie.Need-code-requires
+code-requires c κs = search needs
+
+-- src/instruction.rt:231:27
+bit-requires : tie.Need-bit-requires
+bit-requires c κs = search needs
+
+-- src/instruction.rt:231:9
+field-if-requires : tie.Need-field-if-requires
+field-if-requires c κs = search needs
+
+-- src/instruction.rt:222:1
+returns : tie.Need-returns
+unfolding headAt
+returns c = cc
+
+pub take-head-spec : {M : Type 1} → statement M
+take-head-spec =
+    tie.close
+    (tie.spec
+    take-map-requires
+    take-address-requires
+    code-requires
+    bit-requires
+    field-if-requires
+    returns)

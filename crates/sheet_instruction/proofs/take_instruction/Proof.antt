@@ -1,0 +1,58 @@
+use Rattle.sheet_instruction.proofs.Instructions.{instruction-is}
+use Rattle.sheet_instruction.specs.Instruction.{instructionAt}
+use borrow.Author.Needs.{needs}
+use Rattle.sheet_instruction.proofs.take_instruction.Statement.{statement}
+use Rattle.sheet_instruction.proofs.take_instruction.Tie as tie
+use Rattle.sheet_instruction.proofs.take_instruction.Reads as reads
+use Rattle.sheet_instruction.proofs.take_instruction.Lts as lts
+use Rattle.isa.proofs.is_at_fault.Reads as is-at-fault-reads
+use Rattle.sheet_field.proofs.judged.Reads as judged-reads
+use Rattle.sheet_field.proofs.start.Reads as start-reads
+use Rattle.sheet_instruction.proofs.bit.Reads as bit-reads
+use Rattle.sheet_instruction.proofs.take_head.Reads as take-head-reads
+use Rattle.sheet_instruction.proofs.take_tail.Reads as take-tail-reads
+
+-- src/instruction.rt:270:9
+take-head-requires : tie.Need-take-head-requires
+take-head-requires c κs = search needs
+
+-- src/instruction.rt:272:9
+take-tail-requires : tie.Need-take-tail-requires
+take-tail-requires c κs = search needs
+
+-- src/instruction.rt:280:17
+bit-requires : tie.Need-bit-requires
+bit-requires c κs = search needs
+
+-- src/instruction.rt:282:15
+bit-requires-2 : tie.Need-bit-requires-2
+bit-requires-2 c κs = search needs
+
+-- src/instruction.rt:289:9
+is-at-fault-requires : tie.Need-is-at-fault-requires
+is-at-fault-requires c κs = search needs
+
+-- src/instruction.rt:292:52
+start-requires : tie.Need-start-requires
+start-requires c κs = search needs
+
+-- src/instruction.rt:292:15
+judged-requires : tie.Need-judged-requires
+judged-requires c κs = search needs
+
+-- src/instruction.rt:267:1
+returns : tie.Need-returns
+returns c = instruction-is _ _ _ _ (c .before .before .before .before .before .before .before .take-head .ensures) (c .before .before .before .before .before .before .take-tail .ensures) (c .before .before .before .before .bit .ensures) (c .before .before .before .bit2 .ensures) (c .before .before .is-at-fault .ensures) (c .before .start .ensures) (c .judged .ensures)
+
+pub take-instruction-spec : {M : Type 1} → statement M
+take-instruction-spec =
+    tie.close
+    (tie.spec
+    take-head-requires
+    take-tail-requires
+    bit-requires
+    bit-requires-2
+    is-at-fault-requires
+    start-requires
+    judged-requires
+    returns)

@@ -1,0 +1,36 @@
+use Rattle.sheet_instruction.specs.Instruction.{mapAt}
+use borrow.Author.Needs.{needs}
+use Rattle.sheet_instruction.proofs.take_map.Statement.{statement}
+use Rattle.sheet_instruction.proofs.take_map.Tie as tie
+use Rattle.sheet_instruction.proofs.take_map.Reads as reads
+use Rattle.sheet_instruction.proofs.take_map.Lts as lts
+use Rattle.sheet_field.proofs.checked.Reads as checked-reads
+use Rattle.sheet_field.proofs.start.Reads as start-reads
+use Rattle.sheet_field.proofs.take_field.Reads as take-field-reads
+use Rattle.sheet_instruction.proofs.map_ok.Reads as map-ok-reads
+
+-- src/instruction.rt:208:9
+take-field-requires : tie.Need-take-field-requires
+take-field-requires c κs = search needs
+
+-- src/instruction.rt:209:9
+map-ok-requires : tie.Need-map-ok-requires
+map-ok-requires c κs = search needs
+
+-- src/instruction.rt:210:37
+start-requires : tie.Need-start-requires
+start-requires c κs = search needs
+
+-- src/instruction.rt:210:5
+checked-requires : tie.Need-checked-requires
+checked-requires c κs = search needs
+
+-- src/instruction.rt:205:1
+returns : tie.Need-returns
+unfolding mapAt
+returns c = cc
+
+pub take-map-spec : {M : Type 1} → statement M
+take-map-spec =
+    tie.close
+    (tie.spec take-field-requires map-ok-requires start-requires checked-requires returns)

@@ -1,0 +1,133 @@
+-- Instruction records, as the section on the sheet gives them, field by field in reading order.
+use Prim.Native.Nat.{ℕ, zero, suc, _+_, _/_, _%_}
+use mathlib.Core.List.{List}
+use mathlib.Core.Bool.{Bool, true, false, cond, not, _&&_, _||_}
+use lib.ListN.{length, getD, set, replicate}
+use lib.Dec.{leb, ltb, eqb}
+use Rattle.isa.specs.declared.Register.{Register}
+use Rattle.isa.specs.declared.Operand.{Operand}
+use Rattle.isa.specs.declared.Operand.the-variants.{Absent, Reg, Imm, Mem}
+use Rattle.isa.specs.declared.Instruction.{Instruction}
+use Rattle.isa.specs.Register.{wellFormed}
+use Rattle.isa.specs.Modelled.{atFault}
+use Rattle.sheet_field.specs.declared.Place.{Place}
+use Rattle.sheet_field.specs.declared.Field.{Field}
+use Rattle.sheet_instruction.specs.declared.RegisterField.{RegisterField}
+use Rattle.sheet_instruction.specs.declared.OperandField.{OperandField}
+use Rattle.sheet_instruction.specs.declared.Registers.{Registers}
+use Rattle.sheet_instruction.specs.declared.Head.{Head}
+use Rattle.sheet_instruction.specs.declared.Tail.{Tail}
+use Rattle.sheet_instruction.specs.declared.InstructionField.{InstructionField}
+use Rattle.sheet_field.specs.Field.{fieldAt, startOf, judge, checkField, codeAt, countAt}
+
+-- Register: class, index, size and offset, a byte each. Turned back, 5: a register of class 1 is ill formed, seen at the
+-- offset byte; the refusal stands at the class byte.
+unfoldable pub registerAt : List ℕ → Place → RegisterField
+registerAt s p =
+    let class = fieldAt 1 s p in
+    let index = fieldAt 1 s (class .next) in
+    let size = fieldAt 1 s (index .next) in
+    let offset = fieldAt 1 s (size .next) in
+    let it : Register = record { class = class .value; index = index .value; size = size .value; offset = offset .value } in
+    record { register = it; next = judge (wellFormed it) 5 (startOf p) (offset .next) }
+
+-- Operand: 0 and a register, 1 and an immediate of 8 bytes, 2 memory with nothing more.
+unfoldable pub operandAt : List ℕ → Place → OperandField
+operandAt s p =
+    let kind = codeAt 3 s p in
+    let register = registerAt s (kind .next) in
+    let immediate = fieldAt 8 s (kind .next) in
+    cond (eqb (kind .value) 0)
+    (record { operand = Reg (register .register); next = register .next })
+    (cond (eqb (kind .value) 1)
+    (record { operand = Imm (immediate .value); next = immediate .next })
+    (record { operand = Mem; next = kind .next }))
+
+-- Written registers: one register more behind those read so far.
+unfoldable pub withRegister : List ℕ → Registers → Registers
+withRegister s before =
+    let r = registerAt s (before .next) in
+    record { list = set (before .list) (before .count) (r .register); count = before .count + 1; next = r .next }
+
+-- Written registers: after the first k of them, from a place on. Where a list of eight is not full, the rest is nothing.
+unfoldable pub registersFrom : List ℕ → Place → ℕ → Registers
+registersFrom s p zero =
+    record { list = replicate 8 (record { class = 0; index = 0; size = 0; offset = 0 }); count = 0; next = p }
+registersFrom s p (suc k) = withRegister s (registersFrom s p k)
+
+-- Bit 4, written registers: a count from 0 to 8, then each.
+unfoldable pub registersAt : List ℕ → Place → Registers
+registersAt s p =
+    let n = countAt 0 8 s p in
+    registersFrom s (n .next) (n .value)
+
+-- Only the fields whose bit stands are there; an absent list or flag byte means none.
+abbrev pub optionalRegisters : Bool → List ℕ → Place → Registers
+optionalRegisters there s p = cond there (registersAt s p) (registersFrom s p 0)
+
+abbrev pub optionalOperand : Bool → List ℕ → Place → OperandField
+optionalOperand there s p = cond there (operandAt s p) (record { operand = Absent; next = p })
+
+abbrev pub optionalField : Bool → List ℕ → Place → Field
+optionalField there s p = cond there (fieldAt 8 s p) (record { value = 0; next = p })
+
+abbrev pub optionalCode : Bool → ℕ → List ℕ → Place → Field
+optionalCode there limit s p = cond there (codeAt limit s p) (record { value = 0; next = p })
+
+-- whether the bit of value `unit` (1, 2, 4, ..) stands in a map
+abbrev pub bitOf : ℕ → ℕ → Bool
+bitOf map unit = eqb (map / unit % 2) 1
+
+-- Map byte: bits 6 and 7, bits 0 and 1 together, and bit 3 without 2 are faults.
+abbrev pub mapOk : ℕ → Bool
+mapOk map = ltb map 64 && not (bitOf map 1 && bitOf map 2) && (not (bitOf map 8) || bitOf map 4)
+
+-- Turned back, 2: a map outside its table; the refusal stands at the map byte.
+unfoldable pub mapAt : List ℕ → Place → Field
+mapAt s p =
+    let f = fieldAt 1 s p in
+    checkField (mapOk (f .value)) 2 (startOf p) f
+
+-- Addresses rise strictly. Turned back, 4: an address that is not above the one before; the refusal stands at the address.
+unfoldable pub addressAt : Bool → ℕ → List ℕ → Place → Field
+addressAt first last s p =
+    let f = fieldAt 8 s p in
+    checkField (first || ltb last (f .value)) 4 (startOf p) f
+
+-- Map byte, address (8), mnemonic (0 to 34), and where bit 0 stands the target (8).
+unfoldable pub headAt : Bool → ℕ → List ℕ → Place → Head
+headAt first last s p =
+    let map = mapAt s p in
+    let address = addressAt first last s (map .next) in
+    let mnemonic = codeAt 35 s (address .next) in
+    let target = optionalField (bitOf (map .value) 1) s (mnemonic .next) in
+    record { map = map .value; address = address .value; mnemonic = mnemonic .value; target = target .value; next = target .next }
+
+-- Bit 2 first operand, bit 3 second operand, bit 4 written registers, bit 5 written flags (five bits).
+unfoldable pub tailAt : ℕ → List ℕ → Place → Tail
+tailAt map s p =
+    let one = optionalOperand (bitOf map 4) s p in
+    let two = optionalOperand (bitOf map 8) s (one .next) in
+    let written = optionalRegisters (bitOf map 16) s (two .next) in
+    let flags = optionalCode (bitOf map 32) 32 s (written .next) in
+    record { first = one .operand; second = two .operand; written = written .list; count = written .count; flags = flags .value; next = flags .next }
+
+-- An instruction record. Bit 0: a conditional branch; bit 1: call-like. Turned back, 6: a modelled instruction at fault, seen
+-- at its end; the refusal stands at its start.
+unfoldable pub instructionAt : Bool → ℕ → List ℕ → Place → InstructionField
+instructionAt first last s p =
+    let head = headAt first last s p in
+    let tail = tailAt (head .map) s (head .next) in
+    let it : Instruction = record {
+      address = head .address;
+      mnemonic = head .mnemonic;
+      branch = bitOf (head .map) 1;
+      target = head .target;
+      call = bitOf (head .map) 2;
+      first = tail .first;
+      second = tail .second;
+      written = tail .written;
+      count = tail .count;
+      flags = tail .flags;
+    } in
+    record { instruction = it; next = judge (not (atFault it)) 6 (startOf p) (tail .next) }

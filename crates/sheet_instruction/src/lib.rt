@@ -1,0 +1,298 @@
+// Instruction records: one reader, which both checks a record and takes its content.
+use isa::Instruction;
+use isa::Operand;
+use isa::Register;
+use sheet_field::Field;
+use sheet_field::Place;
+use sheet_field::Width;
+ghost use mathlib.Core.Path.{_≡_};
+ghost use Prim.Native.Nat.{_<_, _≤_};
+ghost use Rattle.sheet_instruction.specs.Instruction.{registerAt, operandAt, withRegister, registersFrom, registersAt, optionalRegisters, bitOf, mapOk, mapAt, addressAt, optionalField, optionalCode, optionalOperand, headAt, tailAt, instructionAt};
+
+pub struct RegisterField {
+    pub register: Register,
+    pub next: Place,
+}
+
+pub struct OperandField {
+    pub operand: Operand,
+    pub next: Place,
+}
+
+// The first count of the list, and the place after them.
+pub struct Registers {
+    pub list: [Register; 8],
+    pub count: u64,
+    pub next: Place,
+}
+
+pub struct Head {
+    pub map: u64,
+    pub address: u64,
+    pub mnemonic: u64,
+    pub target: u64,
+    pub next: Place,
+}
+
+pub struct Tail {
+    pub first: Operand,
+    pub second: Operand,
+    pub written: [Register; 8],
+    pub count: u64,
+    pub flags: u64,
+    pub next: Place,
+}
+
+pub struct InstructionField {
+    pub instruction: Instruction,
+    pub next: Place,
+}
+
+pub fn take_register(s: &[u8], p: Place) -> RegisterField
+    ensures { λ r. ⌜ r ≡ registerAt (now (s .entry)) p ⌝ }
+{
+    let class = sheet_field::take_field(s, p, Width::One);
+    let after_class = class.next;
+    let index = sheet_field::take_field(s, after_class, Width::One);
+    let after_index = index.next;
+    let size = sheet_field::take_field(s, after_index, Width::One);
+    let after_size = size.next;
+    let offset = sheet_field::take_field(s, after_size, Width::One);
+    let after_offset = offset.next;
+    let register = Register {
+        class: class.value,
+        index: index.value,
+        size: size.value,
+        offset: offset.value,
+    };
+    let ok = isa::well_formed(register);
+    RegisterField {
+        register,
+        next: sheet_field::judged(after_offset, ok, 5, sheet_field::start(p)),
+    }
+}
+
+pub fn take_operand(s: &[u8], p: Place) -> OperandField
+    ensures { λ r. ⌜ r ≡ operandAt (now (s .entry)) p ⌝ }
+{
+    let kind = sheet_field::code(s, p, 3);
+    let after = kind.next;
+    if kind.value == 0 {
+        let r = take_register(s, after);
+        let register = r.register;
+        let next = r.next;
+        return OperandField {
+            operand: Operand::Reg(register),
+            next,
+        };
+    }
+    if kind.value == 1 {
+        let v = sheet_field::take_field(s, after, Width::Eight);
+        let next = v.next;
+        return OperandField {
+            operand: Operand::Imm(v.value),
+            next,
+        };
+    }
+    OperandField {
+        operand: Operand::Mem,
+        next: after,
+    }
+}
+
+fn with_register(s: &[u8], before: Registers) -> Registers
+    requires { ⌜ before .count < 8 ⌝ }
+    ensures { λ r. ⌜ r ≡ withRegister (now (s .entry)) before ⌝ }
+{
+    let from = before.next;
+    let r = take_register(s, from);
+    let register = r.register;
+    let next = r.next;
+    let count = before.count;
+    let mut list = before.list;
+    list[count as usize] = register;
+    Registers {
+        list,
+        count: count + 1,
+        next,
+    }
+}
+
+fn registers_from(s: &[u8], p: Place, n: u64) -> Registers
+    requires { ⌜ n ≤ 8 ⌝ }
+    ensures { λ r. ⌜ r ≡ registersFrom (now (s .entry)) p n ⌝ }
+{
+    let none = Register {
+        class: 0,
+        index: 0,
+        size: 0,
+        offset: 0,
+    };
+    let mut taken = Registers {
+        list: [none; 8],
+        count: 0,
+        next: p,
+    };
+    let mut i: u64 = 0;
+    while i < n {
+        taken = with_register(s, taken);
+        i += 1;
+    }
+    taken
+}
+
+pub fn take_registers(s: &[u8], p: Place) -> Registers
+    ensures { λ r. ⌜ r ≡ registersAt (now (s .entry)) p ⌝ }
+{
+    let n = sheet_field::count(s, p, 0, 8);
+    let next = n.next;
+    registers_from(s, next, n.value)
+}
+
+fn registers_if(there: bool, s: &[u8], p: Place) -> Registers
+    ensures { λ r. ⌜ r ≡ optionalRegisters there (now (s .entry)) p ⌝ }
+{
+    if there {
+        take_registers(s, p)
+    } else {
+        registers_from(s, p, 0)
+    }
+}
+
+fn operand_if(there: bool, s: &[u8], p: Place) -> OperandField
+    ensures { λ r. ⌜ r ≡ optionalOperand there (now (s .entry)) p ⌝ }
+{
+    if there {
+        take_operand(s, p)
+    } else {
+        OperandField {
+            operand: Operand::Absent,
+            next: p,
+        }
+    }
+}
+
+fn field_if(there: bool, s: &[u8], p: Place) -> Field
+    ensures { λ r. ⌜ r ≡ optionalField there (now (s .entry)) p ⌝ }
+{
+    if there {
+        sheet_field::take_field(s, p, Width::Eight)
+    } else {
+        Field { value: 0, next: p }
+    }
+}
+
+fn code_if(there: bool, s: &[u8], p: Place, limit: u64) -> Field
+    ensures { λ r. ⌜ r ≡ optionalCode there limit (now (s .entry)) p ⌝ }
+{
+    if there {
+        sheet_field::code(s, p, limit)
+    } else {
+        Field { value: 0, next: p }
+    }
+}
+
+// Whether the bit whose value is `unit` stands in the map.
+fn bit(map: u64, unit: u64) -> bool
+    requires { ⌜ 0 < unit ⌝ }
+    ensures { λ r. ⌜ r ≡ bitOf map unit ⌝ }
+{
+    map / unit % 2 == 1
+}
+
+fn map_ok(map: u64) -> bool
+    ensures { λ r. ⌜ r ≡ mapOk map ⌝ }
+{
+    (map < 64) & !(bit(map, 1) & bit(map, 2)) & (!bit(map, 8) | bit(map, 4))
+}
+
+fn take_map(s: &[u8], p: Place) -> Field
+    ensures { λ r. ⌜ r ≡ mapAt (now (s .entry)) p ⌝ }
+{
+    let f = sheet_field::take_field(s, p, Width::One);
+    let ok = map_ok(f.value);
+    sheet_field::checked(f, ok, 2, sheet_field::start(p))
+}
+
+// An address above `last`, or any where it is the first.
+fn take_address(s: &[u8], p: Place, first: bool, last: u64) -> Field
+    ensures { λ r. ⌜ r ≡ addressAt first last (now (s .entry)) p ⌝ }
+{
+    let f = sheet_field::take_field(s, p, Width::Eight);
+    let ok = first | (last < f.value);
+    sheet_field::checked(f, ok, 4, sheet_field::start(p))
+}
+
+fn take_head(s: &[u8], p: Place, first: bool, last: u64) -> Head
+    ensures { λ r. ⌜ r ≡ headAt first last (now (s .entry)) p ⌝ }
+{
+    let map = take_map(s, p);
+    let after_map = map.next;
+    let address = take_address(s, after_map, first, last);
+    let after_address = address.next;
+    let mnemonic = sheet_field::code(s, after_address, 35);
+    let after_mnemonic = mnemonic.next;
+    let target = field_if(bit(map.value, 1), s, after_mnemonic);
+    let next = target.next;
+    Head {
+        map: map.value,
+        address: address.value,
+        mnemonic: mnemonic.value,
+        target: target.value,
+        next,
+    }
+}
+
+fn take_tail(s: &[u8], p: Place, map: u64) -> Tail
+    ensures { λ r. ⌜ r ≡ tailAt map (now (s .entry)) p ⌝ }
+{
+    let a = operand_if(bit(map, 4), s, p);
+    let after_a = a.next;
+    let b = operand_if(bit(map, 8), s, after_a);
+    let after_b = b.next;
+    let w = registers_if(bit(map, 16), s, after_b);
+    let after_w = w.next;
+    let f = code_if(bit(map, 32), s, after_w, 32);
+    let next = f.next;
+    let first = a.operand;
+    let second = b.operand;
+    let written = w.list;
+    Tail {
+        first,
+        second,
+        written,
+        count: w.count,
+        flags: f.value,
+        next,
+    }
+}
+
+// The instruction record at a place; `first` where none stands before it, else `last` is the address before.
+pub fn take_instruction(s: &[u8], p: Place, first: bool, last: u64) -> InstructionField
+    ensures { λ r. ⌜ r ≡ instructionAt first last (now (s .entry)) p ⌝ }
+{
+    let head = take_head(s, p, first, last);
+    let after = head.next;
+    let tail = take_tail(s, after, head.map);
+    let one = tail.first;
+    let two = tail.second;
+    let written = tail.written;
+    let end = tail.next;
+    let instruction = Instruction {
+        address: head.address,
+        mnemonic: head.mnemonic,
+        branch: bit(head.map, 1),
+        target: head.target,
+        call: bit(head.map, 2),
+        first: one,
+        second: two,
+        written,
+        count: tail.count,
+        flags: tail.flags,
+    };
+    let fault = isa::is_at_fault(instruction);
+    InstructionField {
+        instruction,
+        next: sheet_field::judged(end, !fault, 6, sheet_field::start(p)),
+    }
+}

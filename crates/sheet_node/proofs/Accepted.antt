@@ -1,0 +1,161 @@
+-- Where reading goes on after a statement or a node, it went on before it.
+use Prim.Native.Nat.{ℕ, zero, suc, _+_, _≤_, _<_}
+use mathlib.Core.Path.{_≡_, refl, sym, _∙_}
+use mathlib.Core.List.{List, []}
+use mathlib.Core.Logic.{⊎-elim}
+use native.Mathlib.Omega.{arith}
+use native.Mathlib.Nat.{eq-or-lt-of-le}
+use mathlib.Core.Bool.{Bool, true, false, false≢true}
+use lib.Dec.{eqb}
+use lib.ListN.{length, getD, take, drop, length-append, length-drop, List·getD-append}
+use lib.Seq.{getD-at, length-take-le}
+use Rattle.expr.specs.Tree.{Wf}
+use Rattle.expr.specs.Statement.{Statement}
+use Rattle.sheet_field.specs.declared.Place.{Place}
+use Rattle.sheet_field.specs.declared.Place.the-variants.{At}
+use Rattle.sheet_field.specs.Field.{fieldAt, startOf, codeAt, countAt, WentOn}
+use Rattle.sheet_field.proofs.Fields.{judge-at, check-at, field-at, code-at, count-at, count-most, count-on}
+use Rattle.sheet_expression.specs.Expression.{expressionAt}
+use Rattle.sheet_expression.proofs.Accepted.{one-tree}
+use Rattle.sheet_node.proofs.Nodes.{types-inside}
+use Rattle.sheet_node.specs.Node.{mapAt, assignmentAt, statementAt, statementOf, statementsFrom, typesFrom, typesOf, addressesFrom, nodeAt}
+
+map-on : (s : List ℕ) (p : Place) {a : ℕ} → mapAt s p .next ≡ At a → WentOn p
+unfolding mapAt
+map-on s p e = let w = field-at 1 s p (check-at _ 2 (startOf p) (fieldAt 1 s p) e .1) in (w .from, w .there)
+
+assignment-on : (types : List ℕ) (begin : ℕ) (s : List ℕ) (p : Place) {a : ℕ} → assignmentAt types begin s p .next ≡ At a → WentOn p
+unfolding assignmentAt
+assignment-on types begin s p e =
+    let value = one-tree (length types) s _ (judge-at _ 9 begin _ e .1) in
+    let w = code-at (length types) s p (value .there) .whole in
+    (w .from, w .there)
+
+pub statement-on : (types s : List ℕ) (p : Place) {a : ℕ} → statementAt types s p .next ≡ At a → WentOn p
+unfolding statementAt
+statement-on types s p e = go (eqb (mapAt s p .value) 3) refl
+  where
+    go : (t : Bool) → eqb (mapAt s p .value) 3 ≡ t → WentOn p
+    go true q = map-on s p (assignment-on types (startOf p) s (mapAt s p .next) (rw q at e) .1)
+    go false q = map-on s p (rw q at e)
+
+pub statements-on : (types s : List ℕ) (p : Place) (k : ℕ) {a : ℕ} → statementsFrom types s p k .next ≡ At a → WentOn p
+unfolding statementsFrom
+statements-on types s p zero {a} e = (a, e)
+statements-on types s p (suc k) e = statements-on types s p k (statement-on types s (statementsFrom types s p k .next) e .1)
+
+types-on : (s : List ℕ) (p : Place) (k : ℕ) {a : ℕ} → typesFrom s p k ≡ At a → WentOn p
+unfolding typesFrom
+types-on s p zero {a} e = (a, e)
+types-on s p (suc k) e = types-on s p k (code-at 10 s (typesFrom s p k) e .whole .there)
+
+addresses-on : (s : List ℕ) (p : Place) (k : ℕ) {a : ℕ} → addressesFrom s p k .next ≡ At a → WentOn p
+unfolding addressesFrom
+addresses-on s p zero {a} e = (a, e)
+addresses-on s p (suc k) e = addresses-on s p k (field-at 8 s (addressesFrom s p k .next) e .there)
+
+pub node-on : (s : List ℕ) (p : Place) {a : ℕ} → nodeAt s p .next ≡ At a → WentOn p
+unfolding nodeAt
+node-on s p e =
+    let v = countAt 0 32 s p in
+    let typesEnd = typesFrom s (v .next) (v .value) in
+    let types = typesOf typesEnd (startOf (v .next)) (v .value) s in
+    let k = countAt 0 64 s typesEnd in
+    let condition = statementsFrom types s (k .next) (k .value) .next in
+    let conditionEnd = expressionAt (length types) s condition .next in
+    let a = countAt 0 16 s conditionEnd in
+    let sites = addresses-on s (a .next) (a .value) e in
+    let judged = count-on 0 16 s conditionEnd (sites .1) in
+    let one = one-tree (length types) s condition (judged .1) in
+    let body = statements-on types s (k .next) (k .value) (one .there) in
+    let counted = count-on 0 64 s typesEnd (body .1) in
+    count-on 0 32 s p (types-on s (v .next) (v .value) (counted .1) .1)
+
+-- statements that were read whole were so one by one
+pub statements-back : (types s : List ℕ) (p : Place) (k j : ℕ) {a : ℕ} → statementsFrom types s p k .next ≡ At a → j ≤ k
+    → WentOn (statementsFrom types s p j .next)
+unfolding statementsFrom
+statements-back types s p zero j {a} e le = let z : j ≡ 0 = omega arith in (a, rw z e)
+statements-back types s p (suc k) j {a} e le =
+    ⊎-elim
+    (λ (z : j ≡ suc k). (a, rw z e))
+    (λ (lt : j < suc k). statements-back types s p k j (statement-on types s (statementsFrom types s p k .next) e .1) (omega arith))
+    (eq-or-lt-of-le le)
+
+pub statements-length : (types s : List ℕ) (p : Place) (k : ℕ) → length (statementsFrom types s p k .list) ≡ k
+unfolding statementsFrom
+statements-length types s p zero = refl
+statements-length types s p (suc k) = rw (length-append, statements-length types s p k) (omega arith)
+
+pub statements-nth : (types s : List ℕ) (p : Place) (k j : ℕ) (d : Statement) → j < k
+    → getD (statementsFrom types s p k .list) j d ≡ statementOf (statementAt types s (statementsFrom types s p j .next))
+unfolding statementsFrom
+statements-nth types s p zero j d lt = absurd (omega arith)
+statements-nth types s p (suc k) j d lt =
+    let l = statementsFrom types s p k .list in
+    ⊎-elim
+    (λ (z : j ≡ k). rw z (getD-at l _ [] d k (statements-length types s p k)))
+    (λ (below : j < k). List·getD-append l _ d j (rw (statements-length types s p k) below) ∙ statements-nth types s p k j d below)
+    (eq-or-lt-of-le (omega arith))
+
+-- an assignment that was read whole has one tree of at most 128 records, and its variable is declared
+pub record Assigned (types s : List ℕ) (p : Place) : Type 0 where
+  pub tree : Wf (statementAt types s p .words)
+  pub short : length (statementAt types s p .words) ≤ 256
+  pub declared : statementAt types s p .variable < length types
+
+pub assigned : (types s : List ℕ) (p : Place) {a : ℕ} → statementAt types s p .next ≡ At a → statementAt types s p .assigned ≡ true
+    → Assigned types s p
+unfolding statementAt assignmentAt
+assigned types s p e there = go (eqb (mapAt s p .value) 3) refl
+  where
+    go : (t : Bool) → eqb (mapAt s p .value) 3 ≡ t → Assigned types s p
+    go true q =
+        let v = codeAt (length types) s (mapAt s p .next) in
+        let value = one-tree (length types) s (v .next) (judge-at _ 9 (startOf p) _ (rw q at e) .1) in
+        let code = code-at (length types) s (mapAt s p .next) (value .there) in
+        record { tree = rw q (value .tree); short = rw q (value .short); declared = rw q (code .below) }
+    go false q = let z : false ≡ true = rw q at there in absurd (false≢true z)
+
+-- what a node that was read whole is
+pub record WholeNode (s : List ℕ) (p : Place) (types : List ℕ) : Type 0 where
+  pub few : length types ≤ 32
+  pub count : nodeAt s p .variables ≡ length types
+  pub inside : startOf (nodeAt s p .types) + nodeAt s p .variables ≤ length s
+  pub body : statementsFrom types s (nodeAt s p .body) (nodeAt s p .statements) .next ≡ nodeAt s p .condition
+  pub statements : WentOn (statementsFrom types s (nodeAt s p .body) (nodeAt s p .statements) .next)
+  pub condition : WentOn (expressionAt (length types) s (nodeAt s p .condition) .next)
+
+-- the types of a node, as a part of the sheet
+abbrev pub typesIn : List ℕ → Place → List ℕ
+typesIn s p = take (nodeAt s p .variables) (drop (startOf (nodeAt s p .types)) s)
+
+types-whole : {end : Place} {a : ℕ} (from n : ℕ) (s : List ℕ) → end ≡ At a → typesOf end from n s ≡ take n (drop from s)
+types-whole from n s e = rw e
+
+pub whole-node : (s : List ℕ) (p : Place) {a : ℕ} → nodeAt s p .next ≡ At a → WholeNode s p (typesIn s p)
+unfolding nodeAt
+whole-node s p e =
+    let v = countAt 0 32 s p in
+    let typesEnd = typesFrom s (v .next) (v .value) in
+    let types = typesOf typesEnd (startOf (v .next)) (v .value) s in
+    let k = countAt 0 64 s typesEnd in
+    let condition = statementsFrom types s (k .next) (k .value) .next in
+    let conditionEnd = expressionAt (length types) s condition .next in
+    let a = countAt 0 16 s conditionEnd in
+    let sites = addresses-on s (a .next) (a .value) e in
+    let judged = count-on 0 16 s conditionEnd (sites .1) in
+    let one = one-tree (length types) s condition (judged .1) in
+    let body = statements-on types s (k .next) (k .value) (one .there) in
+    let counted = count-on 0 64 s typesEnd (body .1) in
+    let same : types ≡ take (v .value) (drop (startOf (v .next)) s) = types-whole {end = typesEnd} {a = counted .0} (startOf (v .next)) (v .value) s (counted .1) in
+    let room = types-inside s p {v = v} {end = typesEnd} {start = startOf (v .next)} refl refl refl (counted .0) (counted .1) in
+    let size : length types ≡ v .value = rw same (length-take-le (v .value) (drop (startOf (v .next)) s) (rw length-drop (omega (arith, room)))) in
+    rw (← same) record {
+      few = omega (arith, size, count-most 0 32 s p);
+      count = sym size;
+      inside = room;
+      body = refl;
+      statements = (one .from, one .there);
+      condition = judged;
+    }

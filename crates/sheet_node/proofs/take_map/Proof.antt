@@ -1,0 +1,29 @@
+use Rattle.sheet_node.specs.Node.{mapAt}
+use borrow.Author.Needs.{needs}
+use Rattle.sheet_node.proofs.take_map.Statement.{statement}
+use Rattle.sheet_node.proofs.take_map.Tie as tie
+use Rattle.sheet_node.proofs.take_map.Reads as reads
+use Rattle.sheet_node.proofs.take_map.Lts as lts
+use Rattle.sheet_field.proofs.checked.Reads as checked-reads
+use Rattle.sheet_field.proofs.start.Reads as start-reads
+use Rattle.sheet_field.proofs.take_field.Reads as take-field-reads
+
+-- src/lib.rt:39:9
+take-field-requires : tie.Need-take-field-requires
+take-field-requires c κs = search needs
+
+-- src/lib.rt:40:59
+start-requires : tie.Need-start-requires
+start-requires c κs = search needs
+
+-- src/lib.rt:40:5
+checked-requires : tie.Need-checked-requires
+checked-requires c κs = search needs
+
+-- src/lib.rt:36:1
+returns : tie.Need-returns
+unfolding mapAt
+returns c = cc
+
+pub take-map-spec : {M : Type 1} → statement M
+take-map-spec = tie.close (tie.spec take-field-requires start-requires checked-requires returns)

@@ -1,0 +1,135 @@
+-- Node records: variables' types, statements, a condition, addresses.
+use Prim.Native.Nat.{ℕ, zero, suc, _+_, _*_}
+use mathlib.Core.Path.{_≡_}
+use mathlib.Core.List.{List, [], _∷_, _++_}
+use mathlib.Core.Bool.{Bool, true, false, cond, _||_}
+use lib.Dec.{eqb}
+use lib.ListN.{length, getD, take, drop}
+use Rattle.sheet_field.specs.declared.Place.{Place}
+use Rattle.sheet_field.specs.declared.Place.the-variants.{At, Refused}
+use Rattle.sheet_field.specs.declared.Field.{Field}
+use Rattle.sheet_field.specs.Field.{fieldAt, startOf, judge, checkField, codeAt, countAt}
+use Rattle.expr.specs.Tree.{Expr, treeOf}
+use Rattle.expr.specs.Statement.{Statement}
+use Rattle.expr.specs.Statement.Statement.{assignment, other}
+use Rattle.expr.specs.Types.{typeOf, sameType}
+use Rattle.sheet_expression.specs.Expression.{expressionAt}
+use Rattle.sheet_node.specs.declared.StatementField.{StatementField}
+use Rattle.sheet_node.specs.declared.NodeField.{NodeField}
+
+-- what reading a statement gives: whether it is an assignment, its variable, its value's words, and the place after it
+pub record StatementRead : Type 0 where
+  pub assigned : Bool
+  pub variable : ℕ
+  pub words : List ℕ
+  pub next : Place
+
+abbrev pub statementOf : StatementRead → Statement
+statementOf r = cond (r .assigned) (assignment (r .variable) (treeOf (r .words))) other
+
+-- Statement: a map byte, 3 for an assignment or 0. Turned back, 2: any other, at the map byte.
+unfoldable pub mapAt : List ℕ → Place → Field
+mapAt s p =
+    let f = fieldAt 1 s p in
+    checkField (eqb (f .value) 0 || eqb (f .value) 3) 2 (startOf p) f
+
+-- Turned back, 9: a value's type is not its variable's (pointer counts as unsigned 64), seen at the statement's end; the
+-- refusal stands at the statement.
+abbrev pub typedAt : List ℕ → ℕ → List ℕ → ℕ → Place → Place
+typedAt types variable words begin end = judge (sameType (typeOf types (treeOf words)) (getD types variable 0)) 9 begin end
+
+-- Statement, 3: a variable's number, below the count of variables, and an expression.
+unfoldable pub assignmentAt : List ℕ → ℕ → List ℕ → Place → StatementRead
+assignmentAt types begin s p =
+    let v = codeAt (length types) s p in
+    let e = expressionAt (length types) s (v .next) in
+    record { assigned = true; variable = v .value; words = e .words; next = typedAt types (v .value) (e .words) begin (e .next) }
+
+unfoldable pub statementAt : List ℕ → List ℕ → Place → StatementRead
+statementAt types s p =
+    let map = mapAt s p in
+    cond (eqb (map .value) 3)
+    (assignmentAt types (startOf p) s (map .next))
+    (record { assigned = false; variable = 0; words = []; next = map .next })
+
+-- what a reader of a statement leaves: the statement, and a lent list that was `before` and is `after`: the value's words
+-- stand at its front, and the rest is as it was
+pub record TookStatement (f : StatementField) (before after : List ℕ) (r : StatementRead) : Type 0 where
+  pub assigned : f .assigned ≡ r .assigned
+  pub variable : f .variable ≡ r .variable
+  pub size : length (r .words) ≡ 2 * f .records
+  pub place : f .next ≡ r .next
+  pub list : after ≡ r .words ++ drop (2 * f .records) before
+
+-- Node: after the first k of its variables' type bytes. Turned back, 2: a type is 0 to 9.
+unfoldable pub typesFrom : List ℕ → Place → ℕ → Place
+typesFrom s p zero = p
+typesFrom s p (suc k) = codeAt 10 s (typesFrom s p k) .next
+
+-- the types of n variables, whose bytes stand from a place on; none where reading them was refused
+abbrev pub typesOf : Place → ℕ → ℕ → List ℕ → List ℕ
+typesOf (At end) from n s = take n (drop from s)
+typesOf (Refused k at) from n s = []
+
+pub record StatementsRead : Type 0 where
+  pub list : List Statement
+  pub next : Place
+
+-- Node: after the first k of its statements
+unfoldable pub statementsFrom : List ℕ → List ℕ → Place → ℕ → StatementsRead
+statementsFrom types s p zero = record { list = []; next = p }
+statementsFrom types s p (suc k) =
+    let before = statementsFrom types s p k in
+    let r = statementAt types s (before .next) in
+    record { list = before .list ++ (statementOf r ∷ []); next = r .next }
+
+pub record AddressesRead : Type 0 where
+  pub list : List ℕ
+  pub next : Place
+
+-- Node: after the first k of its addresses, 8 bytes each
+unfoldable pub addressesFrom : List ℕ → Place → ℕ → AddressesRead
+addressesFrom s p zero = record { list = []; next = p }
+addressesFrom s p (suc k) =
+    let before = addressesFrom s p k in
+    let f = fieldAt 8 s (before .next) in
+    record { list = before .list ++ (f .value ∷ []); next = f .next }
+
+-- A node's parts in reading order: a count of variables (0 to 32) and a type byte each; a count of statements (0 to 64) and
+-- the statements; a condition; a count of addresses (0 to 16) and the addresses.
+unfoldable pub nodeAt : List ℕ → Place → NodeField
+nodeAt s p =
+    let v = countAt 0 32 s p in
+    let typesEnd = typesFrom s (v .next) (v .value) in
+    let types = typesOf typesEnd (startOf (v .next)) (v .value) s in
+    let k = countAt 0 64 s typesEnd in
+    let condition = statementsFrom types s (k .next) (k .value) .next in
+    let a = countAt 0 16 s (expressionAt (length types) s condition .next) in
+    record {
+      variables = v .value;
+      types = v .next;
+      statements = k .value;
+      body = k .next;
+      condition = condition;
+      addresses = a .value;
+      sites = a .next;
+      next = addressesFrom s (a .next) (a .value) .next;
+    }
+
+-- A node as syntax.
+pub record Node : Type 0 where
+  pub types : List ℕ
+  pub statements : List Statement
+  pub condition : Expr
+  pub addresses : List ℕ
+
+-- what a node that was read whole holds
+unfoldable pub nodeOf : List ℕ → NodeField → Node
+nodeOf s n =
+    let types = take (n .variables) (drop (startOf (n .types)) s) in
+    record {
+      types = types;
+      statements = statementsFrom types s (n .body) (n .statements) .list;
+      condition = treeOf (expressionAt (n .variables) s (n .condition) .words);
+      addresses = addressesFrom s (n .sites) (n .addresses) .list;
+    }

@@ -1,0 +1,198 @@
+// Node records of a sheet: one reader, which checks a record, says where its parts stand, and takes each statement's
+// content.
+use sheet_field::Field;
+use sheet_field::Place;
+use sheet_field::Width;
+ghost use mathlib.Core.Path.{_≡_};
+ghost use Prim.Native.Nat.{ℕ, _+_, _*_, _<_, _≤_};
+ghost use lib.ListN.{length};
+ghost use Rattle.sheet_field.specs.declared.Place.the-variants.{At};
+ghost use Rattle.expr.specs.Tree.{Wf, treeOf};
+ghost use Rattle.expr.specs.Types.{typeOf};
+ghost use Rattle.sheet_expression.specs.Expression.{expressionAt};
+ghost use Rattle.sheet_node.specs.Node.{mapAt, typedAt, assignmentAt, statementAt, TookStatement, statementsFrom, typesFrom, typesOf, addressesFrom, nodeAt};
+
+// A statement: whether it is an assignment, to which variable, how many records its value has, and the place after it.
+// Any other statement has no variable and no records.
+pub struct StatementField {
+    pub assigned: bool,
+    pub variable: u64,
+    pub records: u64,
+    pub next: Place,
+}
+
+// A node: its counts of variables, statements and addresses, and the places at which its types, its statements (body),
+// its condition and its addresses (sites) start; next is the place after it.
+pub struct NodeField {
+    pub variables: u64,
+    pub types: Place,
+    pub statements: u64,
+    pub body: Place,
+    pub condition: Place,
+    pub addresses: u64,
+    pub sites: Place,
+    pub next: Place,
+}
+
+// A statement's map byte: 0 or 3.
+fn take_map(s: &[u8], p: Place) -> Field
+    ensures { λ r. ⌜ r ≡ mapAt (now (s .entry)) p ⌝ }
+{
+    let f = sheet_field::take_field(s, p, Width::One);
+    sheet_field::checked(f, (f.value == 0) | (f.value == 3), 2, sheet_field::start(p))
+}
+
+// The check that a value has its variable's type, made where the value was read whole.
+fn typed(end: Place, begin: usize, words: &[u64], types: &[u8], variable: u64) -> Place
+    requires { ⌜ ((a : ℕ) → end ≡ At a → Wf (now words) × (length (now words) ≤ 256) × (variable < length (now types))) ⌝ }
+    ensures { λ r. ⌜ r ≡ typedAt (now (types .entry)) variable (now (words .entry)) begin end ⌝ }
+{
+    match end {
+        Place::Refused(k, at) => Place::Refused(k, at),
+        Place::At(_) => {
+            let own = types[variable as usize];
+            let of_value = expr::static_type(words, types);
+            sheet_field::judged(end, expr::same_type(of_value, own as u64), 9, begin)
+        }
+    }
+}
+
+// The rest of an assignment behind its map byte; begin is the statement's place.
+fn take_assignment(
+    s: &[u8],
+    p: Place,
+    begin: usize,
+    types: &[u8],
+    out: &mut [u64],
+) -> StatementField
+    requires { ⌜ (length (now types) ≤ 32) × (256 ≤ length (now out)) ⌝ }
+    ensures { λ r. ⌜ TookStatement r (now (out .entry)) (now (out .exit)) (assignmentAt (now (types .entry)) begin (now (s .entry)) p) ⌝ }
+{
+    let variables = types.len() as u64;
+    let v = sheet_field::code(s, p, variables);
+    let after = v.next;
+    let e = sheet_expression::take_expression(s, after, variables, out);
+    let end = e.next;
+    let n = 2 * (e.records as usize);
+    StatementField {
+        assigned: true,
+        variable: v.value,
+        records: e.records,
+        next: typed(end, begin, &out[..n], types, v.value),
+    }
+}
+
+// The statement at a place. The records of an assigned value stand as words at the front of `out`.
+pub fn take_statement(s: &[u8], p: Place, types: &[u8], out: &mut [u64]) -> StatementField
+    requires { ⌜ (length (now types) ≤ 32) × (256 ≤ length (now out)) ⌝ }
+    ensures { λ r. ⌜ TookStatement r (now (out .entry)) (now (out .exit)) (statementAt (now (types .entry)) (now (s .entry)) p) ⌝ }
+{
+    let map = take_map(s, p);
+    let after = map.next;
+    if map.value == 3 {
+        take_assignment(s, after, sheet_field::start(p), types, out)
+    } else {
+        StatementField {
+            assigned: false,
+            variable: 0,
+            records: 0,
+            next: after,
+        }
+    }
+}
+
+// The place after a statement.
+fn check_statement(s: &[u8], p: Place, types: &[u8]) -> Place
+    requires { ⌜ length (now types) ≤ 32 ⌝ }
+    ensures { λ r. ⌜ r ≡ statementAt (now (types .entry)) (now (s .entry)) p .next ⌝ }
+{
+    let mut words = [0u64; 256];
+    let r = take_statement(s, p, types, &mut words);
+    r.next
+}
+
+// The place after a condition.
+fn check_condition(s: &[u8], p: Place, variables: u64) -> Place
+    requires { ⌜ variables ≤ 32 ⌝ }
+    ensures { λ r. ⌜ r ≡ expressionAt variables (now (s .entry)) p .next ⌝ }
+{
+    let mut words = [0u64; 256];
+    let r = sheet_expression::take_expression(s, p, variables, &mut words);
+    r.next
+}
+
+fn check_statements(s: &[u8], p: Place, types: &[u8], n: u64) -> Place
+    requires { ⌜ length (now types) ≤ 32 ⌝ }
+    ensures { λ r. ⌜ r ≡ statementsFrom (now (types .entry)) (now (s .entry)) p n .next ⌝ }
+{
+    let mut next = p;
+    let mut i: u64 = 0;
+    while i < n {
+        next = check_statement(s, next, types);
+        i += 1;
+    }
+    next
+}
+
+fn check_types(s: &[u8], p: Place, n: u64) -> Place
+    ensures { λ r. ⌜ r ≡ typesFrom (now (s .entry)) p n ⌝ }
+{
+    let mut next = p;
+    let mut i: u64 = 0;
+    while i < n {
+        let f = sheet_field::code(s, next, 10);
+        next = f.next;
+        i += 1;
+    }
+    next
+}
+
+fn check_addresses(s: &[u8], p: Place, n: u64) -> Place
+    ensures { λ r. ⌜ r ≡ addressesFrom (now (s .entry)) p n .next ⌝ }
+{
+    let mut next = p;
+    let mut i: u64 = 0;
+    while i < n {
+        let f = sheet_field::take_field(s, next, Width::Eight);
+        next = f.next;
+        i += 1;
+    }
+    next
+}
+
+// The types as a part of the sheet: n bytes from a place on, where they were read whole, else none.
+pub fn types_of(s: &[u8], end: Place, from: usize, n: usize) -> &[u8]
+    requires { ⌜ ((a : ℕ) → end ≡ At a → from + n ≤ length (now s)) ⌝ }
+    ensures { λ r. ⌜ now r ≡ typesOf end from n (now (s .entry)) ⌝ }
+{
+    match end {
+        Place::Refused(_, _) => &s[..0],
+        Place::At(_) => &s[from..from + n],
+    }
+}
+
+// The node record at a place.
+pub fn take_node(s: &[u8], p: Place) -> NodeField
+    ensures { λ r. ⌜ r ≡ nodeAt (now (s .entry)) p ⌝ }
+{
+    let v = sheet_field::count(s, p, 0, 32);
+    let types_at = v.next;
+    let types_end = check_types(s, types_at, v.value);
+    let types = types_of(s, types_end, sheet_field::start(types_at), v.value as usize);
+    let k = sheet_field::count(s, types_end, 0, 64);
+    let body = k.next;
+    let condition = check_statements(s, body, types, k.value);
+    let condition_end = check_condition(s, condition, types.len() as u64);
+    let a = sheet_field::count(s, condition_end, 0, 16);
+    let sites = a.next;
+    NodeField {
+        variables: v.value,
+        types: types_at,
+        statements: k.value,
+        body,
+        condition,
+        addresses: a.value,
+        sites,
+        next: check_addresses(s, sites, a.value),
+    }
+}

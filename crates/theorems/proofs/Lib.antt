@@ -1,0 +1,5 @@
+-- the theorems
+pub mod Sound
+pub mod Forced
+pub mod Public
+pub mod Outcomes

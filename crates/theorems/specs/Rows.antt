@@ -1,0 +1,76 @@
+-- The marked rows of the scope document's table: what the definitions answer, as one table.
+use Prim.Native.Nat.{ℕ}
+use mathlib.Core.Path.{_≡_, refl}
+use mathlib.Core.List.{List, [], _∷_}
+use mathlib.Core.Bool.{true, false}
+use Rattle.isa.specs.declared.Register.{Register}
+use Rattle.isa.specs.declared.Operand.{Operand}
+use Rattle.isa.specs.declared.Operand.the-variants.{Absent, Reg, Imm}
+use Rattle.isa.specs.declared.Instruction.{Instruction}
+use Rattle.machine.specs.Registers.{nothingKnown}
+use Rattle.verdict_block.specs.Verdict.{verdictFrom}
+use Rattle.pomthija.specs.Block.{Answer, judged}
+use Rattle.pomthija.specs.Block.Answer.{undecided, decision}
+
+-- a register of class 1: its index and its size, at offset 0
+abbrev part : ℕ → ℕ → Operand
+part index size = Reg (record { class = 1; index = index; size = size; offset = 0 })
+
+abbrev instruction : ℕ → Operand → Operand → ℕ → Instruction
+instruction mnemonic first second flags = record {
+  address = 0;
+  mnemonic = mnemonic;
+  branch = false;
+  target = 0;
+  call = false;
+  first = first;
+  second = second;
+  written = [];
+  count = 0;
+  flags = flags;
+}
+
+abbrev jump : ℕ → Instruction
+jump mnemonic = record {
+  address = 0;
+  mnemonic = mnemonic;
+  branch = true;
+  target = 0;
+  call = false;
+  first = Absent;
+  second = Absent;
+  written = [];
+  count = 0;
+  flags = 0;
+}
+
+-- A row: a block's instructions, and the answer.
+pub record Row : Type 0 where
+  pub code : List Instruction
+  pub answer : Answer
+
+-- Each row of the table is what the definitions yield.
+abbrev pub Yields : List Row → Type 0
+Yields [] = Unit {0}
+Yields (r ∷ rows) = (judged (verdictFrom nothingKnown (r .code)) ≡ r .answer) × Yields rows
+
+pub rows : List Row
+-- xor eax,eax; je
+rows =
+    record { code = instruction 11 (part 0 32) (part 0 32) 31 ∷ jump 16 ∷ []; answer = decision 1 1 }
+    -- cmp cx,cx; jl
+    ∷ record { code = instruction 8 (part 1 16) (part 1 16) 31 ∷ jump 18 ∷ []; answer = decision 0 1 }
+    -- mov al,0; test al,al; je
+    ∷ record { code = instruction 4 (part 0 8) (Imm 0) 0 ∷ instruction 12 (part 0 8) (part 0 8) 31 ∷ jump 16 ∷ []; answer = undecided }
+    -- mov eax,0x7FFFFFFF; inc eax; jo
+    ∷ record { code = instruction 4 (part 0 32) (Imm 0x7FFF_FFFF) 0 ∷ instruction 13 (part 0 32) Absent 30 ∷ jump 30 ∷ []; answer = decision 1 1 }
+    -- stc; inc ebx; jb
+    ∷ record { code = instruction 1 Absent Absent 1 ∷ instruction 13 (part 3 32) Absent 30 ∷ jump 22 ∷ []; answer = decision 1 1 }
+    -- stc; neg ebx; jb
+    ∷ record { code = instruction 1 Absent Absent 1 ∷ instruction 15 (part 3 32) Absent 31 ∷ jump 22 ∷ []; answer = undecided }
+    ∷ []
+
+-- The marked rows hold.
+pub marked : Yields rows
+unfolding rows verdictFrom Rattle.machine.specs.Conditions.decided Rattle.machine.specs.Rules.finished Rattle.machine.specs.Rules.arithStep Rattle.machine.specs.Rules.unaryUnknown Rattle.machine.specs.Rules.unaryStep Rattle.machine.specs.Rules.registerStep Rattle.machine.specs.Rules.modelledStep Rattle.machine.specs.Rules.stepped Rattle.machine.specs.Registers.nothingKnown Rattle.machine.specs.Registers.wholeOf Rattle.machine.specs.Registers.replaced Rattle.machine.specs.Registers.readOf Rattle.machine.specs.Registers.written Rattle.machine.specs.Registers.operandOf Rattle.machine.specs.Registers.forgetRegisters Rattle.machine.specs.Registers.forgotten Rattle.known.specs.Operations.carryRule Rattle.known.specs.Operations.operationOf Rattle.known.specs.Operations.settled Rattle.known.specs.Operations.unsettled Rattle.known.specs.Operations.performed Rattle.known.specs.Operations.arithEffect Rattle.known.specs.Operations.unaryOutcome Rattle.known.specs.Operations.keptCarry Rattle.known.specs.Operations.unaryEffect Rattle.known.specs.Operations.forgetFlags Rattle.known.specs.Conditions.tested Rattle.known.specs.Conditions.flagCondition Rattle.known.specs.Values.extracted Rattle.known.specs.Values.inserted Rattle.known.specs.Values.merged Rattle.alu.specs.Arithmetic.result Rattle.alu.specs.Arithmetic.carry Rattle.alu.specs.Arithmetic.overflow Rattle.alu.specs.Arithmetic.resultFlags Rattle.alu.specs.Arithmetic.outcome
+marked = (refl, (refl, (refl, (refl, (refl, (refl, tt))))))

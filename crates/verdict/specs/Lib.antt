@@ -1,4 +1,0 @@
-pub mod Block
-pub mod Rows
-pub mod Runs
-pub mod Evaluation
