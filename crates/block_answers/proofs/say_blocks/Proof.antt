@@ -14,39 +14,30 @@ Inv-loop s n i₀ i = i ≤ n
 abbrev μ-loop : tie.MeasureT-loop
 μ-loop s n i₀ i = n - i
 
--- src/main.rt:25:18
 slice-aggregate-word : tie.Need-slice-aggregate-word Inv-loop μ-loop
 slice-aggregate-word c = search needs
 
--- src/main.rt:25:5
 word-requires : tie.Need-word-requires Inv-loop μ-loop
 word-requires c κs = search needs
 
--- src/main.rt:27:5
 loop-holds : tie.Need-loop-holds Inv-loop μ-loop
 loop-holds c = search needs
 
--- src/main.rt:28:13
 block-verdict-requires : tie.Need-block-verdict-requires Inv-loop μ-loop
 block-verdict-requires c κs = search needs
 
--- src/main.rt:28:9
 say-requires : tie.Need-say-requires Inv-loop μ-loop
 say-requires c κs = search needs
 
--- src/main.rt:29:9
 add-i : tie.Need-add-i Inv-loop μ-loop
 add-i c = search needs
 
--- src/main.rt:27:5
 loop-less : tie.Need-loop-less Inv-loop μ-loop
 loop-less c = search needs
 
--- src/main.rt:27:5
 loop-again : tie.Need-loop-again Inv-loop μ-loop
 loop-again c = search needs
 
--- src/main.rt:24:1
 returns : tie.Need-returns Inv-loop μ-loop
 returns c = search needs
 

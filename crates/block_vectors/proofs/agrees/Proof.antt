@@ -15,43 +15,33 @@ Inv-loop s want i₀ i = i ≤ length want
 abbrev μ-loop : tie.MeasureT-loop
 μ-loop s want i₀ i = length want - i
 
--- src/main.rt:31:5
 loop-holds : tie.Need-loop-holds Inv-loop μ-loop
 loop-holds c = search needs
 
--- src/main.rt:32:17
 block-verdict-requires : tie.Need-block-verdict-requires Inv-loop μ-loop
 block-verdict-requires c κs = search needs
 
--- src/main.rt:32:12
 code-requires : tie.Need-code-requires Inv-loop μ-loop
 code-requires c κs = search needs
 
--- src/main.rt:32:57
 shared-slice-read-if1 : tie.Need-shared-slice-read-if1 Inv-loop μ-loop
 shared-slice-read-if1 c = search needs
 
--- src/main.rt:33:13
 returns : tie.Need-returns Inv-loop μ-loop
 returns c = search needs
 
--- src/main.rt:35:9
 add-i : tie.Need-add-i Inv-loop μ-loop
 add-i c = search needs
 
--- src/main.rt:31:5
 loop-less : tie.Need-loop-less Inv-loop μ-loop
 loop-less c = search needs
 
--- src/main.rt:31:5
 loop-again : tie.Need-loop-again Inv-loop μ-loop
 loop-again c = search needs
 
--- src/main.rt:37:5
 is-missing-requires : tie.Need-is-missing-requires Inv-loop μ-loop
 is-missing-requires c κs = search needs
 
--- src/main.rt:29:1
 returns-2 : tie.Need-returns-2 Inv-loop μ-loop
 returns-2 c = search needs
 

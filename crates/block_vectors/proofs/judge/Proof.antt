@@ -8,31 +8,24 @@ use Rattle.block_vectors.proofs.judge.Reads as reads
 use Rattle.block_vectors.proofs.judge.Lts as lts
 use Rattle.block_vectors.proofs.agrees.Reads as agrees-reads
 
--- src/main.rt:51:23
 slice-aggregate-agrees : tie.Need-slice-aggregate-agrees
 slice-aggregate-agrees c = sym (length-take-le _ _ (omega arith))
 
--- src/main.rt:51:32
 slice-aggregate-agrees-2 : tie.Need-slice-aggregate-agrees-2
 slice-aggregate-agrees-2 c = sym (length-take-le _ _ (omega arith))
 
--- src/main.rt:51:16
 agrees-requires : tie.Need-agrees-requires
 agrees-requires c κs = search needs
 
--- src/main.rt:52:17
 returns : tie.Need-returns
 returns c = search needs
 
--- src/main.rt:48:1
 returns-2 : tie.Need-returns-2
 returns-2 c = search needs
 
--- src/main.rt:48:1
 returns-3 : tie.Need-returns-3
 returns-3 c = search needs
 
--- src/main.rt:48:1
 returns-4 : tie.Need-returns-4
 returns-4 c = search needs
 

@@ -11,31 +11,24 @@ use Rattle.evaluate_node.proofs.condition_value.Lts as lts
 use Rattle.sheet_expression.proofs.take_expression.Reads as take-expression-reads
 use Rattle.value.proofs.condition.Reads as condition-reads
 
--- src/lib.rt:181:68
 slice-aggregate-take-expression : tie.Need-slice-aggregate-take-expression
 slice-aggregate-take-expression c = search needs
 
--- src/lib.rt:181:9
 take-expression-requires : tie.Need-take-expression-requires
 take-expression-requires c κs = search needs
 
--- src/lib.rt:182:13
 mul-n : tie.Need-mul-n
 mul-n c = omega (arith, took-fits (c .before .take-expression .ensures) (c .before .take-expression .kept .1 .1 .1 .0))
 
--- src/lib.rt:183:22
 array-share-prefix-words : tie.Need-array-share-prefix-words
 array-share-prefix-words c = omega (arith, took-fits (c .before .take-expression .ensures) (c .before .take-expression .kept .1 .1 .1 .0), c .before .take-expression .kept .1 .1 .1 .0)
 
--- src/lib.rt:183:22
 slice-aggregate-condition : tie.Need-slice-aggregate-condition
 slice-aggregate-condition c = sym (length-take-le _ _ (omega (arith, took-fits (c .before .before .take-expression .ensures) (c .before .before .take-expression .kept .1 .1 .1 .0), c .before .before .take-expression .kept .1 .1 .1 .0)))
 
--- src/lib.rt:183:5
 condition-requires : tie.Need-condition-requires
 condition-requires c κs = (condition-tree _ _ _ (c .before .before .take-expression .ensures) (c .before .before .before .before .before .before .before .pre .1), condition-short _ _ _ (c .before .before .take-expression .ensures) (c .before .before .before .before .before .before .before .pre .1))
 
--- src/lib.rt:175:1
 returns : tie.Need-returns
 returns c = rw (c .condition .ensures, took-front (c .before .before .before .take-expression .ensures))
 

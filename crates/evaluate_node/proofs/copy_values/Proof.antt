@@ -20,43 +20,33 @@ abbrev μ-loop : tie.MeasureT-loop
 long : (c : tie.At-loop Inv-loop μ-loop) → length (c .loop .room) ≡ length (c .before .args .room .now)
 long c = rw (c .loop .inv .1, length-append, length-take, length-drop) (omega arith)
 
--- src/lib.rt:192:5
 loop-holds : tie.Need-loop-holds Inv-loop μ-loop
 loop-holds c = (omega arith, refl)
 
--- src/lib.rt:193:19
 mul-room : tie.Need-mul-room Inv-loop μ-loop
 mul-room c = search needs
 
--- src/lib.rt:193:19
 shared-slice-read-room : tie.Need-shared-slice-read-room Inv-loop μ-loop
 shared-slice-read-room c = omega arith
 
--- src/lib.rt:193:9
 mul-room-2 : tie.Need-mul-room-2 Inv-loop μ-loop
 mul-room-2 c = omega (arith, long (c .before .before))
 
--- src/lib.rt:193:9
 slice-write-room : tie.Need-slice-write-room Inv-loop μ-loop
 slice-write-room c = omega (arith, long (c .before .before))
 
--- src/lib.rt:194:9
 add-v : tie.Need-add-v Inv-loop μ-loop
 add-v c = search needs
 
--- src/lib.rt:192:5
 loop-less : tie.Need-loop-less Inv-loop μ-loop
 loop-less c = search needs
 
--- src/lib.rt:192:5
 loop-again : tie.Need-loop-again Inv-loop μ-loop
 loop-again c = (omega arith, copy-more _ _ _ _ (c .before .before .loop .inv .1) (omega arith) (omega arith))
 
--- src/lib.rt:187:1
 same-length : tie.Need-same-length Inv-loop μ-loop
 same-length c = long (c .before)
 
--- src/lib.rt:187:1
 returns : tie.Need-returns Inv-loop μ-loop
 returns c = let e : c .before .loop .v ≡ c .before .before .args .n = omega arith in rw e at (c .before .loop .inv .1)
 

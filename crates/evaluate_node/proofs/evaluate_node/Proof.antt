@@ -14,47 +14,36 @@ use Rattle.evaluate_node.proofs.run_node.Reads as run-node-reads
 use Rattle.sheet_field.proofs.start.Reads as start-reads
 use Rattle.sheet_node.proofs.types_of.Reads as types-of-reads
 
--- src/lib.rt:235:9
 start-requires : tie.Need-start-requires
 start-requires c κs = search needs
 
--- src/lib.rt:237:9
 types-of-requires : tie.Need-types-of-requires
 types-of-requires c κs = λ a e. omega (arith, parts (c .before .before .before .args .s .now) (c .before .before .before .args .node) (c .before .before .before .pre) .inside, c .start .ensures)
 
--- src/lib.rt:240:9
 plain-statements-requires : tie.Need-plain-statements-requires
 plain-statements-requires c κs = (these-few (c .before .before .before .before .args .s .now) (c .before .before .before .before .args .node) (c .before .before .before .before .pre) (c .before .start .ensures) (c .types-of .ensures), these-statements (c .before .before .before .before .args .s .now) (c .before .before .before .before .args .node) (c .before .before .before .before .pre) (c .before .start .ensures) (c .types-of .ensures))
 
--- src/lib.rt:241:18
 plain-condition-requires : tie.Need-plain-condition-requires
 plain-condition-requires c κs = (few-variables (c .before .before .before .before .before .args .s .now) (c .before .before .before .before .before .args .node) (c .before .before .before .before .before .pre) (c .before .before .start .ensures) (c .before .types-of .ensures), this-condition (c .before .before .before .before .before .args .s .now) (c .before .before .before .before .before .args .node) (c .before .before .before .before .before .pre) (c .before .before .start .ensures) (c .before .types-of .ensures))
 
--- src/lib.rt:242:9
 returns : tie.Need-returns
 returns c = refuses-15 (c .before .before .before .before .before .before .before .args .s .now) (c .before .before .before .before .before .before .before .args .node) (c .before .before .before .before .before .before .before .pre) (c .before .before .before .before .start .ensures) (c .before .before .before .types-of .ensures) (c .before .before .before .before .before .before .before .args .place) (c .before .before .before .before .before .before .before .args .values .now) (c .before .before .plain-statements .ensures) (c .before .plain-condition .ensures) (not-true (c .before .before .plain-statements .result && c .before .plain-condition .result) (c .if1 .taken))
 
--- src/lib.rt:244:9
 first-unfit-requires : tie.Need-first-unfit-requires
 first-unfit-requires c κs = search needs
 
--- src/lib.rt:246:20
 enum-known-fit : tie.Need-enum-known-fit
 enum-known-fit c = search needs
 
--- src/lib.rt:247:24
 enum-told : tie.Need-enum-told
 enum-told c = search needs
 
--- src/lib.rt:247:24
 run-node-requires : tie.Need-run-node-requires
 run-node-requires c κs = runs-here (c .before .before .before .before .before .before .before .before .before .before .args .s .now) (c .before .before .before .before .before .before .before .before .before .before .args .node) (c .before .before .before .before .before .before .before .before .before .before .pre) (c .before .before .before .before .before .before .before .start .ensures) (c .before .before .before .before .before .before .types-of .ensures) (c .before .before .before .before .before .before .before .before .before .before .args .place) (c .before .before .before .before .before .before .before .before .before .before .args .values .now) (c .before .before .before .before .before .plain-statements .ensures) (c .before .before .before .before .plain-condition .ensures) (not-false (c .before .before .before .before .before .plain-statements .result && c .before .before .before .before .plain-condition .result) (c .before .before .before .if1 .left)) (c .before .before .first-unfit .ensures) (c .enum-told .given .1)
 
--- src/lib.rt:230:1
 returns-2 : tie.Need-returns-2
 returns-2 c = refuses-16 (c .before .before .before .before .before .before .before .before .before .before .before .args .s .now) (c .before .before .before .before .before .before .before .before .before .before .before .args .node) (c .before .before .before .before .before .before .before .before .before .before .before .pre) (c .before .before .before .before .before .before .before .before .start .ensures) (c .before .before .before .before .before .before .before .types-of .ensures) (c .before .before .before .before .before .before .before .before .before .before .before .args .place) (c .before .before .before .before .before .before .before .before .before .before .before .args .values .now) (c .before .before .before .before .before .before .plain-statements .ensures) (c .before .before .before .before .before .plain-condition .ensures) (not-false (c .before .before .before .before .before .before .plain-statements .result && c .before .before .before .before .before .plain-condition .result) (c .before .before .before .before .if1 .left)) (c .before .before .before .first-unfit .ensures) (c .before .fit .given .1)
 
--- src/lib.rt:230:1
 returns-3 : tie.Need-returns-3
 returns-3 c = evaluates (c .before .before .before .before .before .before .before .before .before .before .before .args .s .now) (c .before .before .before .before .before .before .before .before .before .before .before .args .node) (c .before .before .before .before .before .before .before .before .before .before .before .pre) (c .before .before .before .before .before .before .before .before .start .ensures) (c .before .before .before .before .before .before .before .types-of .ensures) (c .before .before .before .before .before .before .before .before .before .before .before .args .place) (c .before .before .before .before .before .before .before .before .before .before .before .args .values .now) (c .before .before .before .before .before .before .plain-statements .ensures) (c .before .before .before .before .before .plain-condition .ensures) (not-false (c .before .before .before .before .before .before .plain-statements .result && c .before .before .before .before .before .plain-condition .result) (c .before .before .before .before .if1 .left)) (c .before .before .before .first-unfit .ensures) (c .before .enum-told .given .1) (c .run-node .ensures)
 

@@ -20,51 +20,39 @@ Inv-loop types values v₀ v =
 abbrev μ-loop : tie.MeasureT-loop
 μ-loop types values v₀ v = length types - v
 
--- src/lib.rt:49:5
 loop-holds : tie.Need-loop-holds Inv-loop μ-loop
 loop-holds c = (omega arith, refl)
 
--- src/lib.rt:51:13
 returns : tie.Need-returns Inv-loop μ-loop
 returns c = unfit-missing _ _ _ (c .before .before .loop .inv .1) (c .before .loop-test .taken) (c .if1 .taken)
 
--- src/lib.rt:53:23
 shared-slice-read-wide : tie.Need-shared-slice-read-wide Inv-loop μ-loop
 shared-slice-read-wide c = omega arith
 
--- src/lib.rt:53:18
 wide-requires : tie.Need-wide-requires Inv-loop μ-loop
 wide-requires c κs = search needs
 
--- src/lib.rt:53:34
 mul-fits : tie.Need-mul-fits Inv-loop μ-loop
 mul-fits c = search needs
 
--- src/lib.rt:53:34
 shared-slice-read-fits : tie.Need-shared-slice-read-fits Inv-loop μ-loop
 shared-slice-read-fits c = omega arith
 
--- src/lib.rt:53:13
 fits-requires : tie.Need-fits-requires Inv-loop μ-loop
 fits-requires c κs = search needs
 
--- src/lib.rt:54:13
 returns-2 : tie.Need-returns-2 Inv-loop μ-loop
 returns-2 c = unfit-here (c .before .before .before .before .before .before .before .before .before .before .args .types .now) (c .before .before .before .before .before .before .before .before .before .before .args .values .now) (c .before .before .before .before .before .before .before .loop .v) (c .before .before .before .before .before .before .before .loop .inv .1) (c .before .before .before .before .before .before .loop-test .taken) (c .before .before .before .before .before .if1 .left) (c .before .before .before .wide .ensures) (c .before .fits2 .ensures) (not-true _ (c .if2 .taken))
 
--- src/lib.rt:56:9
 add-v : tie.Need-add-v Inv-loop μ-loop
 add-v c = search needs
 
--- src/lib.rt:49:5
 loop-less : tie.Need-loop-less Inv-loop μ-loop
 loop-less c = search needs
 
--- src/lib.rt:49:5
 loop-again : tie.Need-loop-again Inv-loop μ-loop
 loop-again c = (omega arith, unfit-next (c .before .before .before .before .before .before .before .before .before .before .args .types .now) (c .before .before .before .before .before .before .before .before .before .before .args .values .now) (c .before .before .before .before .before .before .before .loop .v) (c .before .before .before .before .before .before .before .loop .inv .1) (c .before .before .before .before .before .before .loop-test .taken) (c .before .before .before .before .before .if1 .left) (c .before .before .before .wide .ensures) (c .before .fits2 .ensures) (not-false _ (c .if2 .left)))
 
--- src/lib.rt:45:1
 returns-3 : tie.Need-returns-3 Inv-loop μ-loop
 returns-3 c = unfit-none _ _ _ (c .before .loop .inv .1) (c .loop-test .left)
 

@@ -6,15 +6,12 @@ use Rattle.evaluate_node.proofs.is_plain.Lts as lts
 use Rattle.expr.proofs.has_effect.Reads as has-effect-reads
 use Rattle.expr.proofs.has_load.Reads as has-load-reads
 
--- src/lib.rt:66:7
 has-effect-requires : tie.Need-has-effect-requires
 has-effect-requires c κs = search needs
 
--- src/lib.rt:66:33
 has-load-requires : tie.Need-has-load-requires
 has-load-requires c κs = search needs
 
--- src/lib.rt:62:1
 returns : tie.Need-returns
 returns c = rw (c .before .has-effect .ensures, c .has-load .ensures)
 

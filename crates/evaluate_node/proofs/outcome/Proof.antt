@@ -4,27 +4,21 @@ use Rattle.evaluate_node.proofs.outcome.Tie as tie
 use Rattle.evaluate_node.proofs.outcome.Reads as reads
 use Rattle.evaluate_node.proofs.outcome.Lts as lts
 
--- src/lib.rt:208:25
 enum-told : tie.Need-enum-told
 enum-told c = search needs
 
--- src/lib.rt:209:25
 enum-told-2 : tie.Need-enum-told-2
 enum-told-2 c = search needs
 
--- src/lib.rt:210:29
 enum-told-3 : tie.Need-enum-told-3
 enum-told-3 c = search needs
 
--- src/lib.rt:204:1
 returns : tie.Need-returns
 returns c = search needs
 
--- src/lib.rt:204:1
 returns-2 : tie.Need-returns-2
 returns-2 c = search needs
 
--- src/lib.rt:204:1
 returns-3 : tie.Need-returns-3
 returns-3 c = rw (c .enum-told3 .given .1)
 

@@ -11,31 +11,24 @@ use Rattle.evaluate_node.proofs.plain_condition.Lts as lts
 use Rattle.evaluate_node.proofs.is_plain.Reads as is-plain-reads
 use Rattle.sheet_expression.proofs.take_expression.Reads as take-expression-reads
 
--- src/lib.rt:169:59
 slice-aggregate-take-expression : tie.Need-slice-aggregate-take-expression
 slice-aggregate-take-expression c = search needs
 
--- src/lib.rt:169:9
 take-expression-requires : tie.Need-take-expression-requires
 take-expression-requires c κs = search needs
 
--- src/lib.rt:170:13
 mul-n : tie.Need-mul-n
 mul-n c = omega (arith, took-fits (c .before .take-expression .ensures) (c .before .take-expression .kept .1 .1 .1 .0))
 
--- src/lib.rt:171:14
 array-share-prefix-words : tie.Need-array-share-prefix-words
 array-share-prefix-words c = omega (arith, took-fits (c .before .take-expression .ensures) (c .before .take-expression .kept .1 .1 .1 .0), c .before .take-expression .kept .1 .1 .1 .0)
 
--- src/lib.rt:171:14
 slice-aggregate-is-plain : tie.Need-slice-aggregate-is-plain
 slice-aggregate-is-plain c = sym (length-take-le _ _ (omega (arith, took-fits (c .before .before .take-expression .ensures) (c .before .before .take-expression .kept .1 .1 .1 .0), c .before .before .take-expression .kept .1 .1 .1 .0)))
 
--- src/lib.rt:171:5
 is-plain-requires : tie.Need-is-plain-requires
 is-plain-requires c κs = condition-tree _ _ _ (c .before .before .take-expression .ensures) (c .before .before .before .before .before .pre .1)
 
--- src/lib.rt:163:1
 returns : tie.Need-returns
 returns c = rw (c .is-plain .ensures, took-front (c .before .before .before .take-expression .ensures))
 

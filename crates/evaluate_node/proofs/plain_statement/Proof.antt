@@ -11,35 +11,27 @@ use Rattle.evaluate_node.proofs.plain_statement.Lts as lts
 use Rattle.evaluate_node.proofs.is_plain.Reads as is-plain-reads
 use Rattle.sheet_node.proofs.take_statement.Reads as take-statement-reads
 
--- src/lib.rt:76:48
 slice-aggregate-take-statement : tie.Need-slice-aggregate-take-statement
 slice-aggregate-take-statement c = search needs
 
--- src/lib.rt:76:9
 take-statement-requires : tie.Need-take-statement-requires
 take-statement-requires c κs = search needs
 
--- src/lib.rt:79:9
 returns : tie.Need-returns
 returns c = (plain-other _ _ _ (c .before .before .before .take-statement .ensures) (not-true _ (c .if1 .taken)), c .before .before .before .take-statement .ensures .place)
 
--- src/lib.rt:84:13
 mul-n : tie.Need-mul-n
 mul-n c = omega (arith, took-room (c .before .before .before .take-statement .ensures) (c .before .before .before .take-statement .kept .1 .1 .1 .0))
 
--- src/lib.rt:86:25
 array-share-prefix-words : tie.Need-array-share-prefix-words
 array-share-prefix-words c = omega (arith, took-room (c .before .before .before .take-statement .ensures) (c .before .before .before .take-statement .kept .1 .1 .1 .0), c .before .before .before .take-statement .kept .1 .1 .1 .0)
 
--- src/lib.rt:86:25
 slice-aggregate-is-plain : tie.Need-slice-aggregate-is-plain
 slice-aggregate-is-plain c = sym (length-take-le _ _ (omega (arith, took-room (c .before .before .before .before .take-statement .ensures) (c .before .before .before .before .take-statement .kept .1 .1 .1 .0), c .before .before .before .before .take-statement .kept .1 .1 .1 .0)))
 
--- src/lib.rt:86:16
 is-plain-requires : tie.Need-is-plain-requires
 is-plain-requires c κs = taken-tree _ _ _ (c .before .before .before .before .take-statement .ensures) (c .before .before .before .before .before .before .before .before .pre .1) (not-false _ (c .before .if1 .left))
 
--- src/lib.rt:70:1
 returns-2 : tie.Need-returns-2
 returns-2 c = (plain-taken _ _ _ (c .before .before .before .before .before .take-statement .ensures) (not-false _ (c .before .before .if1 .left)) (c .is-plain .ensures), c .before .before .before .before .before .take-statement .ensures .place)
 

@@ -18,27 +18,21 @@ Inv-loop s types n plain₀ next₀ i₀ plain next i =
 abbrev μ-loop : tie.MeasureT-loop
 μ-loop s types n plain₀ next₀ i₀ plain next i = n - i
 
--- src/lib.rt:100:5
 loop-holds : tie.Need-loop-holds Inv-loop μ-loop
 loop-holds c = (omega arith, plain-none _ _ _, none-next _ _ _)
 
--- src/lib.rt:101:13
 plain-statement-requires : tie.Need-plain-statement-requires Inv-loop μ-loop
 plain-statement-requires c κs = (c .before .before .before .before .pre .0, statement-whole _ _ _ _ _ (c .before .before .before .before .pre .1) (c .loop-test .taken) (c .before .loop .inv .2))
 
--- src/lib.rt:104:9
 add-i : tie.Need-add-i Inv-loop μ-loop
 add-i c = search needs
 
--- src/lib.rt:100:5
 loop-less : tie.Need-loop-less Inv-loop μ-loop
 loop-less c = search needs
 
--- src/lib.rt:100:5
 loop-again : tie.Need-loop-again Inv-loop μ-loop
 loop-again c = let m = plain-more (c .before .before .before .before .before .before .args .types .now) (c .before .before .before .before .before .before .args .s .now) (c .before .before .before .before .before .before .args .p) (c .before .before .before .loop .i) (c .before .before .before .loop .inv .1) (c .before .before .before .loop .inv .2) (c .before .plain-statement .ensures .0) (c .before .plain-statement .ensures .1) in (omega arith, m .0, m .1)
 
--- src/lib.rt:92:1
 returns : tie.Need-returns Inv-loop μ-loop
 returns c = let e : c .before .loop .i ≡ c .before .before .before .before .args .n = omega arith in rw e at (c .before .loop .inv .1)
 

@@ -10,39 +10,30 @@ use Rattle.evaluate_node.proofs.copy_values.Reads as copy-values-reads
 use Rattle.evaluate_node.proofs.outcome.Reads as outcome-reads
 use Rattle.evaluate_node.proofs.run_statements.Reads as run-statements-reads
 
--- src/lib.rt:220:38
 slice-aggregate-copy-values : tie.Need-slice-aggregate-copy-values
 slice-aggregate-copy-values c = search needs
 
--- src/lib.rt:220:5
 copy-values-requires : tie.Need-copy-values-requires
 copy-values-requires c κs = search needs
 
--- src/lib.rt:222:57
 slice-aggregate-run-statements : tie.Need-slice-aggregate-run-statements
 slice-aggregate-run-statements c = search needs
 
--- src/lib.rt:222:9
 run-statements-requires : tie.Need-run-statements-requires
 run-statements-requires c κs = search needs
 
--- src/lib.rt:223:9
 returns : tie.Need-returns
 returns c = node-stopped (c .before .before .before .before .before .before .before .before .before .before .args .s .now) (c .before .before .before .before .before .before .before .before .before .before .args .node) (c .before .before .before .before .before .before .before .before .before .before .args .types .now) (c .before .before .before .before .before .before .before .before .before .before .args .values .now) (c .before .before .before .before .before .before .before .before .before .before .pre) (c .before .before .before .before .before .before .before .before .before .before .args .place) (c .before .before .before .before .before .copy-values .ensures) (rw (not-true (c .before .before .run-statements .result) (c .if1 .taken)) at (c .before .before .run-statements .ensures))
 
--- src/lib.rt:226:50
 slice-aggregate-condition-value : tie.Need-slice-aggregate-condition-value
 slice-aggregate-condition-value c = search needs
 
--- src/lib.rt:226:13
 condition-value-requires : tie.Need-condition-value-requires
 condition-value-requires c κs = search needs
 
--- src/lib.rt:226:5
 outcome-requires : tie.Need-outcome-requires
 outcome-requires c κs = search needs
 
--- src/lib.rt:215:1
 returns-2 : tie.Need-returns-2
 returns-2 c = node-settled (c .before .before .before .before .before .before .before .before .before .before .before .before .before .args .s .now) (c .before .before .before .before .before .before .before .before .before .before .before .before .before .args .node) (c .before .before .before .before .before .before .before .before .before .before .before .before .before .args .types .now) (c .before .before .before .before .before .before .before .before .before .before .before .before .before .args .values .now) (c .before .before .before .before .before .before .before .before .before .before .before .before .before .pre) (c .before .before .before .before .before .before .before .before .before .before .before .before .before .args .place) (c .before .before .before .before .before .before .before .before .copy-values .ensures) (rw (not-false (c .before .before .before .before .before .run-statements .result) (c .before .before .before .if1 .left)) at (c .before .before .before .before .before .run-statements .ensures)) (c .before .condition-value .ensures) (c .outcome .ensures)
 

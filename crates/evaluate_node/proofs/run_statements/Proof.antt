@@ -23,55 +23,42 @@ Inv-loop s types n values₀ next₀ i₀ values next i =
 abbrev μ-loop : tie.MeasureT-loop
 μ-loop s types n values₀ next₀ i₀ values next i = n - i
 
--- src/lib.rt:146:5
 loop-holds : tie.Need-loop-holds Inv-loop μ-loop
 loop-holds c = (omega arith, none-next _ _ _, refl, refl)
 
--- src/lib.rt:147:13
 statement-value-requires : tie.Need-statement-value-requires Inv-loop μ-loop
 statement-value-requires c κs = (c .before .before .before .before .before .before .pre .0 .0, (statement-whole _ _ _ _ _ (c .before .before .before .before .before .before .pre .1 .0) (c .before .loop-test .taken) (c .before .before .loop .inv .1), is-assigned (c .before .before .before .before .before .before .args .types .now) (c .before .before .before .before .before .before .args .s .now) (c .before .before .before .before .before .before .args .p) (c .before .before .before .before .before .before .args .n) (c .before .before .loop .i) (c .before .loop-test .taken) (c .before .before .before .before .before .before .pre .1 .1) (c .before .before .loop .inv .1)))
 
--- src/lib.rt:150:31
 enum-told : tie.Need-enum-told Inv-loop μ-loop
 enum-told c = search needs
 
--- src/lib.rt:150:31
 same-length : tie.Need-same-length Inv-loop μ-loop
 same-length c = c .before .before .before .before .before .loop .inv .2
 
--- src/lib.rt:150:31
 returns : tie.Need-returns Inv-loop μ-loop
 returns c = run-out (c .before .before .before .before .before .before .before .before .before .args .types .now) (c .before .before .before .before .before .before .before .before .before .args .s .now) (c .before .before .before .before .before .before .before .before .before .args .p) (c .before .before .before .before .before .before .before .before .before .args .n) (c .before .before .before .before .before .loop .i) (c .before .before .before .before .loop-test .taken) (c .before .before .before .before .before .before .before .before .before .pre .1 .1) (c .before .before .before .before .before .loop .inv .1) _ _ (c .before .before .before .before .before .loop .inv .3) (c .before .before .statement-value .ensures) (c .enum-told .given .1)
 
--- src/lib.rt:151:23
 enum-known-v : tie.Need-enum-known-v Inv-loop μ-loop
 enum-known-v c = search needs
 
--- src/lib.rt:153:17
 mul-values : tie.Need-mul-values Inv-loop μ-loop
 mul-values c = omega (arith, in-list (c .before .before .before .before .before .before .before .before .before .before .args .types .now) (c .before .before .before .before .before .before .before .before .before .before .args .s .now) (c .before .before .before .before .before .before .before .before .before .before .args .p) (c .before .before .before .before .before .before .before .before .before .before .args .n) (c .before .before .before .before .before .before .loop .i) (c .before .before .before .before .before .loop-test .taken) (c .before .before .before .before .before .before .before .before .before .before .pre .1 .1) (c .before .before .before .before .before .before .loop .inv .1) (statement-whole _ _ _ _ _ (c .before .before .before .before .before .before .before .before .before .before .pre .1 .0) (c .before .before .before .before .before .loop-test .taken) (c .before .before .before .before .before .before .loop .inv .1)) (c .before .before .before .statement-value .ensures), c .before .before .before .before .before .before .before .before .before .before .pre .0 .0)
 
--- src/lib.rt:153:17
 slice-write-values : tie.Need-slice-write-values Inv-loop μ-loop
 slice-write-values c = omega (arith, in-list (c .before .before .before .before .before .before .before .before .before .before .args .types .now) (c .before .before .before .before .before .before .before .before .before .before .args .s .now) (c .before .before .before .before .before .before .before .before .before .before .args .p) (c .before .before .before .before .before .before .before .before .before .before .args .n) (c .before .before .before .before .before .before .loop .i) (c .before .before .before .before .before .loop-test .taken) (c .before .before .before .before .before .before .before .before .before .before .pre .1 .1) (c .before .before .before .before .before .before .loop .inv .1) (statement-whole _ _ _ _ _ (c .before .before .before .before .before .before .before .before .before .before .pre .1 .0) (c .before .before .before .before .before .loop-test .taken) (c .before .before .before .before .before .before .loop .inv .1)) (c .before .before .before .statement-value .ensures), c .before .before .before .before .before .before .before .before .before .before .pre .0 .1, c .before .before .before .before .before .before .loop .inv .2)
 
--- src/lib.rt:157:9
 add-i : tie.Need-add-i Inv-loop μ-loop
 add-i c = search needs
 
--- src/lib.rt:146:5
 loop-less : tie.Need-loop-less Inv-loop μ-loop
 loop-less c = search needs
 
--- src/lib.rt:146:5
 loop-again : tie.Need-loop-again Inv-loop μ-loop
 loop-again c = (omega arith, run-next (c .before .before .before .before .before .before .before .before .before .before .args .types .now) (c .before .before .before .before .before .before .before .before .before .before .args .s .now) (c .before .before .before .before .before .before .before .before .before .before .args .p) (c .before .before .before .before .before .before .before .before .before .before .args .n) (c .before .before .before .before .before .before .loop .i) (c .before .before .before .before .before .loop-test .taken) (c .before .before .before .before .before .before .before .before .before .before .pre .1 .1) (c .before .before .before .before .before .before .loop .inv .1) (c .before .before .before .before .before .before .before .before .before .before .args .values .now) (c .before .before .before .before .before .before .loop .values) (c .before .before .before .before .before .before .loop .inv .3) (c .before .before .before .statement-value .ensures), simp length-set (c .before .before .before .before .before .before .loop .inv .2), run-on (c .before .before .before .before .before .before .before .before .before .before .args .types .now) (c .before .before .before .before .before .before .before .before .before .before .args .s .now) (c .before .before .before .before .before .before .before .before .before .before .args .p) (c .before .before .before .before .before .before .before .before .before .before .args .n) (c .before .before .before .before .before .before .loop .i) (c .before .before .before .before .before .loop-test .taken) (c .before .before .before .before .before .before .before .before .before .before .pre .1 .1) (c .before .before .before .before .before .before .loop .inv .1) (c .before .before .before .before .before .before .before .before .before .before .args .values .now) (c .before .before .before .before .before .before .loop .values) (c .before .before .before .before .before .before .loop .inv .3) (c .before .before .before .statement-value .ensures) (c .before .v .given .1))
 
--- src/lib.rt:138:1
 same-length-2 : tie.Need-same-length-2 Inv-loop μ-loop
 same-length-2 c = c .before .loop .inv .2
 
--- src/lib.rt:138:1
 returns-2 : tie.Need-returns-2 Inv-loop μ-loop
 returns-2 c = run-done _ _ _ _ (c .before .loop .i) _ _ (c .loop-test .left) (c .before .loop .inv .3)
 

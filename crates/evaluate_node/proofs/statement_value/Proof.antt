@@ -10,31 +10,24 @@ use Rattle.evaluate_node.proofs.statement_value.Lts as lts
 use Rattle.sheet_node.proofs.take_statement.Reads as take-statement-reads
 use Rattle.value.proofs.integer.Reads as integer-reads
 
--- src/lib.rt:127:48
 slice-aggregate-take-statement : tie.Need-slice-aggregate-take-statement
 slice-aggregate-take-statement c = search needs
 
--- src/lib.rt:127:9
 take-statement-requires : tie.Need-take-statement-requires
 take-statement-requires c κs = search needs
 
--- src/lib.rt:129:13
 mul-n : tie.Need-mul-n
 mul-n c = omega (arith, took-room (c .before .take-statement .ensures) (c .before .take-statement .kept .1 .1 .1 .0))
 
--- src/lib.rt:131:31
 array-share-prefix-words : tie.Need-array-share-prefix-words
 array-share-prefix-words c = omega (arith, took-room (c .before .take-statement .ensures) (c .before .take-statement .kept .1 .1 .1 .0), c .before .take-statement .kept .1 .1 .1 .0)
 
--- src/lib.rt:131:31
 slice-aggregate-integer : tie.Need-slice-aggregate-integer
 slice-aggregate-integer c = sym (length-take-le _ _ (omega (arith, took-room (c .before .before .take-statement .ensures) (c .before .before .take-statement .kept .1 .1 .1 .0), c .before .before .take-statement .kept .1 .1 .1 .0)))
 
--- src/lib.rt:131:16
 integer-requires : tie.Need-integer-requires
 integer-requires c κs = (taken-tree _ _ _ (c .before .before .take-statement .ensures) (c .before .before .before .before .before .before .before .pre .1 .0) (c .before .before .take-statement .ensures .assigned ∙ c .before .before .before .before .before .before .before .pre .1 .1), taken-short _ _ _ (c .before .before .take-statement .ensures) (c .before .before .before .before .before .before .before .pre .1 .0) (c .before .before .before .before .before .before .before .pre .1 .1))
 
--- src/lib.rt:120:1
 returns : tie.Need-returns
 returns c = record { value = rw (c .integer .ensures, took-words (c .before .before .before .take-statement .ensures)); variable = c .before .before .before .take-statement .ensures .variable; next = c .before .before .before .take-statement .ensures .place }
 

@@ -9,35 +9,27 @@ use Rattle.evaluation_vectors.proofs.judge.Lts as lts
 use Rattle.evaluation_vectors.proofs.agrees.Reads as agrees-reads
 use Rattle.pomthija.proofs.evaluation.Reads as evaluation-reads
 
--- src/main.rt:45:43
 slice-aggregate-evaluation : tie.Need-slice-aggregate-evaluation
 slice-aggregate-evaluation c = sym (length-take-le _ _ (omega arith))
 
--- src/main.rt:45:58
 slice-aggregate-evaluation-2 : tie.Need-slice-aggregate-evaluation-2
 slice-aggregate-evaluation-2 c = sym (length-take-le _ _ (omega arith))
 
--- src/main.rt:45:23
 evaluation-requires : tie.Need-evaluation-requires
 evaluation-requires c κs = search needs
 
--- src/main.rt:45:16
 agrees-requires : tie.Need-agrees-requires
 agrees-requires c κs = search needs
 
--- src/main.rt:46:17
 returns : tie.Need-returns
 returns c = search needs
 
--- src/main.rt:42:1
 returns-2 : tie.Need-returns-2
 returns-2 c = search needs
 
--- src/main.rt:42:1
 returns-3 : tie.Need-returns-3
 returns-3 c = search needs
 
--- src/main.rt:42:1
 returns-4 : tie.Need-returns-4
 returns-4 c = search needs
 

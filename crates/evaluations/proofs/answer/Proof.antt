@@ -9,31 +9,24 @@ use Rattle.evaluations.proofs.answer.Lts as lts
 use Rattle.evaluations.proofs.say.Reads as say-reads
 use Rattle.pomthija.proofs.evaluation.Reads as evaluation-reads
 
--- src/main.rt:25:37
 slice-aggregate-evaluation : tie.Need-slice-aggregate-evaluation
 slice-aggregate-evaluation c = sym (length-take-le _ _ (omega arith))
 
--- src/main.rt:25:52
 slice-aggregate-evaluation-2 : tie.Need-slice-aggregate-evaluation-2
 slice-aggregate-evaluation-2 c = sym (length-take-le _ _ (omega arith))
 
--- src/main.rt:25:17
 evaluation-requires : tie.Need-evaluation-requires
 evaluation-requires c κs = search needs
 
--- src/main.rt:25:13
 say-requires : tie.Need-say-requires
 say-requires c κs = search needs
 
--- src/main.rt:22:1
 returns : tie.Need-returns
 returns c = search needs
 
--- src/main.rt:22:1
 returns-2 : tie.Need-returns-2
 returns-2 c = search needs
 
--- src/main.rt:22:1
 returns-3 : tie.Need-returns-3
 returns-3 c = search needs
 

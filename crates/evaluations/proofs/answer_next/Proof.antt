@@ -11,67 +11,51 @@ use Rattle.test_io.proofs.next_number.Reads as next-number-reads
 use Rattle.test_io.proofs.next_sheet.Reads as next-sheet-reads
 use Rattle.test_io.proofs.next_values.Reads as next-values-reads
 
--- src/main.rt:32:9
 next-sheet-requires : tie.Need-next-sheet-requires
 next-sheet-requires c κs = search needs
 
--- src/main.rt:34:22
 enum-told : tie.Need-enum-told
 enum-told c = search needs
 
--- src/main.rt:35:21
 enum-known-next : tie.Need-enum-known-next
 enum-known-next c = search needs
 
--- src/main.rt:36:17
 next-number-requires : tie.Need-next-number-requires
 next-number-requires c κs = search needs
 
--- src/main.rt:37:17
 next-number-requires-2 : tie.Need-next-number-requires-2
 next-number-requires-2 c κs = search needs
 
--- src/main.rt:39:17
 same-length : tie.Need-same-length
 same-length c = search needs
 
--- src/main.rt:39:17
 returns : tie.Need-returns
 returns c = search needs
 
--- src/main.rt:41:33
 slice-relend-prefix-next-values : tie.Need-slice-relend-prefix-next-values
 slice-relend-prefix-next-values c = search needs
 
--- src/main.rt:41:33
 slice-aggregate-next-values : tie.Need-slice-aggregate-next-values
 slice-aggregate-next-values c = sym (length-take-le _ _ (omega arith))
 
--- src/main.rt:41:13
 next-values-requires : tie.Need-next-values-requires
 next-values-requires c κs = search needs
 
--- src/main.rt:42:13
 answer-requires : tie.Need-answer-requires
 answer-requires c κs = search needs
 
--- src/main.rt:31:1
 same-length-2 : tie.Need-same-length-2
 same-length-2 c = search needs
 
--- src/main.rt:31:1
 returns-2 : tie.Need-returns-2
 returns-2 c = search needs
 
--- src/main.rt:31:1
 same-length-3 : tie.Need-same-length-3
 same-length-3 c = search needs
 
--- src/main.rt:31:1
 same-length-4 : tie.Need-same-length-4
 same-length-4 c = search needs
 
--- src/main.rt:31:1
 returns-3 : tie.Need-returns-3
 returns-3 c = search needs
 

@@ -7,19 +7,15 @@ use Rattle.index.proofs.fill.Reads as reads
 use Rattle.index.proofs.fill.Lts as lts
 use Rattle.index.proofs.fill_from.Reads as fill-from-reads
 
--- src/lib.rt:39:5
 fill-from-requires : tie.Need-fill-from-requires
 fill-from-requires c κs = search needs
 
--- src/lib.rt:33:1
 same-length : tie.Need-same-length
 same-length c = search needs
 
--- src/lib.rt:33:1
 same-length-2 : tie.Need-same-length-2
 same-length-2 c = search needs
 
--- src/lib.rt:33:1
 returns : tie.Need-returns
 returns c = rw (sym (accepted _ _ (c .before .before .before .before .before .before .before .before .before .before .before .pre .0) .instructions)) (c .before .before .before .before .fill-from .ensures)
 

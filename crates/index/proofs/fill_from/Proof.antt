@@ -27,55 +27,42 @@ long-a c = filled-addresses _ _ _ (c .loop .inv .1 .filled) (omega arith)
 long-p : (c : tie.At-loop Inv-loop μ-loop) → length (c .loop .places) ≡ length (c .before .before .before .before .args .places .now)
 long-p c = filled-places _ _ _ (c .loop .inv .1 .filled) (omega arith)
 
--- src/lib.rt:21:5
 loop-holds : tie.Need-loop-holds Inv-loop μ-loop
 loop-holds c = (search needs, filling-none _ _ _ _)
 
--- src/lib.rt:22:13
 take-instruction-requires : tie.Need-take-instruction-requires Inv-loop μ-loop
 take-instruction-requires c κs = search needs
 
--- src/lib.rt:24:9
 mul-addresses : tie.Need-mul-addresses Inv-loop μ-loop
 mul-addresses c = omega (arith, long-a (c .before .before .before))
 
--- src/lib.rt:24:9
 slice-write-addresses : tie.Need-slice-write-addresses Inv-loop μ-loop
 slice-write-addresses c = omega (arith, long-a (c .before .before .before))
 
--- src/lib.rt:25:30
 start-requires : tie.Need-start-requires Inv-loop μ-loop
 start-requires c κs = search needs
 
--- src/lib.rt:25:9
 mul-places : tie.Need-mul-places Inv-loop μ-loop
 mul-places c = omega (arith, long-p (c .before .before .before .before))
 
--- src/lib.rt:25:9
 slice-write-places : tie.Need-slice-write-places Inv-loop μ-loop
 slice-write-places c = omega (arith, long-p (c .before .before .before .before))
 
--- src/lib.rt:28:9
 add-i : tie.Need-add-i Inv-loop μ-loop
 add-i c = search needs
 
--- src/lib.rt:21:5
 loop-less : tie.Need-loop-less Inv-loop μ-loop
 loop-less c = search needs
 
--- src/lib.rt:21:5
 loop-again : tie.Need-loop-again Inv-loop μ-loop
 loop-again c = (search needs, filling-more _ _ _ (c .before .before .before .before .loop .inv .1) (c .before .before .take-instruction .ensures) (c .start .ensures) (omega arith) (omega arith))
 
--- src/lib.rt:14:1
 same-length : tie.Need-same-length Inv-loop μ-loop
 same-length c = long-a (c .before)
 
--- src/lib.rt:14:1
 same-length-2 : tie.Need-same-length-2 Inv-loop μ-loop
 same-length-2 c = long-p (c .before)
 
--- src/lib.rt:14:1
 returns : tie.Need-returns Inv-loop μ-loop
 returns c = let e : c .before .loop .i ≡ c .before .before .before .before .before .args .n = omega arith in rw e at (c .before .loop .inv .1 .filled)
 

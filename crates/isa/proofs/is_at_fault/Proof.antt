@@ -8,27 +8,21 @@ use Rattle.isa.proofs.is_outside.Reads as is-outside-reads
 use Rattle.isa.proofs.is_undeclared.Reads as is-undeclared-reads
 use Rattle.isa.proofs.sizes_differ.Reads as sizes-differ-reads
 
--- src/lib.rt:126:35
 is-outside-requires : tie.Need-is-outside-requires
 is-outside-requires c κs = search needs
 
--- src/lib.rt:126:55
 is-outside-requires-2 : tie.Need-is-outside-requires-2
 is-outside-requires-2 c κs = search needs
 
--- src/lib.rt:127:5
 is-modelled-requires : tie.Need-is-modelled-requires
 is-modelled-requires c κs = search needs
 
--- src/lib.rt:127:23
 sizes-differ-requires : tie.Need-sizes-differ-requires
 sizes-differ-requires c κs = search needs
 
--- src/lib.rt:127:67
 is-undeclared-requires : tie.Need-is-undeclared-requires
 is-undeclared-requires c κs = search needs
 
--- src/lib.rt:120:1
 returns : tie.Need-returns
 returns c = cc
 

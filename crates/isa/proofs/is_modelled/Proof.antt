@@ -6,15 +6,12 @@ use Rattle.isa.proofs.is_modelled.Lts as lts
 use Rattle.isa.proofs.is_absent.Reads as is-absent-reads
 use Rattle.isa.proofs.is_register.Reads as is-register-reads
 
--- src/lib.rt:79:9
 is-absent-requires : tie.Need-is-absent-requires
 is-absent-requires c κs = search needs
 
--- src/lib.rt:83:25
 is-register-requires : tie.Need-is-register-requires
 is-register-requires c κs = search needs
 
--- src/lib.rt:73:1
 returns : tie.Need-returns
 returns c = rw (c .is-register .ensures, c .before .before .is-absent .ensures)
 

@@ -9,35 +9,27 @@ use Rattle.sheet.proofs.read.Reads as read-reads
 use Rattle.pomthija.proofs.answer.Reads as answer-reads
 use Rattle.pomthija.proofs.judge_block.Reads as judge-block-reads
 
--- src/lib.rt:51:9
 read-requires : tie.Need-read-requires
 read-requires c κs = search needs
 
--- src/lib.rt:53:26
 enum-known-reading : tie.Need-enum-known-reading
 enum-known-reading c = search needs
 
--- src/lib.rt:54:27
 enum-known-reading-2 : tie.Need-enum-known-reading-2
 enum-known-reading-2 c = search needs
 
--- src/lib.rt:57:31
 judge-block-requires : tie.Need-judge-block-requires
 judge-block-requires c κs = (sym (c .before .before .before .before .before .before .read .ensures) ∙ c .before .before .before .before .reading2 .given .1, c .if1 .taken)
 
--- src/lib.rt:57:17
 answer-requires : tie.Need-answer-requires
 answer-requires c κs = search needs
 
--- src/lib.rt:57:17
 returns : tie.Need-returns
 returns c = block-judged _ _ (c .before .before .before .before .before .before .before .before .read .ensures) (c .before .before .before .before .before .before .reading2 .given .1) (c .before .before .if1 .taken) (c .before .judge-block .ensures) (c .answer .ensures)
 
--- src/lib.rt:48:1
 returns-2 : tie.Need-returns-2
 returns-2 c = block-refused _ _ (c .before .before .before .read .ensures) (c .before .reading .given .1)
 
--- src/lib.rt:48:1
 returns-3 : tie.Need-returns-3
 returns-3 c = block-missing _ _ (c .before .before .before .before .before .before .read .ensures) (c .before .before .before .before .reading2 .given .1) (c .if1 .left)
 

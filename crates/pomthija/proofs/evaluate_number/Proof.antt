@@ -9,23 +9,18 @@ use Rattle.sheet_field.proofs.start.Reads as start-reads
 use Rattle.sheet_node.proofs.take_node.Reads as take-node-reads
 use Rattle.sheet.proofs.check_nodes.Reads as check-nodes-reads
 
--- src/lib.rt:74:9
 check-nodes-requires : tie.Need-check-nodes-requires
 check-nodes-requires c κs = search needs
 
--- src/lib.rt:75:9
 take-node-requires : tie.Need-take-node-requires
 take-node-requires c κs = search needs
 
--- src/lib.rt:76:38
 start-requires : tie.Need-start-requires
 start-requires c κs = search needs
 
--- src/lib.rt:76:5
 evaluate-node-requires : tie.Need-evaluate-node-requires
 evaluate-node-requires c κs = node-read (c .before .before .before .before .before .before .args .s .now) (c .before .before .before .before .before .before .args .sheet) (c .before .before .before .before .before .before .pre .0) (c .before .before .before .before .before .before .args .number) (c .before .before .before .before .before .before .pre .1) (c .before .before .check-nodes .ensures) (c .before .take-node .ensures)
 
--- src/lib.rt:68:1
 returns : tie.Need-returns
 returns c = node-evaluated (c .before .before .before .before .before .before .before .args .s .now) (c .before .before .before .before .before .before .before .args .sheet) (c .before .before .before .before .before .before .before .pre .0) (c .before .before .before .before .before .before .before .args .number) (c .before .before .before .before .before .before .before .pre .1) (c .before .before .before .check-nodes .ensures) (c .before .before .take-node .ensures) _ (c .before .start .ensures) (c .evaluate-node .ensures)
 

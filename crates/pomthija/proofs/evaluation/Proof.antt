@@ -8,31 +8,24 @@ use Rattle.pomthija.proofs.evaluation.Lts as lts
 use Rattle.sheet.proofs.read.Reads as read-reads
 use Rattle.pomthija.proofs.evaluate_number.Reads as evaluate-number-reads
 
--- src/lib.rt:83:9
 read-requires : tie.Need-read-requires
 read-requires c κs = search needs
 
--- src/lib.rt:85:26
 enum-known-reading : tie.Need-enum-known-reading
 enum-known-reading c = search needs
 
--- src/lib.rt:86:27
 enum-known-reading-2 : tie.Need-enum-known-reading-2
 enum-known-reading-2 c = search needs
 
--- src/lib.rt:89:17
 evaluate-number-requires : tie.Need-evaluate-number-requires
 evaluate-number-requires c κs = (sym (c .before .before .before .before .before .before .read .ensures) ∙ c .before .before .before .before .reading2 .given .1, c .if1 .taken)
 
--- src/lib.rt:89:17
 returns : tie.Need-returns
 returns c = evaluation-is _ _ _ (c .before .before .before .before .before .before .before .read .ensures) (c .before .before .before .before .before .reading2 .given .1) (c .before .if1 .taken) (c .evaluate-number .ensures)
 
--- src/lib.rt:80:1
 returns-2 : tie.Need-returns-2
 returns-2 c = evaluation-refused _ _ _ (c .before .before .before .read .ensures) (c .before .reading .given .1)
 
--- src/lib.rt:80:1
 returns-3 : tie.Need-returns-3
 returns-3 c = evaluation-missing _ _ _ (c .before .before .before .before .before .before .read .ensures) (c .before .before .before .before .reading2 .given .1) (c .if1 .left)
 

@@ -10,39 +10,30 @@ use Rattle.pomthija.proofs.judge_block.Lts as lts
 use Rattle.verdict_block.proofs.verdict_on.Reads as verdict-on-reads
 use Rattle.index.proofs.fill.Reads as fill-reads
 
--- src/lib.rt:41:27
 slice-aggregate-fill : tie.Need-slice-aggregate-fill
 slice-aggregate-fill c = search needs
 
--- src/lib.rt:41:43
 slice-aggregate-fill-2 : tie.Need-slice-aggregate-fill-2
 slice-aggregate-fill-2 c = search needs
 
--- src/lib.rt:41:5
 fill-requires : tie.Need-fill-requires
 fill-requires c κs = (c .before .before .before .pre .0, (count-few (c .before .before .before .args .s .now) (c .before .before .before .args .sheet) (c .before .before .before .pre .0), count-few (c .before .before .before .args .s .now) (c .before .before .before .args .sheet) (c .before .before .before .pre .0)))
 
--- src/lib.rt:44:34
 array-share-prefix-addresses : tie.Need-array-share-prefix-addresses
 array-share-prefix-addresses c = omega (arith, count-few (c .before .before .before .before .before .before .before .args .s .now) (c .before .before .before .before .before .before .before .args .sheet) (c .before .before .before .before .before .before .before .pre .0), c .before .before .before .fill .kept .1 .1 .0)
 
--- src/lib.rt:44:34
 slice-aggregate-verdict-on : tie.Need-slice-aggregate-verdict-on
 slice-aggregate-verdict-on c = sym (length-take-le _ _ (omega (arith, count-few (c .before .before .before .before .before .before .before .before .args .s .now) (c .before .before .before .before .before .before .before .before .args .sheet) (c .before .before .before .before .before .before .before .before .pre .0), c .before .before .before .before .fill .kept .1 .1 .0)))
 
--- src/lib.rt:44:51
 array-share-prefix-places : tie.Need-array-share-prefix-places
 array-share-prefix-places c = omega (arith, count-few (c .before .before .before .before .before .before .before .before .args .s .now) (c .before .before .before .before .before .before .before .before .args .sheet) (c .before .before .before .before .before .before .before .before .pre .0), c .before .before .before .before .fill .kept .1 .1 .1 .0)
 
--- src/lib.rt:44:51
 slice-aggregate-verdict-on-2 : tie.Need-slice-aggregate-verdict-on-2
 slice-aggregate-verdict-on-2 c = sym (length-take-le _ _ (omega (arith, count-few (c .before .before .before .before .before .before .before .before .before .args .s .now) (c .before .before .before .before .before .before .before .before .before .args .sheet) (c .before .before .before .before .before .before .before .before .before .pre .0), c .before .before .before .before .before .fill .kept .1 .1 .1 .0)))
 
--- src/lib.rt:44:5
 verdict-on-requires : tie.Need-verdict-on-requires
 verdict-on-requires c κs = (c .before .before .before .before .before .before .before .before .before .pre .0, (c .before .before .before .before .before .before .before .before .before .pre .1, (front-addresses (c .before .before .before .before .before .before .before .before .before .args .s .now) (c .before .before .before .before .before .before .before .before .before .args .sheet) (c .before .before .before .before .before .before .before .before .before .pre .0) (c .before .before .before .before .before .fill .ensures), front-places (c .before .before .before .before .before .before .before .before .before .args .s .now) (c .before .before .before .before .before .before .before .before .before .args .sheet) (c .before .before .before .before .before .before .before .before .before .pre .0) (c .before .before .before .before .before .fill .ensures))))
 
--- src/lib.rt:34:1
 returns : tie.Need-returns
 returns c = search needs
 

@@ -6,31 +6,24 @@ use Rattle.pomthija.proofs.pomthija_evaluation.Reads as reads
 use Rattle.pomthija.proofs.pomthija_evaluation.Lts as lts
 use Rattle.pomthija.proofs.evaluation.Reads as evaluation-reads
 
--- src/lib.rt:102:9
 evaluation-requires : tie.Need-evaluation-requires
 evaluation-requires c κs = search needs
 
--- src/lib.rt:105:13
 enum-told : tie.Need-enum-told
 enum-told c = search needs
 
--- src/lib.rt:109:13
 enum-told-2 : tie.Need-enum-told-2
 enum-told-2 c = search needs
 
--- src/lib.rt:112:29
 enum-known-e : tie.Need-enum-known-e
 enum-known-e c = search needs
 
--- src/lib.rt:98:1
 returns : tie.Need-returns
 returns c = rw (← c .before .before .evaluation .ensures, c .enum-told .given .1) (refl, refl)
 
--- src/lib.rt:98:1
 returns-2 : tie.Need-returns-2
 returns-2 c = rw (← c .before .before .evaluation .ensures, c .enum-told2 .given .1) (refl, refl)
 
--- src/lib.rt:98:1
 returns-3 : tie.Need-returns-3
 returns-3 c = rw (← c .before .before .before .evaluation .ensures, c .before .e .given .1) (refl, refl)
 

@@ -17,27 +17,21 @@ Inv-loop s n last₀ next₀ i₀ last next i =
 abbrev μ-loop : tie.MeasureT-loop
 μ-loop s n last₀ next₀ i₀ last next i = n - i
 
--- src/lib.rt:43:5
 loop-holds : tie.Need-loop-holds Inv-loop μ-loop
 loop-holds c = (search needs, checked-none _ _)
 
--- src/lib.rt:44:13
 take-instruction-requires : tie.Need-take-instruction-requires Inv-loop μ-loop
 take-instruction-requires c κs = search needs
 
--- src/lib.rt:48:9
 add-i : tie.Need-add-i Inv-loop μ-loop
 add-i c = search needs
 
--- src/lib.rt:43:5
 loop-less : tie.Need-loop-less Inv-loop μ-loop
 loop-less c = search needs
 
--- src/lib.rt:43:5
 loop-again : tie.Need-loop-again Inv-loop μ-loop
 loop-again c = (search needs, checked-more _ _ _ (c .before .before .before .loop .inv .1) (c .before .take-instruction .ensures))
 
--- src/lib.rt:37:1
 returns : tie.Need-returns Inv-loop μ-loop
 returns c = let e : c .before .before .before .args .n ≡ c .before .loop .i = omega arith in rw e (c .before .loop .inv .1)
 

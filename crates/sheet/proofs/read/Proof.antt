@@ -12,51 +12,39 @@ use Rattle.sheet.proofs.check_instructions.Reads as check-instructions-
 use Rattle.sheet.proofs.check_nodes.Reads as check-nodes-reads
 use Rattle.sheet.proofs.end.Reads as end-reads
 
--- src/lib.rt:115:9
 count-requires : tie.Need-count-requires
 count-requires c κs = search needs
 
--- src/lib.rt:117:9
 check-instructions-requires : tie.Need-check-instructions-requires
 check-instructions-requires c κs = search needs
 
--- src/lib.rt:119:9
 count-requires-2 : tie.Need-count-requires-2
 count-requires-2 c κs = search needs
 
--- src/lib.rt:121:9
 check-blocks-requires : tie.Need-check-blocks-requires
 check-blocks-requires c κs = search needs
 
--- src/lib.rt:122:9
 count-requires-3 : tie.Need-count-requires-3
 count-requires-3 c κs = search needs
 
--- src/lib.rt:124:9
 check-nodes-requires : tie.Need-check-nodes-requires
 check-nodes-requires c κs = search needs
 
--- src/lib.rt:128:17
 start-requires : tie.Need-start-requires
 start-requires c κs = search needs
 
--- src/lib.rt:132:17
 start-requires-2 : tie.Need-start-requires-2
 start-requires-2 c κs = search needs
 
--- src/lib.rt:136:17
 start-requires-3 : tie.Need-start-requires-3
 start-requires-3 c κs = search needs
 
--- src/lib.rt:139:12
 end-requires : tie.Need-end-requires
 end-requires c κs = search needs
 
--- src/lib.rt:139:5
 answer-requires : tie.Need-answer-requires
 answer-requires c κs = search needs
 
--- src/lib.rt:112:1
 returns : tie.Need-returns
 returns c = reading-is _ (c .before .before .before .before .before .before .before .before .before .before .count .ensures) (c .before .before .before .before .before .before .before .before .before .check-instructions .ensures) (c .before .before .before .before .before .before .before .before .count2 .ensures) (c .before .before .before .before .before .before .before .check-blocks .ensures) (c .before .before .before .before .before .before .count3 .ensures) (c .before .before .before .before .before .check-nodes .ensures) (c .before .before .before .before .start .ensures) (c .before .before .before .start2 .ensures) (c .before .before .start3 .ensures) (c .before .end .ensures) (c .answer .ensures)
 

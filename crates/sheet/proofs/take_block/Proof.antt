@@ -6,15 +6,12 @@ use Rattle.sheet.proofs.take_block.Reads as reads
 use Rattle.sheet.proofs.take_block.Lts as lts
 use Rattle.sheet_field.proofs.take_field.Reads as take-field-reads
 
--- src/lib.rt:57:9
 take-field-requires : tie.Need-take-field-requires
 take-field-requires c κs = search needs
 
--- src/lib.rt:59:9
 take-field-requires-2 : tie.Need-take-field-requires-2
 take-field-requires-2 c κs = search needs
 
--- src/lib.rt:54:1
 returns : tie.Need-returns
 unfolding blockAt
 returns c = cc

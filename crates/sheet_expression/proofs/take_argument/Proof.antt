@@ -10,31 +10,24 @@ use Rattle.sheet_field.proofs.checked.Reads as checked-reads
 use Rattle.sheet_field.proofs.start.Reads as start-reads
 use Rattle.sheet_field.proofs.take_field.Reads as take-field-reads
 
--- src/lib.rt:37:8
 has-argument-requires : tie.Need-has-argument-requires
 has-argument-requires c κs = search needs
 
--- src/lib.rt:38:13
 take-field-requires : tie.Need-take-field-requires
 take-field-requires c κs = search needs
 
--- src/lib.rt:39:13
 argument-ok-requires : tie.Need-argument-ok-requires
 argument-ok-requires c κs = search needs
 
--- src/lib.rt:40:34
 start-requires : tie.Need-start-requires
 start-requires c κs = search needs
 
--- src/lib.rt:40:9
 checked-requires : tie.Need-checked-requires
 checked-requires c κs = search needs
 
--- src/lib.rt:34:1
 returns : tie.Need-returns
 returns c = argument-there _ _ _ _ (c .before .before .before .before .before .has-argument .ensures) (c .before .before .before .before .if1 .taken) (c .before .before .before .take-field .ensures) (c .before .before .argument-ok .ensures) (c .before .start .ensures) (c .checked .ensures)
 
--- src/lib.rt:34:1
 returns-2 : tie.Need-returns-2
 returns-2 c = argument-none _ _ _ _ (c .before .has-argument .ensures) (c .if1 .left)
 

@@ -6,15 +6,12 @@ use Rattle.sheet_expression.proofs.take_constant.Reads as reads
 use Rattle.sheet_expression.proofs.take_constant.Lts as lts
 use Rattle.sheet_field.proofs.take_field.Reads as take-field-reads
 
--- src/lib.rt:51:9
 take-field-requires : tie.Need-take-field-requires
 take-field-requires c κs = search needs
 
--- src/lib.rt:47:1
 returns : tie.Need-returns
 returns c = constant-there _ _ _ (c .before .if1 .taken) (c .take-field .ensures)
 
--- src/lib.rt:47:1
 returns-2 : tie.Need-returns-2
 returns-2 c = constant-none _ _ _ (c .if1 .left)
 

@@ -10,19 +10,15 @@ use Rattle.sheet_expression.proofs.take_expression.Lts as lts
 use Rattle.sheet_expression.proofs.take_records.Reads as take-records-reads
 use Rattle.sheet_field.proofs.count.Reads as count-reads
 
--- src/lib.rt:136:9
 count-requires : tie.Need-count-requires
 count-requires c κs = search needs
 
--- src/lib.rt:138:9
 take-records-requires : tie.Need-take-records-requires
 take-records-requires c κs = let h : c .before .count .result .value ≤ 128 = rw (c .before .count .ensures) (count-most _ _ _ _) in omega arith
 
--- src/lib.rt:132:1
 same-length : tie.Need-same-length
 same-length c = search needs
 
--- src/lib.rt:132:1
 returns : tie.Need-returns
 returns c = took-expression _ _ _ (c .before .before .before .before .count .ensures) (c .before .before .take-records .ensures)
 

@@ -16,63 +16,48 @@ use Rattle.sheet_field.proofs.code.Reads as code-reads
 use Rattle.sheet_field.proofs.judged.Reads as judged-reads
 use Rattle.sheet_field.proofs.start.Reads as start-reads
 
--- src/lib.rt:79:9
 code-requires : tie.Need-code-requires
 code-requires c κs = search needs
 
--- src/lib.rt:81:9
 take-argument-requires : tie.Need-take-argument-requires
 take-argument-requires c κs = search needs
 
--- src/lib.rt:83:9
 take-constant-requires : tie.Need-take-constant-requires
 take-constant-requires c κs = search needs
 
--- src/lib.rt:85:28
 mul-tag : tie.Need-mul-tag
 mul-tag c = let h : c .before .before .take-argument .result .value ≤ 32 = rw (c .before .before .take-argument .ensures) (argument-small _ _ _ _ (c .before .before .before .before .before .pre .0)) in omega arith
 
--- src/lib.rt:85:15
 add-tag : tie.Need-add-tag
 add-tag c = let h : c .before .before .before .take-argument .result .value ≤ 32 = rw (c .before .before .before .take-argument .ensures) (argument-small _ _ _ _ (c .before .before .before .before .before .before .pre .0)) in let k : c .before .before .before .before .code .result .value ≤ 9 = rw (c .before .before .before .before .code .ensures) (code-most _ _ _) in omega arith
 
--- src/lib.rt:86:9
 arity-requires : tie.Need-arity-requires
 arity-requires c κs = search needs
 
--- src/lib.rt:87:9
 depth-after-requires : tie.Need-depth-after-requires
 depth-after-requires c κs = search needs
 
--- src/lib.rt:88:55
 start-requires : tie.Need-start-requires
 start-requires c κs = search needs
 
--- src/lib.rt:88:9
 judged-requires : tie.Need-judged-requires
 judged-requires c κs = search needs
 
--- src/lib.rt:89:67
 start-requires-2 : tie.Need-start-requires-2
 start-requires-2 c κs = search needs
 
--- src/lib.rt:89:9
 judged-requires-2 : tie.Need-judged-requires-2
 judged-requires-2 c κs = search needs
 
--- src/lib.rt:90:9
 fits-width-requires : tie.Need-fits-width-requires
 fits-width-requires c κs = search needs
 
--- src/lib.rt:95:43
 start-requires-3 : tie.Need-start-requires-3
 start-requires-3 c κs = search needs
 
--- src/lib.rt:95:15
 judged-requires-3 : tie.Need-judged-requires-3
 judged-requires-3 c κs = search needs
 
--- src/lib.rt:75:1
 returns : tie.Need-returns
 returns c = record-is _ _ _ _ _ (c .before .before .before .before .before .before .before .before .before .before .before .before .before .code .ensures) (c .before .before .before .before .before .before .before .before .before .before .before .before .take-argument .ensures) (c .before .before .before .before .before .before .before .before .before .before .before .take-constant .ensures) (c .before .before .before .before .before .before .before .before .arity .ensures) (c .before .before .before .before .before .before .before .depth-after .ensures) (c .before .before .before .before .before .before .start .ensures) (c .before .before .before .before .before .judged .ensures) (c .before .before .before .before .start2 .ensures) (c .before .before .before .judged2 .ensures) (c .before .before .fits-width .ensures) (c .before .start3 .ensures) (c .judged3 .ensures)
 

@@ -28,63 +28,48 @@ long c =
 shallow : (c : tie.At-loop Inv-loop μ-loop) → c .loop .depth ≤ c .loop .i
 shallow c = rw (c .loop .inv .1 .trees) (taken-depth _ _ _ _ _)
 
--- src/lib.rt:119:5
 loop-holds : tie.Need-loop-holds Inv-loop μ-loop
 loop-holds c = (search needs, took-none _ _ _ _ _)
 
--- src/lib.rt:120:56
 sub-take-record : tie.Need-sub-take-record Inv-loop μ-loop
 sub-take-record c = search needs
 
--- src/lib.rt:120:56
 sub-take-record-2 : tie.Need-sub-take-record-2 Inv-loop μ-loop
 sub-take-record-2 c = search needs
 
--- src/lib.rt:120:13
 take-record-requires : tie.Need-take-record-requires Inv-loop μ-loop
 take-record-requires c κs = (omega arith, omega (arith, shallow (c .before)))
 
--- src/lib.rt:121:18
 mul-at : tie.Need-mul-at Inv-loop μ-loop
 mul-at c = search needs
 
--- src/lib.rt:122:9
 mul-out : tie.Need-mul-out Inv-loop μ-loop
 mul-out c = omega (arith, long (c .before .before))
 
--- src/lib.rt:122:9
 slice-write-out : tie.Need-slice-write-out Inv-loop μ-loop
 slice-write-out c = omega (arith, long (c .before .before))
 
--- src/lib.rt:123:13
 add-out : tie.Need-add-out Inv-loop μ-loop
 add-out c = search needs
 
--- src/lib.rt:123:9
 mul-out-2 : tie.Need-mul-out-2 Inv-loop μ-loop
 mul-out-2 c = omega (arith, long (c .before .before))
 
--- src/lib.rt:123:9
 slice-write-out-2 : tie.Need-slice-write-out-2 Inv-loop μ-loop
 slice-write-out-2 c = simp length-set (omega (arith, long (c .before .before)))
 
--- src/lib.rt:126:9
 add-i : tie.Need-add-i Inv-loop μ-loop
 add-i c = search needs
 
--- src/lib.rt:119:5
 loop-less : tie.Need-loop-less Inv-loop μ-loop
 loop-less c = search needs
 
--- src/lib.rt:119:5
 loop-again : tie.Need-loop-again Inv-loop μ-loop
 loop-again c = (search needs, took-more _ _ _ _ _ (c .before .before .loop .inv .1) (c .take-record .ensures) (omega arith))
 
--- src/lib.rt:112:1
 same-length : tie.Need-same-length Inv-loop μ-loop
 same-length c = long (c .before)
 
--- src/lib.rt:112:1
 returns : tie.Need-returns Inv-loop μ-loop
 returns c = let e : c .before .loop .i ≡ c .before .before .before .before .args .total = omega arith in rw e at (c .before .loop .inv .1)
 

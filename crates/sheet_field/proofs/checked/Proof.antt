@@ -7,15 +7,12 @@ use Rattle.sheet_field.proofs.checked.Lts as lts
 use Rattle.sheet_field.proofs.judged.Reads as judged-reads
 use Rattle.sheet_field.proofs.kept.Reads as kept-reads
 
--- src/field.rt:142:9
 judged-requires : tie.Need-judged-requires
 judged-requires c κs = search needs
 
--- src/field.rt:144:16
 kept-requires : tie.Need-kept-requires
 kept-requires c κs = search needs
 
--- src/field.rt:138:1
 returns : tie.Need-returns
 unfolding checkField
 returns c = cc

@@ -8,35 +8,27 @@ use Rattle.sheet_field.proofs.four.Reads as reads
 use Rattle.sheet_field.proofs.four.Lts as lts
 use Rattle.sheet_field.proofs.two.Reads as two-reads
 
--- src/field.rt:36:6
 two-requires : tie.Need-two-requires
 two-requires c κs = search needs
 
--- src/field.rt:36:6
 cast-result : tie.Need-cast-result
 cast-result c = search needs
 
--- src/field.rt:36:43
 add-two : tie.Need-add-two
 add-two c = search needs
 
--- src/field.rt:36:36
 two-requires-2 : tie.Need-two-requires-2
 two-requires-2 c κs = search needs
 
--- src/field.rt:36:36
 cast-result-2 : tie.Need-cast-result-2
 cast-result-2 c = search needs
 
--- src/field.rt:36:27
 mul-result : tie.Need-mul-result
 mul-result c = search needs
 
--- src/field.rt:36:5
 add-result : tie.Need-add-result
 add-result c = search needs
 
--- src/field.rt:32:1
 returns : tie.Need-returns
 returns c = rw (little-add (c .before .before .before .args .s .now) (c .before .before .before .args .at) 2 2) (cc)
 

@@ -9,51 +9,39 @@ use Rattle.sheet_field.proofs.eight.Reads as eight-reads
 use Rattle.sheet_field.proofs.two.Reads as two-reads
 use Rattle.sheet_field.proofs.wide.Reads as wide-reads
 
--- src/field.rt:68:28
 enum-told : tie.Need-enum-told
 enum-told c = search needs
 
--- src/field.rt:68:28
 shared-slice-read-wide : tie.Need-shared-slice-read-wide
 shared-slice-read-wide c = omega (arith, rw (c .before .enum-told .given .1) at (c .before .before .before .before .pre))
 
--- src/field.rt:68:23
 wide-requires : tie.Need-wide-requires
 wide-requires c κs = search needs
 
--- src/field.rt:68:23
 cast-result : tie.Need-cast-result
 cast-result c = search needs
 
--- src/field.rt:69:23
 enum-told-2 : tie.Need-enum-told-2
 enum-told-2 c = search needs
 
--- src/field.rt:69:23
 two-requires : tie.Need-two-requires
 two-requires c κs = omega (arith, rw (c .enum-told2 .given .1) at (c .before .before .before .pre))
 
--- src/field.rt:69:23
 cast-result-2 : tie.Need-cast-result-2
 cast-result-2 c = search needs
 
--- src/field.rt:70:25
 enum-told-3 : tie.Need-enum-told-3
 enum-told-3 c = search needs
 
--- src/field.rt:70:25
 eight-requires : tie.Need-eight-requires
 eight-requires c κs = omega (arith, rw (c .enum-told3 .given .1) at (c .before .before .before .pre))
 
--- src/field.rt:63:1
 returns : tie.Need-returns
 returns c = rw (c .before .before .enum-told .given .1, little-one) (c .wide .ensures .0)
 
--- src/field.rt:63:1
 returns-2 : tie.Need-returns-2
 returns-2 c = rw (c .before .enum-told2 .given .1) (c .two .ensures)
 
--- src/field.rt:63:1
 returns-3 : tie.Need-returns-3
 returns-3 c = rw (c .before .enum-told3 .given .1) (c .eight .ensures)
 

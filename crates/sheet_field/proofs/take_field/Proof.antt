@@ -8,43 +8,33 @@ use Rattle.sheet_field.proofs.take_field.Lts as lts
 use Rattle.sheet_field.proofs.bytes.Reads as bytes-reads
 use Rattle.sheet_field.proofs.number.Reads as number-reads
 
--- src/field.rt:79:24
 enum-known-p : tie.Need-enum-known-p
 enum-known-p c = search needs
 
--- src/field.rt:83:19
 enum-known-p-2 : tie.Need-enum-known-p-2
 enum-known-p-2 c = search needs
 
--- src/field.rt:84:17
 bytes-requires : tie.Need-bytes-requires
 bytes-requires c κs = search needs
 
--- src/field.rt:86:25
 sub-if2 : tie.Need-sub-if2
 sub-if2 c = search needs
 
--- src/field.rt:88:32
 number-requires : tie.Need-number-requires
 number-requires c κs = search needs
 
--- src/field.rt:89:41
 add-t16 : tie.Need-add-t16
 add-t16 c = search needs
 
--- src/field.rt:87:21
 returns : tie.Need-returns
 returns c = field-whole _ _ (c .before .before .before .before .before .p2 .given .1) (omega arith) (c .number .ensures) (c .before .before .before .bytes .ensures)
 
--- src/field.rt:75:1
 returns-2 : tie.Need-returns-2
 returns-2 c = field-refused _ _ (c .before .p .given .1)
 
--- src/field.rt:75:1
 returns-3 : tie.Need-returns-3
 returns-3 c = field-cut _ _ (c .before .before .before .before .p2 .given .1) (omega arith)
 
--- src/field.rt:75:1
 returns-4 : tie.Need-returns-4
 returns-4 c = field-cut _ _ (c .before .before .before .p2 .given .1) (omega arith)
 

@@ -9,35 +9,27 @@ use Rattle.sheet_field.proofs.two.Reads as reads
 use Rattle.sheet_field.proofs.two.Lts as lts
 use Rattle.sheet_field.proofs.wide.Reads as wide-reads
 
--- src/field.rt:29:10
 shared-slice-read-wide : tie.Need-shared-slice-read-wide
 shared-slice-read-wide c = search needs
 
--- src/field.rt:29:5
 wide-requires : tie.Need-wide-requires
 wide-requires c κs = search needs
 
--- src/field.rt:29:32
 add-wide : tie.Need-add-wide
 add-wide c = search needs
 
--- src/field.rt:29:30
 shared-slice-read-wide-2 : tie.Need-shared-slice-read-wide-2
 shared-slice-read-wide-2 c = search needs
 
--- src/field.rt:29:25
 wide-requires-2 : tie.Need-wide-requires-2
 wide-requires-2 c κs = search needs
 
--- src/field.rt:29:19
 mul-result : tie.Need-mul-result
 mul-result c = search needs
 
--- src/field.rt:29:5
 add-result : tie.Need-add-result
 add-result c = search needs
 
--- src/field.rt:25:1
 returns : tie.Need-returns
 returns c = rw (little-two) (cc)
 

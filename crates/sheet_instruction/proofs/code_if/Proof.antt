@@ -5,15 +5,12 @@ use Rattle.sheet_instruction.proofs.code_if.Reads as reads
 use Rattle.sheet_instruction.proofs.code_if.Lts as lts
 use Rattle.sheet_field.proofs.code.Reads as code-reads
 
--- src/instruction.rt:185:9
 code-requires : tie.Need-code-requires
 code-requires c κs = search needs
 
--- src/instruction.rt:181:1
 returns : tie.Need-returns
 returns c = rw (c .before .if1 .taken) (c .code .ensures)
 
--- src/instruction.rt:181:1
 returns-2 : tie.Need-returns-2
 returns-2 c = rw (c .if1 .left)
 

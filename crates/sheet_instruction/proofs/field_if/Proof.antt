@@ -5,15 +5,12 @@ use Rattle.sheet_instruction.proofs.field_if.Reads as reads
 use Rattle.sheet_instruction.proofs.field_if.Lts as lts
 use Rattle.sheet_field.proofs.take_field.Reads as take-field-reads
 
--- src/instruction.rt:175:9
 take-field-requires : tie.Need-take-field-requires
 take-field-requires c κs = search needs
 
--- src/instruction.rt:171:1
 returns : tie.Need-returns
 returns c = rw (c .before .if1 .taken) (c .take-field .ensures)
 
--- src/instruction.rt:171:1
 returns-2 : tie.Need-returns-2
 returns-2 c = rw (c .if1 .left)
 

@@ -5,23 +5,18 @@ use Rattle.sheet_instruction.proofs.map_ok.Reads as reads
 use Rattle.sheet_instruction.proofs.map_ok.Lts as lts
 use Rattle.sheet_instruction.proofs.bit.Reads as bit-reads
 
--- src/instruction.rt:202:20
 bit-requires : tie.Need-bit-requires
 bit-requires c κs = search needs
 
--- src/instruction.rt:202:34
 bit-requires-2 : tie.Need-bit-requires-2
 bit-requires-2 c κs = search needs
 
--- src/instruction.rt:202:51
 bit-requires-3 : tie.Need-bit-requires-3
 bit-requires-3 c κs = search needs
 
--- src/instruction.rt:202:65
 bit-requires-4 : tie.Need-bit-requires-4
 bit-requires-4 c κs = search needs
 
--- src/instruction.rt:199:1
 returns : tie.Need-returns
 returns c = cc
 

@@ -16,28 +16,22 @@ Inv-loop s n taken₀ i₀ taken i = (i ≤ n) × (taken ≡ registersFrom s (ta
 abbrev μ-loop : tie.MeasureT-loop
 μ-loop s n taken₀ i₀ taken i = n - i
 
--- src/instruction.rt:133:5
 loop-holds : tie.Need-loop-holds Inv-loop μ-loop
 unfolding registersFrom
 loop-holds c = (search needs, refl)
 
--- src/instruction.rt:134:9
 with-register-requires : tie.Need-with-register-requires Inv-loop μ-loop
 with-register-requires c κs = rw (c .before .loop .inv .1, registers-count) (omega arith)
 
--- src/instruction.rt:135:9
 add-i : tie.Need-add-i Inv-loop μ-loop
 add-i c = search needs
 
--- src/instruction.rt:133:5
 loop-less : tie.Need-loop-less Inv-loop μ-loop
 loop-less c = search needs
 
--- src/instruction.rt:133:5
 loop-again : tie.Need-loop-again Inv-loop μ-loop
 loop-again c = (search needs, rw (c .with-register .ensures, c .before .before .loop .inv .1) (registers-more _ _ _))
 
--- src/instruction.rt:117:1
 returns : tie.Need-returns Inv-loop μ-loop
 returns c = let e : c .before .before .before .args .n ≡ c .before .loop .i = omega arith in rw e (c .before .loop .inv .1)
 

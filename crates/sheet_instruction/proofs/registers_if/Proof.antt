@@ -6,19 +6,15 @@ use Rattle.sheet_instruction.proofs.registers_if.Lts as lts
 use Rattle.sheet_instruction.proofs.registers_from.Reads as registers-from-reads
 use Rattle.sheet_instruction.proofs.take_registers.Reads as take-registers-reads
 
--- src/instruction.rt:152:9
 take-registers-requires : tie.Need-take-registers-requires
 take-registers-requires c κs = search needs
 
--- src/instruction.rt:154:9
 registers-from-requires : tie.Need-registers-from-requires
 registers-from-requires c κs = search needs
 
--- src/instruction.rt:148:1
 returns : tie.Need-returns
 returns c = rw (c .before .if1 .taken) (c .take-registers .ensures)
 
--- src/instruction.rt:148:1
 returns-2 : tie.Need-returns-2
 returns-2 c = rw (c .before .if1 .left) (c .registers-from .ensures)
 

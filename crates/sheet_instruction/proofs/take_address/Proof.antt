@@ -8,19 +8,15 @@ use Rattle.sheet_field.proofs.checked.Reads as checked-reads
 use Rattle.sheet_field.proofs.start.Reads as start-reads
 use Rattle.sheet_field.proofs.take_field.Reads as take-field-reads
 
--- src/instruction.rt:217:9
 take-field-requires : tie.Need-take-field-requires
 take-field-requires c κs = search needs
 
--- src/instruction.rt:219:37
 start-requires : tie.Need-start-requires
 start-requires c κs = search needs
 
--- src/instruction.rt:219:5
 checked-requires : tie.Need-checked-requires
 checked-requires c κs = search needs
 
--- src/instruction.rt:214:1
 returns : tie.Need-returns
 unfolding addressAt
 returns c = cc

@@ -10,27 +10,21 @@ use Rattle.sheet_instruction.proofs.field_if.Reads as field-if-reads
 use Rattle.sheet_instruction.proofs.take_address.Reads as take-address-reads
 use Rattle.sheet_instruction.proofs.take_map.Reads as take-map-reads
 
--- src/instruction.rt:225:9
 take-map-requires : tie.Need-take-map-requires
 take-map-requires c κs = search needs
 
--- src/instruction.rt:227:9
 take-address-requires : tie.Need-take-address-requires
 take-address-requires c κs = search needs
 
--- src/instruction.rt:229:9
 code-requires : tie.Need-code-requires
 code-requires c κs = search needs
 
--- src/instruction.rt:231:27
 bit-requires : tie.Need-bit-requires
 bit-requires c κs = search needs
 
--- src/instruction.rt:231:9
 field-if-requires : tie.Need-field-if-requires
 field-if-requires c κs = search needs
 
--- src/instruction.rt:222:1
 returns : tie.Need-returns
 unfolding headAt
 returns c = cc

@@ -12,35 +12,27 @@ use Rattle.sheet_instruction.proofs.bit.Reads as bit-reads
 use Rattle.sheet_instruction.proofs.take_head.Reads as take-head-reads
 use Rattle.sheet_instruction.proofs.take_tail.Reads as take-tail-reads
 
--- src/instruction.rt:270:9
 take-head-requires : tie.Need-take-head-requires
 take-head-requires c κs = search needs
 
--- src/instruction.rt:272:9
 take-tail-requires : tie.Need-take-tail-requires
 take-tail-requires c κs = search needs
 
--- src/instruction.rt:280:17
 bit-requires : tie.Need-bit-requires
 bit-requires c κs = search needs
 
--- src/instruction.rt:282:15
 bit-requires-2 : tie.Need-bit-requires-2
 bit-requires-2 c κs = search needs
 
--- src/instruction.rt:289:9
 is-at-fault-requires : tie.Need-is-at-fault-requires
 is-at-fault-requires c κs = search needs
 
--- src/instruction.rt:292:52
 start-requires : tie.Need-start-requires
 start-requires c κs = search needs
 
--- src/instruction.rt:292:15
 judged-requires : tie.Need-judged-requires
 judged-requires c κs = search needs
 
--- src/instruction.rt:267:1
 returns : tie.Need-returns
 returns c = instruction-is _ _ _ _ (c .before .before .before .before .before .before .before .take-head .ensures) (c .before .before .before .before .before .before .take-tail .ensures) (c .before .before .before .before .bit .ensures) (c .before .before .before .bit2 .ensures) (c .before .before .is-at-fault .ensures) (c .before .start .ensures) (c .judged .ensures)
 

@@ -9,23 +9,18 @@ use Rattle.sheet_field.proofs.start.Reads as start-reads
 use Rattle.sheet_field.proofs.take_field.Reads as take-field-reads
 use Rattle.sheet_instruction.proofs.map_ok.Reads as map-ok-reads
 
--- src/instruction.rt:208:9
 take-field-requires : tie.Need-take-field-requires
 take-field-requires c κs = search needs
 
--- src/instruction.rt:209:9
 map-ok-requires : tie.Need-map-ok-requires
 map-ok-requires c κs = search needs
 
--- src/instruction.rt:210:37
 start-requires : tie.Need-start-requires
 start-requires c κs = search needs
 
--- src/instruction.rt:210:5
 checked-requires : tie.Need-checked-requires
 checked-requires c κs = search needs
 
--- src/instruction.rt:205:1
 returns : tie.Need-returns
 unfolding mapAt
 returns c = cc

@@ -8,27 +8,21 @@ use Rattle.sheet_field.proofs.code.Reads as code-reads
 use Rattle.sheet_field.proofs.take_field.Reads as take-field-reads
 use Rattle.sheet_instruction.proofs.take_register.Reads as take-register-reads
 
--- src/instruction.rt:74:9
 code-requires : tie.Need-code-requires
 code-requires c κs = search needs
 
--- src/instruction.rt:77:13
 take-register-requires : tie.Need-take-register-requires
 take-register-requires c κs = search needs
 
--- src/instruction.rt:80:9
 returns : tie.Need-returns
 returns c = operand-register _ _ (c .before .before .before .before .code .ensures) (c .before .before .if1 .taken) (c .before .take-register .ensures)
 
--- src/instruction.rt:86:13
 take-field-requires : tie.Need-take-field-requires
 take-field-requires c κs = search needs
 
--- src/instruction.rt:88:9
 returns-2 : tie.Need-returns-2
 returns-2 c = operand-immediate _ _ (c .before .before .before .before .before .code .ensures) (c .before .before .before .if1 .left) (c .before .if2 .taken) (c .take-field .ensures)
 
--- src/instruction.rt:71:1
 returns-3 : tie.Need-returns-3
 returns-3 c = operand-memory _ _ (c .before .before .before .before .code .ensures) (c .before .before .if1 .left) (c .if2 .left)
 

@@ -9,35 +9,27 @@ use Rattle.sheet_field.proofs.judged.Reads as judged-reads
 use Rattle.sheet_field.proofs.start.Reads as start-reads
 use Rattle.sheet_field.proofs.take_field.Reads as take-field-reads
 
--- src/instruction.rt:50:9
 take-field-requires : tie.Need-take-field-requires
 take-field-requires c κs = search needs
 
--- src/instruction.rt:52:9
 take-field-requires-2 : tie.Need-take-field-requires-2
 take-field-requires-2 c κs = search needs
 
--- src/instruction.rt:54:9
 take-field-requires-3 : tie.Need-take-field-requires-3
 take-field-requires-3 c κs = search needs
 
--- src/instruction.rt:56:9
 take-field-requires-4 : tie.Need-take-field-requires-4
 take-field-requires-4 c κs = search needs
 
--- src/instruction.rt:64:9
 well-formed-requires : tie.Need-well-formed-requires
 well-formed-requires c κs = search needs
 
--- src/instruction.rt:67:57
 start-requires : tie.Need-start-requires
 start-requires c κs = search needs
 
--- src/instruction.rt:67:15
 judged-requires : tie.Need-judged-requires
 judged-requires c κs = search needs
 
--- src/instruction.rt:47:1
 returns : tie.Need-returns
 unfolding registerAt
 returns c = cc

@@ -8,15 +8,12 @@ use Rattle.sheet_instruction.proofs.take_registers.Lts as lts
 use Rattle.sheet_field.proofs.count.Reads as count-reads
 use Rattle.sheet_instruction.proofs.registers_from.Reads as registers-from-reads
 
--- src/instruction.rt:143:9
 count-requires : tie.Need-count-requires
 count-requires c κs = search needs
 
--- src/instruction.rt:145:5
 registers-from-requires : tie.Need-registers-from-requires
 registers-from-requires c κs = rw (c .count .ensures) (count-most _ _ _ _)
 
--- src/instruction.rt:140:1
 returns : tie.Need-returns
 unfolding registersAt
 returns c = cc

@@ -10,39 +10,30 @@ use Rattle.sheet_instruction.proofs.code_if.Reads as code-if-reads
 use Rattle.sheet_instruction.proofs.operand_if.Reads as operand-if-reads
 use Rattle.sheet_instruction.proofs.registers_if.Reads as registers-if-reads
 
--- src/instruction.rt:245:24
 bit-requires : tie.Need-bit-requires
 bit-requires c κs = search needs
 
--- src/instruction.rt:245:9
 operand-if-requires : tie.Need-operand-if-requires
 operand-if-requires c κs = search needs
 
--- src/instruction.rt:247:24
 bit-requires-2 : tie.Need-bit-requires-2
 bit-requires-2 c κs = search needs
 
--- src/instruction.rt:247:9
 operand-if-requires-2 : tie.Need-operand-if-requires-2
 operand-if-requires-2 c κs = search needs
 
--- src/instruction.rt:249:26
 bit-requires-3 : tie.Need-bit-requires-3
 bit-requires-3 c κs = search needs
 
--- src/instruction.rt:249:9
 registers-if-requires : tie.Need-registers-if-requires
 registers-if-requires c κs = search needs
 
--- src/instruction.rt:251:21
 bit-requires-4 : tie.Need-bit-requires-4
 bit-requires-4 c κs = search needs
 
--- src/instruction.rt:251:9
 code-if-requires : tie.Need-code-if-requires
 code-if-requires c κs = search needs
 
--- src/instruction.rt:242:1
 returns : tie.Need-returns
 returns c = tail-is _ _ _ (c .before .before .before .before .before .before .before .before .bit .ensures) (c .before .before .before .before .before .before .before .operand-if .ensures) (c .before .before .before .before .before .before .bit2 .ensures) (c .before .before .before .before .before .operand-if2 .ensures) (c .before .before .before .before .bit3 .ensures) (c .before .before .before .registers-if .ensures) (c .before .before .bit4 .ensures) (c .before .code-if .ensures)
 

@@ -6,23 +6,18 @@ use Rattle.sheet_instruction.proofs.with_register.Reads as reads
 use Rattle.sheet_instruction.proofs.with_register.Lts as lts
 use Rattle.sheet_instruction.proofs.take_register.Reads as take-register-reads
 
--- src/instruction.rt:104:9
 take-register-requires : tie.Need-take-register-requires
 take-register-requires c κs = search needs
 
--- src/instruction.rt:109:5
 mul-list : tie.Need-mul-list
 mul-list c = search needs
 
--- src/instruction.rt:109:5
 array-set-from-list : tie.Need-array-set-from-list
 array-set-from-list c = search needs
 
--- src/instruction.rt:112:16
 add-t14 : tie.Need-add-t14
 add-t14 c = search needs
 
--- src/instruction.rt:99:1
 returns : tie.Need-returns
 unfolding withRegister
 returns c = cc

@@ -16,28 +16,22 @@ Inv-loop s types n next₀ i₀ next i = (i ≤ n) × (next ≡ statementsFrom t
 abbrev μ-loop : tie.MeasureT-loop
 μ-loop s types n next₀ i₀ next i = n - i
 
--- src/lib.rt:122:5
 loop-holds : tie.Need-loop-holds Inv-loop μ-loop
 unfolding statementsFrom
 loop-holds c = (search needs, refl)
 
--- src/lib.rt:123:9
 check-statement-requires : tie.Need-check-statement-requires Inv-loop μ-loop
 check-statement-requires c κs = search needs
 
--- src/lib.rt:124:9
 add-i : tie.Need-add-i Inv-loop μ-loop
 add-i c = search needs
 
--- src/lib.rt:122:5
 loop-less : tie.Need-loop-less Inv-loop μ-loop
 loop-less c = search needs
 
--- src/lib.rt:122:5
 loop-again : tie.Need-loop-again Inv-loop μ-loop
 loop-again c = (search needs, rw (c .check-statement .ensures, c .before .before .loop .inv .1) (statements-more _ _ _ _))
 
--- src/lib.rt:116:1
 returns : tie.Need-returns Inv-loop μ-loop
 returns c = let e : c .before .before .before .before .args .n ≡ c .before .loop .i = omega arith in rw e (c .before .loop .inv .1)
 

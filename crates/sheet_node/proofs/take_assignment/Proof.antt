@@ -11,35 +11,27 @@ use Rattle.sheet_expression.proofs.take_expression.Reads as take-expression-rea
 use Rattle.sheet_field.proofs.code.Reads as code-reads
 use Rattle.sheet_node.proofs.typed.Reads as typed-reads
 
--- src/lib.rt:64:9
 code-requires : tie.Need-code-requires
 code-requires c κs = search needs
 
--- src/lib.rt:66:9
 take-expression-requires : tie.Need-take-expression-requires
 take-expression-requires c κs = search needs
 
--- src/lib.rt:68:13
 mul-n : tie.Need-mul-n
 mul-n c = omega (arith, took-fits (c .before .before .take-expression .ensures) (c .before .before .take-expression .kept .1 .1 .1 .0))
 
--- src/lib.rt:73:33
 slice-reshare-prefix-typed : tie.Need-slice-reshare-prefix-typed
 slice-reshare-prefix-typed c = omega (arith, took-fits (c .before .before .take-expression .ensures) (c .before .before .take-expression .kept .1 .1 .1 .0))
 
--- src/lib.rt:73:33
 slice-aggregate-typed : tie.Need-slice-aggregate-typed
 slice-aggregate-typed c = sym (length-take-le _ _ (omega (arith, took-fits (c .before .before .before .take-expression .ensures) (c .before .before .before .take-expression .kept .1 .1 .1 .0))))
 
--- src/lib.rt:73:15
 typed-requires : tie.Need-typed-requires
 typed-requires c κs = assignment-typed (c .before .before .before .before .before .before .before .before .before .args .types .now) (c .before .before .before .before .before .before .before .before .before .args .s .now) (c .before .before .before .before .before .before .before .before .before .args .p) (c .before .before .before .before .before .code .ensures) (c .before .before .before .take-expression .ensures)
 
--- src/lib.rt:59:1
 same-length : tie.Need-same-length
 same-length c = search needs
 
--- src/lib.rt:59:1
 returns : tie.Need-returns
 returns c = assignment-took _ _ _ (c .before .before .before .before .before .before .code .ensures) (c .before .before .before .before .take-expression .ensures) _ (c .typed .ensures)
 

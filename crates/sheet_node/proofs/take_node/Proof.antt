@@ -12,43 +12,33 @@ use Rattle.sheet_node.proofs.check_statements.Reads as check-statements
 use Rattle.sheet_node.proofs.check_types.Reads as check-types-reads
 use Rattle.sheet_node.proofs.types_of.Reads as types-of-reads
 
--- src/lib.rt:170:9
 count-requires : tie.Need-count-requires
 count-requires c κs = search needs
 
--- src/lib.rt:172:9
 check-types-requires : tie.Need-check-types-requires
 check-types-requires c κs = search needs
 
--- src/lib.rt:173:40
 start-requires : tie.Need-start-requires
 start-requires c κs = search needs
 
--- src/lib.rt:173:9
 types-of-requires : tie.Need-types-of-requires
 types-of-requires c κs = types-inside (c .before .before .before .before .args .s .now) (c .before .before .before .before .args .p) (c .before .before .count .ensures) (c .before .check-types .ensures) (c .start .ensures)
 
--- src/lib.rt:174:9
 count-requires-2 : tie.Need-count-requires-2
 count-requires-2 c κs = search needs
 
--- src/lib.rt:176:9
 check-statements-requires : tie.Need-check-statements-requires
 check-statements-requires c κs = types-32 _ _ (c .before .before .before .check-types .result) (c .before .before .start .result) _ (c .before .before .before .before .count .ensures) (c .before .types-of .ensures)
 
--- src/lib.rt:177:9
 check-condition-requires : tie.Need-check-condition-requires
 check-condition-requires c κs = types-32 _ _ (c .before .before .before .before .check-types .result) (c .before .before .before .start .result) _ (c .before .before .before .before .before .count .ensures) (c .before .before .types-of .ensures)
 
--- src/lib.rt:178:9
 count-requires-3 : tie.Need-count-requires-3
 count-requires-3 c κs = search needs
 
--- src/lib.rt:188:15
 check-addresses-requires : tie.Need-check-addresses-requires
 check-addresses-requires c κs = search needs
 
--- src/lib.rt:167:1
 returns : tie.Need-returns
 returns c = node-is _ _ (c .before .before .before .before .before .before .before .before .count .ensures) (c .before .before .before .before .before .before .before .check-types .ensures) (c .before .before .before .before .before .before .start .ensures) (c .before .before .before .before .before .types-of .ensures) (c .before .before .before .before .count2 .ensures) (c .before .before .before .check-statements .ensures) (c .before .before .check-condition .ensures) (c .before .count3 .ensures) (c .check-addresses .ensures)
 

@@ -8,27 +8,21 @@ use Rattle.sheet_field.proofs.start.Reads as start-reads
 use Rattle.sheet_node.proofs.take_assignment.Reads as take-assignment-reads
 use Rattle.sheet_node.proofs.take_map.Reads as take-map-reads
 
--- src/lib.rt:82:9
 take-map-requires : tie.Need-take-map-requires
 take-map-requires c κs = search needs
 
--- src/lib.rt:85:35
 start-requires : tie.Need-start-requires
 start-requires c κs = search needs
 
--- src/lib.rt:85:9
 take-assignment-requires : tie.Need-take-assignment-requires
 take-assignment-requires c κs = search needs
 
--- src/lib.rt:78:1
 same-length : tie.Need-same-length
 same-length c = search needs
 
--- src/lib.rt:78:1
 returns : tie.Need-returns
 returns c = statement-assignment _ _ _ (c .before .before .before .before .before .before .before .take-map .ensures) (c .before .before .before .before .before .if1 .taken) (c .before .before .before .before .start .ensures) (c .before .before .take-assignment .ensures)
 
--- src/lib.rt:78:1
 returns-2 : tie.Need-returns-2
 returns-2 c = statement-other _ _ _ (c .before .before .take-map .ensures) _ (c .if1 .left)
 

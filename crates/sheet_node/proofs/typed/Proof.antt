@@ -8,39 +8,30 @@ use Rattle.expr.proofs.same_type.Reads as same-type-reads
 use Rattle.expr.proofs.static_type.Reads as static-type-reads
 use Rattle.sheet_field.proofs.judged.Reads as judged-reads
 
--- src/lib.rt:49:24
 enum-known-end : tie.Need-enum-known-end
 enum-known-end c = search needs
 
--- src/lib.rt:51:29
 enum-told : tie.Need-enum-told
 enum-told c = search needs
 
--- src/lib.rt:51:23
 shared-slice-read-own : tie.Need-shared-slice-read-own
 shared-slice-read-own c = c .before .before .before .before .before .pre _ (c .before .enum-told .given .1) .2
 
--- src/lib.rt:52:17
 static-type-requires : tie.Need-static-type-requires
 static-type-requires c κs = (c .before .before .before .before .before .pre _ (c .before .enum-told .given .1) .0, c .before .before .before .before .before .pre _ (c .before .enum-told .given .1) .1)
 
--- src/lib.rt:53:58
 cast-same-type : tie.Need-cast-same-type
 cast-same-type c = omega (arith, c .before .shared-slice-known3 .given (c .before .before .before .before .before .before .args .variable))
 
--- src/lib.rt:53:32
 same-type-requires : tie.Need-same-type-requires
 same-type-requires c κs = search needs
 
--- src/lib.rt:53:13
 judged-requires : tie.Need-judged-requires
 judged-requires c κs = search needs
 
--- src/lib.rt:44:1
 returns : tie.Need-returns
 returns c = rw (c .before .end .given .1)
 
--- src/lib.rt:44:1
 returns-2 : tie.Need-returns-2
 returns-2 c = rw (c .judged .ensures, c .before .same-type .ensures, c .before .before .static-type .ensures)
 

@@ -6,39 +6,30 @@ use Rattle.sheet_node.proofs.types_of.Tie as tie
 use Rattle.sheet_node.proofs.types_of.Reads as reads
 use Rattle.sheet_node.proofs.types_of.Lts as lts
 
--- src/lib.rt:161:33
 enum-told : tie.Need-enum-told
 enum-told c = search needs
 
--- src/lib.rt:161:33
 slice-aggregate-result : tie.Need-slice-aggregate-result
 slice-aggregate-result c = search needs
 
--- src/lib.rt:162:34
 enum-told-2 : tie.Need-enum-told-2
 enum-told-2 c = search needs
 
--- src/lib.rt:162:34
 add-result : tie.Need-add-result
 add-result c = omega (arith, c .before .before .pre _ (c .enum-told2 .given .1))
 
--- src/lib.rt:162:25
 sub-result : tie.Need-sub-result
 sub-result c = search needs
 
--- src/lib.rt:162:25
 part-result-start : tie.Need-part-result-start
 part-result-start c = search needs
 
--- src/lib.rt:162:25
 part-result-end : tie.Need-part-result-end
 part-result-end c = c .before .before .pre _ (c .enum-told2 .given .1)
 
--- src/lib.rt:156:1
 returns : tie.Need-returns
 returns c = search needs
 
--- src/lib.rt:156:1
 returns-2 : tie.Need-returns-2
 returns-2 c = rw (c .before .enum-told2 .given .1, add-sub-cancel-left)
 

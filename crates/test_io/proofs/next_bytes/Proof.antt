@@ -8,27 +8,21 @@ use Rattle.test_io.proofs.next_bytes.Reads as reads
 use Rattle.test_io.proofs.next_bytes.Lts as lts
 use Rattle.io.proofs.read_full.Reads as read-full-reads
 
--- src/lib.rt:46:9
 returns : tie.Need-returns
 returns c = search needs
 
--- src/lib.rt:48:43
 slice-relend-prefix-read-full : tie.Need-slice-relend-prefix-read-full
 slice-relend-prefix-read-full c = search needs
 
--- src/lib.rt:48:43
 slice-aggregate-read-full : tie.Need-slice-aggregate-read-full
 slice-aggregate-read-full c = sym (length-take-le _ _ (omega arith))
 
--- src/lib.rt:48:9
 read-full-requires : tie.Need-read-full-requires
 read-full-requires c κs = search needs
 
--- src/lib.rt:44:1
 same-length : tie.Need-same-length
 same-length c = search needs
 
--- src/lib.rt:44:1
 returns-2 : tie.Need-returns-2
 returns-2 c = search needs
 

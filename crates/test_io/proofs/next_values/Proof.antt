@@ -15,39 +15,30 @@ Inv-loop values₀ i₀ values i = (length values ≡ length values₀) × (i �
 abbrev μ-loop : tie.MeasureT-loop
 μ-loop values₀ i₀ values i = length values₀ - i
 
--- src/lib.rt:77:5
 loop-holds : tie.Need-loop-holds Inv-loop μ-loop
 loop-holds c = search needs
 
--- src/lib.rt:78:21
 next-long-requires : tie.Need-next-long-requires Inv-loop μ-loop
 next-long-requires c κs = search needs
 
--- src/lib.rt:78:9
 mul-values : tie.Need-mul-values Inv-loop μ-loop
 mul-values c = search needs
 
--- src/lib.rt:78:9
 slice-write-values : tie.Need-slice-write-values Inv-loop μ-loop
 slice-write-values c = search needs
 
--- src/lib.rt:79:9
 add-i : tie.Need-add-i Inv-loop μ-loop
 add-i c = search needs
 
--- src/lib.rt:77:5
 loop-less : tie.Need-loop-less Inv-loop μ-loop
 loop-less c = search needs
 
--- src/lib.rt:77:5
 loop-again : tie.Need-loop-again Inv-loop μ-loop
 loop-again c = simp length-set (omega arith)
 
--- src/lib.rt:75:1
 same-length : tie.Need-same-length Inv-loop μ-loop
 same-length c = search needs
 
--- src/lib.rt:75:1
 returns : tie.Need-returns Inv-loop μ-loop
 returns c = search needs
 

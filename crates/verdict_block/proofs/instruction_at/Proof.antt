@@ -5,11 +5,9 @@ use Rattle.verdict_block.proofs.instruction_at.Reads as reads
 use Rattle.verdict_block.proofs.instruction_at.Lts as lts
 use Rattle.sheet_instruction.proofs.take_instruction.Reads as take-instruction-reads
 
--- src/lib.rt:32:9
 take-instruction-requires : tie.Need-take-instruction-requires
 take-instruction-requires c κs = search needs
 
--- src/lib.rt:29:1
 returns : tie.Need-returns
 returns c = rw (c .before .take-instruction .ensures)
 

@@ -23,75 +23,57 @@ Inv-loop s places first end last state₀ i₀ state i =
 abbrev μ-loop : tie.MeasureT-loop
 μ-loop s places first end last state₀ i₀ state i = last - i
 
--- src/lib.rt:52:9
 returns : tie.Need-returns Inv-loop μ-loop
 returns c = sym (between-none _ _ _ _ _ (c .if1 .taken))
 
--- src/lib.rt:54:16
 sub-last : tie.Need-sub-last Inv-loop μ-loop
 sub-last c = search needs
 
--- src/lib.rt:55:9
 unknown-requires : tie.Need-unknown-requires Inv-loop μ-loop
 unknown-requires c κs = search needs
 
--- src/lib.rt:57:5
 loop-holds : tie.Need-loop-holds Inv-loop μ-loop
 loop-holds c = (omega arith, refl)
 
--- src/lib.rt:58:36
 mul-instruction-at : tie.Need-mul-instruction-at Inv-loop μ-loop
 mul-instruction-at c = search needs
 
--- src/lib.rt:58:36
 shared-slice-read-instruction-at : tie.Need-shared-slice-read-instruction-at Inv-loop μ-loop
 shared-slice-read-instruction-at c = omega arith
 
--- src/lib.rt:58:13
 instruction-at-requires : tie.Need-instruction-at-requires Inv-loop μ-loop
 instruction-at-requires c κs = search needs
 
--- src/lib.rt:59:9
 step-requires : tie.Need-step-requires Inv-loop μ-loop
 step-requires c κs = search needs
 
--- src/lib.rt:60:9
 add-i : tie.Need-add-i Inv-loop μ-loop
 add-i c = search needs
 
--- src/lib.rt:57:5
 loop-less : tie.Need-loop-less Inv-loop μ-loop
 loop-less c = search needs
 
--- src/lib.rt:57:5
 loop-again : tie.Need-loop-again Inv-loop μ-loop
 loop-again c = (omega arith, c .before .before .before .before .loop .inv .1 ∙ between-step (c .before .before .before .before .before .before .before .before .before .args .s .now) (c .before .before .before .before .before .before .before .before .before .args .places .now) (c .before .before .before .before .loop .i) (c .before .before .before .before .before .before .before .before .before .args .end) (c .before .before .before .before .loop .state) (omega arith) (c .before .before .before .before .before .before .before .before .before .pre) (c .before .instruction-at .ensures) (c .step .ensures))
 
--- src/lib.rt:62:36
 mul-instruction-at-2 : tie.Need-mul-instruction-at-2 Inv-loop μ-loop
 mul-instruction-at-2 c = search needs
 
--- src/lib.rt:62:36
 shared-slice-read-instruction-at-2 : tie.Need-shared-slice-read-instruction-at-2 Inv-loop μ-loop
 shared-slice-read-instruction-at-2 c = omega arith
 
--- src/lib.rt:62:9
 instruction-at-requires-2 : tie.Need-instruction-at-requires-2 Inv-loop μ-loop
 instruction-at-requires-2 c κs = search needs
 
--- src/lib.rt:64:18
 condition-requires : tie.Need-condition-requires Inv-loop μ-loop
 condition-requires c κs = search needs
 
--- src/lib.rt:64:9
 decision-requires : tie.Need-decision-requires Inv-loop μ-loop
 decision-requires c κs = search needs
 
--- src/lib.rt:47:1
 returns-2 : tie.Need-returns-2 Inv-loop μ-loop
 returns-2 c = rw (c .decision .ensures, c .before .condition .ensures) (rw (c .before .before .if2 .taken) at (between-end (c .before .before .before .before .before .before .before .before .before .before .before .args .s .now) (c .before .before .before .before .before .before .before .before .before .before .before .args .places .now) (c .before .before .before .before .before .before .before .before .before .before .before .args .first) (c .before .before .before .before .before .before .before .before .before .before .before .args .end) (c .before .before .before .before .before .before .loop .i) (c .before .before .before .before .before .before .before .before .before .before .before .args .end - 1) (c .before .before .before .before .before .before .loop .state) (c .before .before .before .before .before .before .before .unknown .ensures) (c .before .before .before .before .before .before .loop .inv .1) (omega arith) (omega arith) (c .before .before .before .before .before .before .before .before .before .before .before .pre) (c .before .before .before .instruction-at2 .ensures)))
 
--- src/lib.rt:47:1
 returns-3 : tie.Need-returns-3 Inv-loop μ-loop
 returns-3 c = rw (c .if2 .left) at (between-end (c .before .before .before .before .before .before .before .before .before .args .s .now) (c .before .before .before .before .before .before .before .before .before .args .places .now) (c .before .before .before .before .before .before .before .before .before .args .first) (c .before .before .before .before .before .before .before .before .before .args .end) (c .before .before .before .before .loop .i) (c .before .before .before .before .before .before .before .before .before .args .end - 1) (c .before .before .before .before .loop .state) (c .before .before .before .before .before .unknown .ensures) (c .before .before .before .before .loop .inv .1) (omega arith) (omega arith) (c .before .before .before .before .before .before .before .before .before .pre) (c .before .instruction-at2 .ensures))
 

@@ -10,31 +10,24 @@ use Rattle.verdict_block.proofs.verdict_between.Reads as verdict-betwee
 use Rattle.search.proofs.first_at_or_above.Reads as first-at-or-above-reads
 use Rattle.sheet.proofs.take_block.Reads as take-block-reads
 
--- src/lib.rt:79:61
 mul-t11 : tie.Need-mul-t11
 mul-t11 c = omega (arith, blocks-inside (c .before .before .before .before .args .s .now) (c .before .before .before .before .args .sheet) (c .before .before .before .before .pre .0), c .before .before .before .before .pre .1 .0, c .before .before .before .before .good)
 
--- src/lib.rt:79:48
 add-t12 : tie.Need-add-t12
 add-t12 c = omega (arith, blocks-inside (c .before .before .before .before .before .args .s .now) (c .before .before .before .before .before .args .sheet) (c .before .before .before .before .before .pre .0), c .before .before .before .before .before .pre .1 .0, c .before .before .before .before .before .good)
 
--- src/lib.rt:79:9
 take-block-requires : tie.Need-take-block-requires
 take-block-requires c κs = search needs
 
--- src/lib.rt:80:9
 first-at-or-above-requires : tie.Need-first-at-or-above-requires
 first-at-or-above-requires c κs = rw (c .before .before .before .before .before .before .pre .1 .1 .0) (addresses-rise (c .before .before .before .before .before .before .args .s .now) (c .before .before .before .before .before .before .args .sheet) (c .before .before .before .before .before .before .pre .0))
 
--- src/lib.rt:81:9
 first-at-or-above-requires-2 : tie.Need-first-at-or-above-requires-2
 first-at-or-above-requires-2 c κs = rw (c .before .before .before .before .before .before .before .pre .1 .1 .0) (addresses-rise (c .before .before .before .before .before .before .before .args .s .now) (c .before .before .before .before .before .before .before .args .sheet) (c .before .before .before .before .before .before .before .pre .0))
 
--- src/lib.rt:82:5
 verdict-between-requires : tie.Need-verdict-between-requires
 verdict-between-requires c κs = end-inside (c .before .before .before .before .before .before .before .before .args .s .now) (c .before .before .before .before .before .before .before .before .args .sheet) (c .before .before .before .before .before .before .before .before .pre .0) _ (c .before .before .before .before .before .before .before .before .pre .1 .1 .0) (c .before .before .before .before .before .before .before .before .pre .1 .1 .1) (c .first-at-or-above2 .ensures)
 
--- src/lib.rt:71:1
 returns : tie.Need-returns
 returns c = verdict-is (c .before .before .before .before .before .before .before .before .before .args .s .now) (c .before .before .before .before .before .before .before .before .before .args .sheet) (c .before .before .before .before .before .before .before .before .before .pre .0) _ (c .before .before .before .before .before .before .before .before .before .pre .1 .0) (c .before .before .before .before .before .before .before .before .before .pre .1 .1 .0) (c .before .before .before .before .before .before .before .before .before .pre .1 .1 .1) (c .before .before .before .take-block .ensures) (c .before .before .first-at-or-above .ensures) (c .before .first-at-or-above2 .ensures) (c .verdict-between .ensures)
 
