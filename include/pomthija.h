@@ -1,33 +1,67 @@
-/* Pomthija: what a C host calls. A slice is a pointer and a length; slices must not overlap, and
- * a length of 0 goes with any pointer, NULL too. Nothing is kept between calls, and nothing but
- * *out is written. The library is proved in Rattle; this header and the host are not. */
+/* Pomthija, for a host in C or C++. The library is libpomthija.a, made by `rt staticlib pomthija`.
+ *
+ * The host answers for this much; the library checks everything else by itself:
+ *   - a pointer is good for as many elements as the length beside it says. Where that is 0, any
+ *     pointer will do, also NULL;
+ *   - out is not NULL, and shares no byte with the sheet or the values;
+ *   - nothing writes to the sheet or to the values while a call runs.
+ * A call writes to *out alone. Nothing is allocated or kept, so threads may call at the same time.
+ *
+ * The functions are proved; that this header describes them, and what a host does, is not. */
 #ifndef POMTHIJA_H
 #define POMTHIJA_H
 
 #include <stddef.h>
 #include <stdint.h>
 
-/* The refusals: a number, and a place that *out holds. */
+#if defined __cplusplus && __cplusplus >= 201103L
+static_assert(sizeof(size_t) == 8, "the library takes lengths of 64 bits");
+#elif defined __STDC_VERSION__ && __STDC_VERSION__ >= 201112L
+_Static_assert(sizeof(size_t) == 8, "the library takes lengths of 64 bits");
+#endif
+
+#ifdef __cplusplus
+extern "C" {
+#endif
+
+/* What a function returns: 0, or the number of a refusal, which is never 0. A refusal leaves its
+ * place in *out. That is an offset in bytes from the start of the sheet, except for
+ * POMTHIJA_NUMBER, where it is 0, and POMTHIJA_VALUE, where it is the number of a variable. */
 enum {
-    POMTHIJA_ENDS = 1,          /* the sheet ends inside a field, or has bytes left over; place: that field, or the first extra byte */
-    POMTHIJA_CODE = 2,          /* a code, a map or a variable number outside its table; place: the field */
-    POMTHIJA_COUNT = 3,         /* a count over or under its limit; place: the field */
-    POMTHIJA_ADDRESS = 4,       /* an address not above the one before; place: the field */
-    POMTHIJA_REGISTER = 5,      /* a register of class 1 that is ill formed; place: its class byte */
-    POMTHIJA_INSTRUCTION = 6,   /* a modelled instruction at fault; place: its map byte */
-    POMTHIJA_TREE = 7,          /* an expression that is not one tree; place: the record that lacks a child, else the byte after it */
-    POMTHIJA_CONSTANT = 8,      /* a constant above its width; place: its value */
-    POMTHIJA_TYPE = 9,          /* a value whose type is not its variable's; place: the statement */
-    POMTHIJA_NUMBER = 13,       /* no node of that number; place: 0 */
-    POMTHIJA_DIVISION = 14,     /* division by zero; place: the node */
-    POMTHIJA_NOT_PLAIN = 15,    /* the node has an effect, a load or a 0-statement; place: the node */
-    POMTHIJA_VALUE = 16         /* a variable's value is missing or has bits above its type; place: the lowest such number */
+    POMTHIJA_OK = 0,
+
+    /* the sheet is not in the format */
+    POMTHIJA_ENDS = 1,        /* it stops too early (place: the field that is not complete), or goes on after its
+                                 last record (place: the byte after that) */
+    POMTHIJA_CODE = 2,        /* a map, a code or a variable's number that is not in its table; place: its byte */
+    POMTHIJA_COUNT = 3,       /* a count outside its limits; place: its first byte */
+    POMTHIJA_ADDRESS = 4,     /* an instruction's address is no greater than the one before; place: its first byte */
+    POMTHIJA_REGISTER = 5,    /* a general register (class 1) that does not exist; place: its class byte */
+    POMTHIJA_INSTRUCTION = 6, /* operands or declared flags that a modelled instruction cannot have; place: its map */
+    POMTHIJA_TREE = 7,        /* records that do not form one tree; place: the record without enough children, or,
+                                 where trees are left over, the byte after the expression */
+    POMTHIJA_CONSTANT = 8,    /* a constant that does not fit its width; place: its value's first byte */
+    POMTHIJA_TYPE = 9,        /* an assignment whose two types differ; place: its map byte */
+
+    /* the sheet is accepted, but not the request */
+    POMTHIJA_NUMBER = 13,     /* the sheet has no node of this number; place: 0 */
+    POMTHIJA_DIVISION = 14,   /* the run divides by zero; place: the node's first byte */
+    POMTHIJA_NOT_PLAIN = 15,  /* an effect, a load or a statement that assigns nothing; place: the node's first byte */
+    POMTHIJA_VALUE = 16       /* no value for a variable, or one that its type cannot hold; place: the number of the
+                                 first such variable, from 0 */
 };
 
-/* Runs the node of that number, from 0, of a sheet on the values of its variables, one 64-bit
- * word each, by number; extra values are unread. Returns 0 with *out 1 where its condition holds
- * and 0 where it does not, or a refusal with its place in *out. */
+/* Runs one node of a sheet, numbered from 0, on given values, and says whether its condition holds:
+ * returns POMTHIJA_OK with 1 in *out if it does and 0 if it does not, or else a refusal.
+ *
+ * values[v] is the value of the node's variable v, as the bits of its type with zeros above them. A
+ * signed 8 of -1 is 255: (uint64_t)-1 has bits that an 8-bit type cannot hold, and is refused. A bool
+ * is 0 or 1. Values after those of the node's variables are not read. */
 uint64_t pomthija_evaluation(const uint8_t *sheet, size_t sheet_length, uint64_t node,
                              const uint64_t *values, size_t value_count, uint64_t *out);
+
+#ifdef __cplusplus
+}
+#endif
 
 #endif
