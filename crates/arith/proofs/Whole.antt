@@ -145,8 +145,8 @@ module _ (t a b : ℕ) (ha : a < 2 ^ bits t) (hb : b < 2 ^ bits t) where
       ap₂ (λ (u v : ℕ). u * v % 2 ^ bits t) (sym (wrap-number t a ha)) (sym (wrap-number t b hb))
       ∙ residue-mul (2 ^ bits t) (some t) (number t a) (number t b)
 
--- Division in whole numbers: the dividend is quotient times divisor plus remainder; the remainder is smaller in size than the divisor, and zero or
--- of the dividend's sign.
+-- Division in whole numbers: the dividend is quotient times divisor plus remainder; the remainder's size is below the divisor's, and its sign, if it
+-- is not 0, is that of the dividend.
 times-negsuc : (q b : ℕ) → negℤ (pos q) *ℤ negsuc b ≡ pos (q * suc b)
 times-negsuc zero b = ap (λ (k : ℕ). negℤ (pos k)) zero-product ∙ ap pos (sym zero-product)
   where
@@ -236,7 +236,7 @@ module _ (t a b : ℕ) (ha : a < 2 ^ bits t) where
       (λ e. wrapped-neg t (suc (2 ^ bits t - suc a) % d) (has-sign t a e) (omega (arith, upper t a e, mod-le (suc (2 ^ bits t - suc a)) d)))
       (λ e. wrapped-pos t (a % d) (omega (arith, mod-le a d)) (plain-lower t a (a % d) (mod-le a d) e))
 
-  -- only the most negative value by -1 wraps
+  -- the least value of a signed type by -1 is left out: its quotient wraps
   pub quotient-number : (2 * a ≡ 2 ^ bits t → number t b ≡ negsuc 0 → ⊥) → number t (quotient t a b) ≡ quotZ (number t a) (number t b)
   unfolding quotient
   quotient-number out =

@@ -1,4 +1,4 @@
--- 'Values': what the bit pattern of a type stands for, and how whole numbers become patterns again. A type is its number, 0 to 9.
+-- What the bit pattern of a type stands for, and how whole numbers become patterns again. A type is its number, 0 to 9.
 use mathlib.Core.Bool.{Bool, cond, _&&_}
 use mathlib.Core.List.{[], _∷_}
 use Prim.Native.Nat.{ℕ, suc, _+_, _*_, _-_, _%_, _^_}
@@ -7,11 +7,11 @@ use lib.ListN.{getD}
 use lib.IntN.{ℤ, pos, negsuc}
 use lib.Signed.{quotZ, remZ, shrZ, ltZ, leZ}
 
--- 'Expression', types: how many bits a value of the type has: signed 8, 16, 32, 64, the same unsigned, pointer, and bool, which is 0 or 1.
+-- How many bits a value of the type has: four signed types, the same four unsigned, pointer, and bool, which is 0 or 1 (S45).
 unfoldable pub bits : ℕ → ℕ
 bits t = getD (8 ∷ 16 ∷ 32 ∷ 64 ∷ 8 ∷ 16 ∷ 32 ∷ 64 ∷ 64 ∷ 1 ∷ []) t 64
 
--- 'Expression', types: 0 to 3 have a sign.
+-- The types with a sign are 0 to 3 (S45).
 abbrev pub signed : ℕ → Bool
 signed t = ltb t 4
 
@@ -28,17 +28,17 @@ unfoldable pub residue : ℕ → ℤ → ℕ
 residue m (pos n) = n % m
 residue m (negsuc n) = m - 1 - n % m
 
--- 'Values', results wrap: the pattern of type t whose number differs from z by a multiple of 2 ^ bits.
+-- The pattern of type t whose number differs from z by a multiple of 2 ^ bits (V6).
 abbrev pub wrap : ℕ → ℤ → ℕ
 wrap t z = residue (2 ^ bits t) z
 
--- 'Values', a cast and the conversion to a promoted or common type: the pattern of type t for the number that x of type s stands for; to bool
--- it is 1 where x is not zero.
+-- A cast, and the conversion to a promoted or common type: the pattern of type t for the number that x of type s stands for; to bool it is 1
+-- where x is not zero (V14, V15).
 unfoldable pub convert : ℕ → ℕ → ℕ → ℕ
 convert s t x = cond (eqb t 9) (cond (eqb x 0) 0 1) (wrap t (number s x))
 
--- 'Values', results wrap: sum, difference and product of two patterns of type t. A pattern and its number leave the same modulo 2 ^ bits, so the
--- sign plays no part.
+-- Sum, difference and product of two patterns of type t, wrapped. A pattern and its number leave the same modulo 2 ^ bits, so the sign plays no
+-- part (V6).
 abbrev pub sum : ℕ → ℕ → ℕ → ℕ
 sum t a b = (a + b) % 2 ^ bits t
 
@@ -48,26 +48,25 @@ difference t a b = (a + (2 ^ bits t - b)) % 2 ^ bits t
 abbrev pub product : ℕ → ℕ → ℕ → ℕ
 product t a b = a * b % 2 ^ bits t
 
--- 'Values', division truncates toward zero: the quotient of the whole numbers, and what is left of the dividend, which has the dividend's sign.
--- b is not zero.
+-- The quotient of the whole numbers, rounded toward zero, and what is left of the dividend, with the dividend's sign. b is not zero (V9).
 unfoldable pub quotient : ℕ → ℕ → ℕ → ℕ
 quotient t a b = wrap t (quotZ (number t a) (number t b))
 
 unfoldable pub remainder : ℕ → ℕ → ℕ → ℕ
 remainder t a b = wrap t (remZ (number t a) (number t b))
 
--- 'Values', shifts: a times 2 ^ k, wrapped; and a's number divided by 2 ^ k and rounded down, which copies the sign.
+-- Shifts: a times 2 ^ k, wrapped; and a's number divided by 2 ^ k and rounded down, which fills with the sign (V7, V8).
 abbrev pub shiftLeft : ℕ → ℕ → ℕ → ℕ
 shiftLeft t a k = a * 2 ^ k % 2 ^ bits t
 
 unfoldable pub shiftRight : ℕ → ℕ → ℕ → ℕ
 shiftRight t a k = wrap t (shrZ (number t a) (2 ^ k))
 
--- 'Values', shifts: the count is the number that x of type s stands for, modulo the width of type t.
+-- A shift's count: the number that x of type s stands for, modulo the width of type t (V7).
 unfoldable pub count : ℕ → ℕ → ℕ → ℕ
 count t s x = residue (bits t) (number s x)
 
--- 'Values', comparisons, between two patterns of one type: by the numbers that they stand for
+-- Comparisons of two patterns of one type, by the numbers that they stand for (V2).
 unfoldable pub below : ℕ → ℕ → ℕ → Bool
 below t a b = ltZ (number t a) (number t b)
 

@@ -20,7 +20,7 @@ pub data Answer : Type 0 where
   decision : (value reason : ℕ) → Answer
   refused : (number place : ℕ) → Answer
 
--- The numbers of each case: always 1, never 0, and reason 1 for what flags decide.
+-- The numbers of each case: always 1, never 0, and reason 1 for what flags decide (L2, D18, F12).
 abbrev pub answerFor : BlockAnswer → Answer
 answerFor answer.NoBranch = noBranch
 answerFor answer.Undecided = undecided
@@ -40,11 +40,11 @@ judged verdict.Undecided = undecided
 judged verdict.Always = decision 1 1
 judged verdict.Never = decision 0 1
 
--- Turned back, block verdict: 13 where there is no block of that number, at place 0.
+-- Refusal 13, at place 0, where there is no block of that number (M31).
 abbrev pub onReading : Reading → List ℕ → ℕ → Answer
 onReading (reading.Refused k at) s number = refused k at
 onReading (reading.Accepted sheet) s number = cond (ltb number (sheet .blocks .count)) (judged (verdictOn s number)) (refused 13 0)
 
--- Block verdict: reading's refusals first, then 13, else the verdict on that block.
+-- The block verdict: reading's refusals first, then 13, else the verdict on that block (R1, R5, D3, D7).
 unfoldable pub blockAnswer : List ℕ → ℕ → Answer
 blockAnswer s number = onReading (readingOf s) s number

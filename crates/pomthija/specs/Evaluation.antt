@@ -43,17 +43,17 @@ nodePlace s number = getD (sheetAt s .nodes .places) number 0
 unfoldable pub evaluatedNode : List ℕ → ℕ → List ℕ → Evaluation
 evaluatedNode s number values = evaluationOf (nodeNumbered s number) (nodePlace s number) values
 
--- Turned back, evaluation: 13 where there is no node of that number, at place 0.
+-- Refusal 13, at place 0, where there is no node of that number (E3).
 abbrev pub nodeOn : Reading → List ℕ → ℕ → List ℕ → Evaluated
 nodeOn (reading.Refused k at) s number values = refused k at
 nodeOn (reading.Accepted sheet) s number values =
     cond (ltb number (sheet .nodes .count)) (inNumbers (evaluatedNode s number values)) (refused 13 0)
 
--- Evaluation: reading's refusals first, then 13, then the node's own.
+-- The evaluation: reading's refusals first, then 13, then the node's own (R1, R5, E1, E8, D3).
 unfoldable pub evaluationAnswer : List ℕ → ℕ → List ℕ → Evaluated
 evaluationAnswer s number values = nodeOn (readingOf s) s number values
 
--- What a C host is given: 0 and the answer, or the refusal's number and place.
+-- What a C host is given: 0 and the answer, or the refusal's number and place (R1, D3, F4).
 abbrev pub Returned : ℕ → ℕ → Evaluated → Type 0
 Returned r out (outcome value) = (r ≡ 0) × (out ≡ value)
 Returned r out (refused number place) = (r ≡ number) × (out ≡ place)

@@ -45,7 +45,7 @@ pub record Checked (f : Instructions) (r : InstructionsRead) : Type 0 where
   pub last : f .last ≡ r .last
   pub place : f .next ≡ r .next
 
--- Block: from and to, 8 bytes each.
+-- A block: two addresses, from and to (S25).
 unfoldable pub blockAt : List ℕ → Place → BlockField
 blockAt s p =
     let from = fieldAt 8 s p in
@@ -82,7 +82,7 @@ nodesFrom s p (suc k) =
     let n = nodeAt s (before .next) in
     record { list = before .list ++ (nodeOf s n ∷ []); places = before .places ++ (startOf (before .next) ∷ []); next = n .next }
 
--- Turned back, 1: bytes left over; the refusal stands at the first of them.
+-- Refusal 1, placed at the first byte that follows the last record, where one does (R7).
 abbrev pub ended : List ℕ → Place → Place
 ended s p = judge (leb (length s) (startOf p)) 1 (startOf p) p
 
@@ -94,8 +94,8 @@ pub record SheetRead : Type 0 where
   pub sheet : Sheet
   pub end : Place
 
--- The sheet: up to 2,048 instructions, 1,024 blocks and 1,024 nodes, each count (2 bytes) followed by its records, and
--- nothing behind them.
+-- A sheet: three sections, each a count and that many records: instructions, at most 2,048; blocks and nodes, at most 1,024 each. Then it ends
+-- (S3, S4, R2, R23).
 unfoldable pub sheetAt : List ℕ → SheetRead
 sheetAt s =
     let i = countAt 0 2048 s (At 0) in
@@ -121,6 +121,6 @@ abbrev pub answerOf : Place → Sheet → Reading
 answerOf (At at) sheet = reading.Accepted sheet
 answerOf (Refused number at) sheet = reading.Refused number at
 
--- Reading: accepted, or the first refusal, its number and its place.
+-- Reading: accepted, or the first refusal, its number and its place (R1, R3, R23, D3).
 unfoldable pub readingOf : List ℕ → Reading
 readingOf s = answerOf (sheetAt s .end) (sheetAt s .sheet)

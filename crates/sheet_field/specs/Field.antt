@@ -11,7 +11,7 @@ use Rattle.sheet_field.specs.declared.Field.{Field}
 use Rattle.sheet_field.specs.declared.Width.{Width}
 use Rattle.sheet_field.specs.declared.Width.the-variants.{One, Two, Eight}
 
--- Fields are little-endian: the number that the n bytes from a place on spell, the first the lowest.
+-- The number that the n bytes from a place on spell, the lowest byte first (S1).
 unfoldable pub little : List ℕ → ℕ → ℕ → ℕ
 little s at zero = 0
 little s at (suc n) = getD s at 0 + 256 * little s (suc at) n
@@ -21,8 +21,8 @@ bytesOf One = 1
 bytesOf Two = 2
 bytesOf Eight = 8
 
--- A field of n bytes: its number and the place after it. Turned back, 1: the sheet ends inside it; the refusal stands at
--- the field. Where reading was refused before, it stays so.
+-- A field of n bytes: its number and the place after it. Refusal 1, placed at the field, where the sheet has not all its bytes. Where reading was
+-- refused before, it stays so (S2, R3, R6).
 unfoldable pub fieldAt : ℕ → List ℕ → Place → Field
 fieldAt n s (At at) = cond (leb (at + n) (length s)) (record { value = little s at n; next = At (at + n) }) (record { value = 0; next = Refused 1 at })
 fieldAt n s (Refused k at) = record { value = 0; next = Refused k at }
@@ -36,7 +36,7 @@ abbrev pub startOf : Place → ℕ
 startOf (At at) = at
 startOf (Refused k at) = at
 
--- Turned back: a check made here. The first refusal wins, so one made before stays.
+-- A check made at this place, with the refusal's number and place. A refusal made before stays (R2, R3).
 abbrev pub judge : Bool → ℕ → ℕ → Place → Place
 judge ok k at (At next) = cond ok (At next) (Refused k at)
 judge ok k at (Refused k′ at′) = Refused k′ at′
@@ -52,13 +52,13 @@ checkField ok k at f =
     let p = judge ok k at (f .next) in
     record { value = keep p (f .value); next = p }
 
--- Turned back, 2: a code of one byte has to be below its table's end; the refusal stands at the field.
+-- A code of one byte, below its table's end; else refusal 2, placed at the field (S2, R8).
 unfoldable pub codeAt : ℕ → List ℕ → Place → Field
 codeAt limit s p =
     let f = fieldAt 1 s p in
     checkField (ltb (f .value) limit) 2 (startOf p) f
 
--- Counts are 2 bytes. Turned back, 3: a count has to be within its limits; the refusal stands at the field.
+-- A count of 2 bytes, within its limits; else refusal 3, placed at the field (S2, R11).
 unfoldable pub countAt : ℕ → ℕ → List ℕ → Place → Field
 countAt least most s p =
     let f = fieldAt 2 s p in

@@ -1,4 +1,4 @@
--- Instruction records, as the section on the sheet gives them, field by field in reading order.
+-- Instruction records, field by field in reading order.
 use Prim.Native.Nat.{ℕ, zero, suc, _+_, _/_, _%_}
 use mathlib.Core.List.{List}
 use mathlib.Core.Bool.{Bool, true, false, cond, not, _&&_, _||_}
@@ -20,8 +20,8 @@ use Rattle.sheet_instruction.specs.declared.Tail.{Tail}
 use Rattle.sheet_instruction.specs.declared.InstructionField.{InstructionField}
 use Rattle.sheet_field.specs.Field.{fieldAt, startOf, judge, checkField, codeAt, countAt}
 
--- Register: class, index, size and offset, a byte each. Turned back, 5: a register of class 1 is ill formed, seen at the
--- offset byte; the refusal stands at the class byte.
+-- A register: four bytes, for class, index, size and offset. Refusal 5, made at the offset byte and placed at the class byte, where it is of
+-- class 1 and not well formed (S18, R13).
 unfoldable pub registerAt : List ℕ → Place → RegisterField
 registerAt s p =
     let class = fieldAt 1 s p in
@@ -31,7 +31,7 @@ registerAt s p =
     let it : Register = record { class = class .value; index = index .value; size = size .value; offset = offset .value } in
     record { register = it; next = judge (wellFormed it) 5 (startOf p) (offset .next) }
 
--- Operand: 0 and a register, 1 and an immediate of 8 bytes, 2 memory with nothing more.
+-- An operand: code 0 and a register, 1 and an immediate of 8 bytes, or 2, memory, with nothing more (S17, R8, F18).
 unfoldable pub operandAt : List ℕ → Place → OperandField
 operandAt s p =
     let kind = codeAt 3 s p in
@@ -55,13 +55,13 @@ registersFrom s p zero =
     record { list = replicate 8 (record { class = 0; index = 0; size = 0; offset = 0 }); count = 0; next = p }
 registersFrom s p (suc k) = withRegister s (registersFrom s p k)
 
--- Bit 4, written registers: a count from 0 to 8, then each.
+-- The written registers: a count from 0 to 8, then each (S11).
 unfoldable pub registersAt : List ℕ → Place → Registers
 registersAt s p =
     let n = countAt 0 8 s p in
     registersFrom s (n .next) (n .value)
 
--- Only the fields whose bit stands are there; an absent list or flag byte means none.
+-- A field is there only if its bit is set in the map. Without its list an instruction declares no register, without its flag byte no flag (S6, S15).
 abbrev pub optionalRegisters : Bool → List ℕ → Place → Registers
 optionalRegisters there s p = cond there (registersAt s p) (registersFrom s p 0)
 
@@ -78,23 +78,23 @@ optionalCode there limit s p = cond there (codeAt limit s p) (record { value = 0
 abbrev pub bitOf : ℕ → ℕ → Bool
 bitOf map unit = eqb (map / unit % 2) 1
 
--- Map byte: bits 6 and 7, bits 0 and 1 together, and bit 3 without 2 are faults.
+-- What a map may not have: bit 6 or 7; bit 0 together with bit 1; bit 3 without bit 2 (S13).
 abbrev pub mapOk : ℕ → Bool
 mapOk map = ltb map 64 && not (bitOf map 1 && bitOf map 2) && (not (bitOf map 8) || bitOf map 4)
 
--- Turned back, 2: a map outside its table; the refusal stands at the map byte.
+-- The map byte; refusal 2, placed there, where it has what it may not (R9).
 unfoldable pub mapAt : List ℕ → Place → Field
 mapAt s p =
     let f = fieldAt 1 s p in
     checkField (mapOk (f .value)) 2 (startOf p) f
 
--- Addresses rise strictly. Turned back, 4: an address that is not above the one before; the refusal stands at the address.
+-- The address; refusal 4, placed there, where it is not greater than the one before (S16, R12).
 unfoldable pub addressAt : Bool → ℕ → List ℕ → Place → Field
 addressAt first last s p =
     let f = fieldAt 8 s p in
     checkField (first || ltb last (f .value)) 4 (startOf p) f
 
--- Map byte, address (8), mnemonic (0 to 34), and where bit 0 stands the target (8).
+-- The map, the address, the mnemonic, below 35, and with bit 0 the target, an address too (S6, S7, S22, S23, S24, R8).
 unfoldable pub headAt : Bool → ℕ → List ℕ → Place → Head
 headAt first last s p =
     let map = mapAt s p in
@@ -103,7 +103,8 @@ headAt first last s p =
     let target = optionalField (bitOf (map .value) 1) s (mnemonic .next) in
     record { map = map .value; address = address .value; mnemonic = mnemonic .value; target = target .value; next = target .next }
 
--- Bit 2 first operand, bit 3 second operand, bit 4 written registers, bit 5 written flags (five bits).
+-- With bit 2 the first operand, with bit 3 the second, with bit 4 the list of written registers, with bit 5 the byte of written flags, below 32
+-- (S6, S9, S10, S11, S12, S14, R8).
 unfoldable pub tailAt : ℕ → List ℕ → Place → Tail
 tailAt map s p =
     let one = optionalOperand (bitOf map 4) s p in
@@ -112,8 +113,8 @@ tailAt map s p =
     let flags = optionalCode (bitOf map 32) 32 s (written .next) in
     record { first = one .operand; second = two .operand; written = written .list; count = written .count; flags = flags .value; next = flags .next }
 
--- An instruction record. Bit 0: a conditional branch; bit 1: call-like. Turned back, 6: a modelled instruction at fault, seen
--- at its end; the refusal stands at its start.
+-- An instruction record. Bit 0 makes it a conditional branch, bit 1 call-like. Refusal 6, made at its last byte and placed at its first, where it is
+-- modelled and at fault (S6, S7, S8, R2, R4, R17).
 unfoldable pub instructionAt : Bool → ℕ → List ℕ → Place → InstructionField
 instructionAt first last s p =
     let head = headAt first last s p in

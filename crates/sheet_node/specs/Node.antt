@@ -27,18 +27,18 @@ pub record StatementRead : Type 0 where
 abbrev pub statementOf : StatementRead → Statement
 statementOf r = cond (r .assigned) (assignment (r .variable) (treeOf (r .words))) other
 
--- Statement: a map byte, 3 for an assignment or 0. Turned back, 2: any other, at the map byte.
+-- A statement's map byte: 3 for an assignment, 0 for anything else; any other is refusal 2, placed there (S31, S32, R9).
 unfoldable pub mapAt : List ℕ → Place → Field
 mapAt s p =
     let f = fieldAt 1 s p in
     checkField (eqb (f .value) 0 || eqb (f .value) 3) 2 (startOf p) f
 
--- Turned back, 9: a value's type is not its variable's (pointer counts as unsigned 64), seen at the statement's end; the
--- refusal stands at the statement.
+-- Refusal 9, made at the statement's last byte and placed at its first: an assigned expression has another type than its variable, pointer being
+-- the same as unsigned 64 (R2, R4, R21, R22).
 abbrev pub typedAt : List ℕ → ℕ → List ℕ → ℕ → Place → Place
 typedAt types variable words begin end = judge (sameType (typeOf types (treeOf words)) (getD types variable 0)) 9 begin end
 
--- Statement, 3: a variable's number, below the count of variables, and an expression.
+-- An assignment: the number of one of the node's variables, and an expression (S31, R10).
 unfoldable pub assignmentAt : List ℕ → ℕ → List ℕ → Place → StatementRead
 assignmentAt types begin s p =
     let v = codeAt (length types) s p in
@@ -61,7 +61,7 @@ pub record TookStatement (f : StatementField) (before after : List ℕ) (r : Sta
   pub place : f .next ≡ r .next
   pub list : after ≡ r .words ++ drop (2 * f .records) before
 
--- Node: after the first k of its variables' type bytes. Turned back, 2: a type is 0 to 9.
+-- After the first k of a node's type bytes, each below 10 (S27, S45, R8).
 unfoldable pub typesFrom : List ℕ → Place → ℕ → Place
 typesFrom s p zero = p
 typesFrom s p (suc k) = codeAt 10 s (typesFrom s p k) .next
@@ -75,7 +75,7 @@ pub record StatementsRead : Type 0 where
   pub list : List Statement
   pub next : Place
 
--- Node: after the first k of its statements
+-- After the first k of a node's statements (S28).
 unfoldable pub statementsFrom : List ℕ → List ℕ → Place → ℕ → StatementsRead
 statementsFrom types s p zero = record { list = []; next = p }
 statementsFrom types s p (suc k) =
@@ -87,7 +87,7 @@ pub record AddressesRead : Type 0 where
   pub list : List ℕ
   pub next : Place
 
--- Node: after the first k of its addresses, 8 bytes each
+-- After the first k of a node's addresses, 8 bytes each (S30).
 unfoldable pub addressesFrom : List ℕ → Place → ℕ → AddressesRead
 addressesFrom s p zero = record { list = []; next = p }
 addressesFrom s p (suc k) =
@@ -95,8 +95,8 @@ addressesFrom s p (suc k) =
     let f = fieldAt 8 s (before .next) in
     record { list = before .list ++ (f .value ∷ []); next = f .next }
 
--- A node's parts in reading order: a count of variables (0 to 32) and a type byte each; a count of statements (0 to 64) and
--- the statements; a condition; a count of addresses (0 to 16) and the addresses.
+-- A node's parts in reading order: at most 32 variables, each by its type; at most 64 statements; the condition; at most 16 addresses
+-- (S27, S28, S29, S30, R2).
 unfoldable pub nodeAt : List ℕ → Place → NodeField
 nodeAt s p =
     let v = countAt 0 32 s p in

@@ -1,4 +1,4 @@
--- Blocks, forced: a flag branch is always, or never, exactly when what is known forces it that way.
+-- Blocks, forced: the verdict on a flag branch is always, or never, exactly where what is known forces the branch that way.
 use Prim.Native.Nat.{ℕ, zero, suc}
 use mathlib.Core.Path.{_≡_, refl, sym, ap, _∙_}
 use mathlib.Core.List.{List, [], _∷_}

@@ -70,7 +70,7 @@ rows =
     ∷ record { code = instruction 1 Absent Absent 1 ∷ instruction 15 (part 3 32) Absent 31 ∷ jump 22 ∷ []; answer = undecided }
     ∷ []
 
--- The marked rows hold.
+-- The marked rows hold (T1, T2, T3, T4, T5, T6).
 pub marked : Yields rows
 unfolding rows verdictFrom Rattle.machine.specs.Conditions.decided Rattle.machine.specs.Rules.finished Rattle.machine.specs.Rules.arithStep Rattle.machine.specs.Rules.unaryUnknown Rattle.machine.specs.Rules.unaryStep Rattle.machine.specs.Rules.registerStep Rattle.machine.specs.Rules.modelledStep Rattle.machine.specs.Rules.stepped Rattle.machine.specs.Registers.nothingKnown Rattle.machine.specs.Registers.wholeOf Rattle.machine.specs.Registers.replaced Rattle.machine.specs.Registers.readOf Rattle.machine.specs.Registers.written Rattle.machine.specs.Registers.operandOf Rattle.machine.specs.Registers.forgetRegisters Rattle.machine.specs.Registers.forgotten Rattle.known.specs.Operations.carryRule Rattle.known.specs.Operations.operationOf Rattle.known.specs.Operations.settled Rattle.known.specs.Operations.unsettled Rattle.known.specs.Operations.performed Rattle.known.specs.Operations.arithEffect Rattle.known.specs.Operations.unaryOutcome Rattle.known.specs.Operations.keptCarry Rattle.known.specs.Operations.unaryEffect Rattle.known.specs.Operations.forgetFlags Rattle.known.specs.Conditions.tested Rattle.known.specs.Conditions.flagCondition Rattle.known.specs.Values.extracted Rattle.known.specs.Values.inserted Rattle.known.specs.Values.merged Rattle.alu.specs.Arithmetic.result Rattle.alu.specs.Arithmetic.carry Rattle.alu.specs.Arithmetic.overflow Rattle.alu.specs.Arithmetic.resultFlags Rattle.alu.specs.Arithmetic.outcome
 marked = (refl, (refl, (refl, (refl, (refl, (refl, tt))))))

@@ -20,8 +20,8 @@ pub data Outcome : Type 0 where
   jumped : Bool → Outcome
   nothing : Outcome
 
--- Machine: a block's run starts from any registers and flags and takes its instructions in order, each with what it takes
--- from outside; its outcome is whether the last one jumps, by the manual or, for other mnemonics, by the free choice.
+-- A block's run, from a start state: the instructions in order, each with what it takes from outside. The outcome tells whether the last instruction
+-- jumps: by the manual, or, where its mnemonic is no jump's, as is chosen (M24, M29).
 unfoldable pub runFrom : Processor → List Instruction → (ℕ → Choice) → Bool → Outcome
 runFrom p [] free last = nothing
 runFrom p (i ∷ []) free last = cond (i .branch) (jumped (outcome (i .mnemonic) p last)) nothing
@@ -40,7 +40,7 @@ NotAgainst verdict.Undecided o = Unit {0}
 NotAgainst verdict.Always o = o ≡ jumped true
 NotAgainst verdict.Never o = o ≡ jumped false
 
--- Flag branch (a term of the scope document): a conditional branch that ends a block, with what is known there.
+-- Flag branch (a term of the scope document): a conditional branch that ends a block, with what is known there (M23).
 pub data AtEnd : Type 0 where
   branch : (known : State) (mnemonic : ℕ) → AtEnd
   none : AtEnd
@@ -57,6 +57,6 @@ endOf s number =
     endFrom nothingKnown (within (block .from) (block .to) (sheetAt s .instructions .list))
 
 -- Forced (a term of the scope document) one way: the branch jumps, or does not, in every concrete state that agrees with
--- what is known, whatever is unknown.
+-- what is known, whatever is unknown (M21).
 abbrev pub Forced : State → ℕ → Bool → Type 0
 Forced known mnemonic b = (q : Processor) (free : Bool) → Agrees known q → outcome mnemonic q free ≡ b
