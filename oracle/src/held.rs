@@ -1,8 +1,8 @@
 //! Assigned values written for the variables that they still stand for.
 //!
 //! A value stands (it is held) from its assignment until one to a variable
-//! that it reads, or to its own; a value with a load or an effect in it never
-//! does. Substitution does not enter a load.
+//! that it reads, or to its own. One that contains a load or an effect is not
+//! held at all. Substitution does not enter a load.
 
 use crate::format::{Expression, Node, Record, Statement};
 
