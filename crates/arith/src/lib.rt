@@ -12,7 +12,7 @@ const BITS: [u64; 10] = [8, 16, 32, 64, 8, 16, 32, 64, 64, 1];
 fn width(t: u64) -> u64
     ensures { λ r. ⌜ r ≡ bits t ⌝ }
 {
-    if t < 10 {
+    if t < expr::TYPES {
         return BITS[t as usize];
     }
     64
@@ -36,7 +36,7 @@ pub fn cut(t: u64, x: u64) -> u64
 fn is_negative(t: u64, x: u64) -> bool
     ensures { λ r. ⌜ r ≡ negative t x ⌝ }
 {
-    (t < 4) & (mask(t) / 2 < x)
+    (t < expr::UNSIGNED_8) & (mask(t) / 2 < x)
 }
 
 // The pattern at 64 bits: the sign is copied upwards.
@@ -56,7 +56,7 @@ pub fn converted(s: u64, t: u64, x: u64) -> u64
     requires { ⌜ x < 2 ^ bits s ⌝ }
     ensures { λ r. ⌜ r ≡ convert s t x ⌝ }
 {
-    if t == 9 {
+    if t == expr::BOOL {
         return if x == 0 { 0 } else { 1 };
     }
     cut(t, widened(s, x))

@@ -1,3 +1,4 @@
+pub mod Codes
 pub mod Tree
 pub mod Statement
 pub mod Scan

@@ -1,9 +1,10 @@
 -- What stands in a tree, and when two trees are the same.
 use mathlib.Core.Bool.{Bool, true, false, _&&_, _||_}
 use mathlib.Core.List.{List, [], _∷_}
-use Prim.Native.Nat.{ℕ, _/_, _%_}
+use Prim.Native.Nat.{ℕ}
 use lib.Dec.{eqb}
-use Rattle.expr.specs.Tree.{Expr, flat}
+use Rattle.expr.specs.Codes.{kindVariable}
+use Rattle.expr.specs.Tree.{Expr, kindOf, argumentOf, flat}
 use Rattle.expr.specs.Tree.Expr.{variable, constant, conditionTrue, conditionFalse, effect, load, cast, binary, ternary}
 
 -- a test that holds of a tree or of a tree below it, a load's address included
@@ -74,11 +75,11 @@ anyTag p (tag ∷ value ∷ ws) = p tag || anyTag p ws
 
 -- a tag word of kind k
 abbrev pub ofKind : ℕ → ℕ → Bool
-ofKind k tag = eqb (tag % 16) k
+ofKind k tag = eqb (kindOf tag) k
 
--- a tag word of kind 0 with the number v
+-- the tag word of the variable v
 abbrev pub ofVariable : ℕ → ℕ → Bool
-ofVariable v tag = eqb (tag % 16) 0 && eqb (tag / 16) v
+ofVariable v tag = eqb (kindOf tag) kindVariable && eqb (argumentOf tag) v
 
 -- two lists of words, word for word
 unfoldable pub sameWords : List ℕ → List ℕ → Bool

@@ -4,6 +4,7 @@ use mathlib.Core.Path.{_≡_}
 use mathlib.Core.List.{List, [], _∷_, _++_}
 use Prim.Native.Nat.{ℕ, _+_, _*_, _/_, _%_, _-_, _≤_}
 use lib.ListN.{length, getD, drop}
+use Rattle.expr.specs.Codes.{kindVariable, kindConstant, kindTrue, kindFalse, kindEffect, kindLoad, kindCast, kindBinary, kindTernary}
 
 -- 'Expression': the nine kinds of record, each with its argument and the trees below it.
 pub data Expr : Type 0 where
@@ -17,15 +18,15 @@ pub data Expr : Type 0 where
 
 -- 'Expression', the numbers of the kinds: the tag word of a tree's root.
 unfoldable pub tagOf : Expr → ℕ
-tagOf (variable n) = 0 + 16 * n
-tagOf (constant w x) = 1 + 16 * w
-tagOf conditionTrue = 2
-tagOf conditionFalse = 3
-tagOf (effect t) = 4 + 16 * t
-tagOf (load t a) = 5 + 16 * t
-tagOf (cast t a) = 6 + 16 * t
-tagOf (binary o a b) = 7 + 16 * o
-tagOf (ternary c a b) = 8
+tagOf (variable n) = kindVariable + 16 * n
+tagOf (constant w x) = kindConstant + 16 * w
+tagOf conditionTrue = kindTrue
+tagOf conditionFalse = kindFalse
+tagOf (effect t) = kindEffect + 16 * t
+tagOf (load t a) = kindLoad + 16 * t
+tagOf (cast t a) = kindCast + 16 * t
+tagOf (binary o a b) = kindBinary + 16 * o
+tagOf (ternary c a b) = kindTernary
 
 -- 'Expression', kind 1: the value word of a tree's root. Only a constant has a value.
 unfoldable pub valueOf : Expr → ℕ
@@ -55,9 +56,16 @@ flat (cast t a) = flat a ++ own (cast t a)
 flat (binary o a b) = flat a ++ (flat b ++ own (binary o a b))
 flat (ternary c a b) = flat c ++ (flat a ++ (flat b ++ own (ternary c a b)))
 
+-- the kind and the argument in a tag word
+abbrev pub kindOf : ℕ → ℕ
+kindOf tag = tag % 16
+
+abbrev pub argumentOf : ℕ → ℕ
+argumentOf tag = tag / 16
+
 -- 'Expression': how many children a record takes, by the kind in its tag word.
 unfoldable pub arityOf : ℕ → ℕ
-arityOf tag = getD (0 ∷ 0 ∷ 0 ∷ 0 ∷ 0 ∷ 1 ∷ 1 ∷ 2 ∷ 3 ∷ []) (tag % 16) 0
+arityOf tag = getD (0 ∷ 0 ∷ 0 ∷ 0 ∷ 0 ∷ 1 ∷ 1 ∷ 2 ∷ 3 ∷ []) (kindOf tag) 0
 
 -- A tree of a stack of trees whose top is its head; conditionTrue stands in for one that is lacking.
 abbrev pub child : List Expr → ℕ → Expr
@@ -79,7 +87,7 @@ nodes n x st =
 
 -- 'Expression': the tree that a record makes. A kind above 8 makes conditionTrue.
 unfoldable pub node : ℕ → ℕ → List Expr → Expr
-node tag value st = getD (nodes (tag / 16) value st) (tag % 16) conditionTrue
+node tag value st = getD (nodes (argumentOf tag) value st) (kindOf tag) conditionTrue
 
 -- One record takes its children off the stack and leaves its own tree there.
 unfoldable pub push : ℕ → ℕ → List Expr → List Expr
@@ -119,8 +127,8 @@ lastStart ws = length ws - length (flat (treeOf ws))
 -- 'Expression': two words that can be a record of a tree. The kind is one of the nine, true, false and ternary have no argument, and only
 -- constants have a value.
 pub record Formed (tag value : ℕ) : Type 0 where
-  pub kind : tag % 16 ≤ 8
-  pub bareTrue : tag % 16 ≡ 2 → tag ≡ 2
-  pub bareFalse : tag % 16 ≡ 3 → tag ≡ 3
-  pub bareTernary : tag % 16 ≡ 8 → tag ≡ 8
-  pub plain : (tag % 16 ≡ 1 → ⊥) → value ≡ 0
+  pub kind : kindOf tag ≤ kindTernary
+  pub bareTrue : kindOf tag ≡ kindTrue → tag ≡ kindTrue
+  pub bareFalse : kindOf tag ≡ kindFalse → tag ≡ kindFalse
+  pub bareTernary : kindOf tag ≡ kindTernary → tag ≡ kindTernary
+  pub plain : (kindOf tag ≡ kindConstant → ⊥) → value ≡ 0

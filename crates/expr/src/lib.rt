@@ -2,29 +2,126 @@
 ghost use mathlib.Core.Path.{_≡_};
 ghost use Prim.Native.Nat.{_≤_};
 ghost use lib.ListN.{length, getD};
-ghost use Rattle.expr.specs.Tree.{arityOf, Wf, Trees, treeOf, treeCount, lastStart};
+ghost use Rattle.expr.specs.Tree.{kindOf, argumentOf, arityOf, Wf, Trees, treeOf, treeCount, lastStart};
 ghost use Rattle.expr.specs.Scan.{hasEffect, hasLoad, reads as readsOf, anyTag, ofKind, sameTree};
 ghost use Rattle.expr.specs.Types.{promoted as promotedOf, common as commonOf, plainType, sameType, together, constantType, binaryType, recordType, typeOf};
+
+// Kinds of records, and how many there are.
+pub const VARIABLE: u64 = 0;
+
+pub const CONSTANT: u64 = 1;
+
+pub const TRUE: u64 = 2;
+
+pub const FALSE: u64 = 3;
+
+pub const EFFECT: u64 = 4;
+
+pub const LOAD: u64 = 5;
+
+pub const CAST: u64 = 6;
+
+pub const BINARY: u64 = 7;
+
+pub const TERNARY: u64 = 8;
+
+pub const KINDS: u64 = 9;
+
+// Types, and how many there are.
+pub const SIGNED_8: u64 = 0;
+
+pub const SIGNED_16: u64 = 1;
+
+pub const SIGNED_32: u64 = 2;
+
+pub const SIGNED_64: u64 = 3;
+
+pub const UNSIGNED_8: u64 = 4;
+
+pub const UNSIGNED_16: u64 = 5;
+
+pub const UNSIGNED_32: u64 = 6;
+
+pub const UNSIGNED_64: u64 = 7;
+
+pub const POINTER: u64 = 8;
+
+pub const BOOL: u64 = 9;
+
+pub const TYPES: u64 = 10;
+
+// Operators, in `BinaryOp` order, and how many there are.
+pub const ADD: u64 = 0;
+
+pub const SUB: u64 = 1;
+
+pub const MUL: u64 = 2;
+
+pub const DIV: u64 = 3;
+
+pub const MOD: u64 = 4;
+
+pub const AND: u64 = 5;
+
+pub const OR: u64 = 6;
+
+pub const XOR: u64 = 7;
+
+pub const SHL: u64 = 8;
+
+pub const SHR: u64 = 9;
+
+pub const EQUAL: u64 = 10;
+
+pub const NOT_EQUAL: u64 = 11;
+
+pub const LESS: u64 = 12;
+
+pub const LESS_EQUAL: u64 = 13;
+
+pub const GREATER: u64 = 14;
+
+pub const GREATER_EQUAL: u64 = 15;
+
+pub const LOGICAL_AND: u64 = 16;
+
+pub const LOGICAL_OR: u64 = 17;
+
+pub const OPERATORS: u64 = 18;
+
+// The kind that a tag word says.
+pub fn kind(tag: u64) -> u64
+    ensures { λ r. ⌜ r ≡ kindOf tag ⌝ }
+{
+    tag % 16
+}
+
+// The argument that a tag word says: a variable's number, a constant's width, a type or an operator.
+pub fn argument(tag: u64) -> u64
+    ensures { λ r. ⌜ r ≡ argumentOf tag ⌝ }
+{
+    tag / 16
+}
 
 // How many children the record with this tag word takes.
 pub fn arity(tag: u64) -> u64
     ensures { λ r. ⌜ r ≡ arityOf tag ⌝ }
 {
-    match tag % 16 {
-        5 | 6 => 1,
-        7 => 2,
-        8 => 3,
+    match kind(tag) {
+        LOAD | CAST => 1,
+        BINARY => 2,
+        TERNARY => 3,
         _ => 0,
     }
 }
 
 // Whether a record of this kind stands among the words.
-fn has_kind(rs: &[u64], kind: u64) -> bool
-    ensures { λ r. ⌜ r ≡ anyTag (ofKind kind) (now (rs .entry)) ⌝ }
+fn has_kind(rs: &[u64], k: u64) -> bool
+    ensures { λ r. ⌜ r ≡ anyTag (ofKind k) (now (rs .entry)) ⌝ }
 {
     let mut i = 0;
     while i < rs.len() {
-        if rs[i] % 16 == kind {
+        if kind(rs[i]) == k {
             return true;
         }
         i += 2;
@@ -37,7 +134,7 @@ pub fn has_effect(rs: &[u64]) -> bool
     requires { ⌜ Wf (now rs) ⌝ }
     ensures { λ r. ⌜ r ≡ hasEffect (treeOf (now (rs .entry))) ⌝ }
 {
-    has_kind(rs, 4)
+    has_kind(rs, EFFECT)
 }
 
 // Whether a load stands in the tree.
@@ -45,7 +142,7 @@ pub fn has_load(rs: &[u64]) -> bool
     requires { ⌜ Wf (now rs) ⌝ }
     ensures { λ r. ⌜ r ≡ hasLoad (treeOf (now (rs .entry))) ⌝ }
 {
-    has_kind(rs, 5)
+    has_kind(rs, LOAD)
 }
 
 // Whether the variable of number v stands in the tree, under a load too.
@@ -56,7 +153,7 @@ pub fn reads(rs: &[u64], v: u64) -> bool
     let mut i = 0;
     while i < rs.len() {
         let tag = rs[i];
-        if (tag % 16 == 0) & (tag / 16 == v) {
+        if (kind(tag) == VARIABLE) & (argument(tag) == v) {
             return true;
         }
         i += 2;
@@ -65,13 +162,24 @@ pub fn reads(rs: &[u64], v: u64) -> bool
 }
 
 // What an operand of each type is promoted to.
-const PROMOTED: [u64; 10] = [2, 2, 2, 3, 2, 2, 6, 7, 7, 2];
+const PROMOTED: [u64; 10] = [
+    SIGNED_32,
+    SIGNED_32,
+    SIGNED_32,
+    SIGNED_64,
+    SIGNED_32,
+    SIGNED_32,
+    UNSIGNED_32,
+    UNSIGNED_64,
+    UNSIGNED_64,
+    SIGNED_32,
+];
 
 // The type that an operand of type t is promoted to.
 pub fn promoted(t: u64) -> u64
     ensures { λ r. ⌜ r ≡ promotedOf t ⌝ }
 {
-    if t < 10 {
+    if t < TYPES {
         return PROMOTED[t as usize];
     }
     t
@@ -96,7 +204,7 @@ pub fn common(a: u64, b: u64) -> u64
 fn plain(t: u64) -> u64
     ensures { λ r. ⌜ r ≡ plainType t ⌝ }
 {
-    if t == 8 { 7 } else { t }
+    if t == POINTER { UNSIGNED_64 } else { t }
 }
 
 // Whether two types are the same, a pointer counting as unsigned 64.
@@ -118,10 +226,10 @@ fn constant_type(width: u64) -> u64
     ensures { λ r. ⌜ r ≡ constantType width ⌝ }
 {
     match width {
-        1 => 4,
-        2 => 5,
-        4 => 6,
-        _ => 7,
+        1 => UNSIGNED_8,
+        2 => UNSIGNED_16,
+        4 => UNSIGNED_32,
+        _ => UNSIGNED_64,
     }
 }
 
@@ -129,10 +237,10 @@ fn constant_type(width: u64) -> u64
 fn binary_type(operator: u64, a: u64, b: u64) -> u64
     ensures { λ r. ⌜ r ≡ binaryType operator a b ⌝ }
 {
-    if 10 <= operator {
-        return 2;
+    if EQUAL <= operator {
+        return SIGNED_32;
     }
-    if 8 <= operator {
+    if SHL <= operator {
         return promoted(a);
     }
     joined(a, b)
@@ -153,14 +261,14 @@ fn variable_type(types: &[u8], number: u64) -> u64
 fn pushed_type(tag: u64, types: &[u8], a: u64, b: u64) -> u64
     ensures { λ r. ⌜ r ≡ recordType (now (types .entry)) tag a b ⌝ }
 {
-    let argument = tag / 16;
-    match tag % 16 {
-        0 => variable_type(types, argument),
-        1 => constant_type(argument),
-        4 | 5 | 6 => argument,
-        7 => binary_type(argument, a, b),
-        8 => joined(a, b),
-        _ => 2,
+    let n = argument(tag);
+    match kind(tag) {
+        VARIABLE => variable_type(types, n),
+        CONSTANT => constant_type(n),
+        EFFECT | LOAD | CAST => n,
+        BINARY => binary_type(n, a, b),
+        TERNARY => joined(a, b),
+        _ => SIGNED_32,
     }
 }
 

@@ -8,21 +8,22 @@ use lib.Dec.{leb, ltb, eqb}
 use Rattle.sheet_field.specs.declared.Place.{Place}
 use Rattle.sheet_field.specs.declared.Field.{Field}
 use Rattle.sheet_field.specs.Field.{fieldAt, startOf, judge, checkField, codeAt, countAt}
+use Rattle.expr.specs.Codes.{kindVariable, kindConstant, kindTrue, kindFalse, kindEffect, kindCast, kindBinary, kindTernary, kindCount, typeCount, operatorCount}
 use Rattle.expr.specs.Tree.{arityOf}
 use Rattle.sheet_expression.specs.declared.RecordField.{RecordField}
 
--- Expression: true (2), false (3) and ternary (8) have no argument; every other kind has one, a byte.
+-- Expression: true, false and ternary have no argument; every other kind has one, a byte.
 abbrev pub hasArgument : ℕ → Bool
-hasArgument kind = not (eqb kind 2 || eqb kind 3 || eqb kind 8)
+hasArgument kind = not (eqb kind kindTrue || eqb kind kindFalse || eqb kind kindTernary)
 
--- Turned back, 2, the tables: a variable's number (0) is below the node's count of variables; a constant's width (1) is 1,
--- 2, 4 or 8; an effect, a load and a cast (4 to 6) have a type, 0 to 9; a binary (7) has an operator, 0 to 17.
+-- Turned back, 2, the tables: a variable's number is below the node's count of variables; a constant's width is 1,
+-- 2, 4 or 8; an effect, a load and a cast have a type, 0 to 9; a binary has an operator, 0 to 17.
 abbrev pub argumentOk : ℕ → ℕ → ℕ → Bool
 argumentOk variables kind x =
-    (eqb kind 0 && ltb x variables)
-    || (eqb kind 1 && (eqb x 1 || eqb x 2 || eqb x 4 || eqb x 8))
-    || (leb 4 kind && leb kind 6 && ltb x 10)
-    || (eqb kind 7 && ltb x 18)
+    (eqb kind kindVariable && ltb x variables)
+    || (eqb kind kindConstant && (eqb x 1 || eqb x 2 || eqb x 4 || eqb x 8))
+    || (leb kindEffect kind && leb kind kindCast && ltb x typeCount)
+    || (eqb kind kindBinary && ltb x operatorCount)
 
 unfoldable pub argumentAt : ℕ → ℕ → List ℕ → Place → Field
 argumentAt variables kind s p =
@@ -31,12 +32,12 @@ argumentAt variables kind s p =
 
 -- Expression, kind 1: a constant has a value of 8 bytes behind its width.
 unfoldable pub constantAt : ℕ → List ℕ → Place → Field
-constantAt kind s p = cond (eqb kind 1) (fieldAt 8 s p) (record { value = 0; next = p })
+constantAt kind s p = cond (eqb kind kindConstant) (fieldAt 8 s p) (record { value = 0; next = p })
 
 -- Turned back, 8: a constant of 1, 2 or 4 bytes is below 2 to the 8, 16 or 32; 8 bytes hold any value.
 abbrev pub fitsWidth : ℕ → ℕ → ℕ → Bool
 fitsWidth kind width value =
-    not (eqb kind 1)
+    not (eqb kind kindConstant)
     || ((not (eqb width 1) || ltb value (2 ^ 8))
     && (not (eqb width 2) || ltb value (2 ^ 16))
     && (not (eqb width 4) || ltb value (2 ^ 32)))
@@ -50,7 +51,7 @@ depthAfter depth arity = depth - arity + 1
 -- tree, at the byte after the expression. Turned back, 8: a constant above its width, at its value.
 unfoldable pub recordAt : ℕ → ℕ → ℕ → List ℕ → Place → RecordField
 recordAt variables depth left s p =
-    let kind = codeAt 9 s p in
+    let kind = codeAt kindCount s p in
     let argument = argumentAt variables (kind .value) s (kind .next) in
     let value = constantAt (kind .value) s (argument .next) in
     let tag = kind .value + 16 * argument .value in

@@ -31,17 +31,17 @@ pub struct Expression {
 fn has_argument(kind: u64) -> bool
     ensures { λ r. ⌜ r ≡ hasArgument kind ⌝ }
 {
-    !((kind == 2) | (kind == 3) | (kind == 8))
+    !((kind == expr::TRUE) | (kind == expr::FALSE) | (kind == expr::TERNARY))
 }
 
 // Whether x is in the table of a record of this kind.
 fn argument_ok(variables: u64, kind: u64, x: u64) -> bool
     ensures { λ r. ⌜ r ≡ argumentOk variables kind x ⌝ }
 {
-    ((kind == 0) & (x < variables))
-        | ((kind == 1) & ((x == 1) | (x == 2) | (x == 4) | (x == 8)))
-        | ((4 <= kind) & (kind <= 6) & (x < 10))
-        | ((kind == 7) & (x < 18))
+    ((kind == expr::VARIABLE) & (x < variables))
+        | ((kind == expr::CONSTANT) & ((x == 1) | (x == 2) | (x == 4) | (x == 8)))
+        | ((expr::EFFECT <= kind) & (kind <= expr::CAST) & (x < expr::TYPES))
+        | ((kind == expr::BINARY) & (x < expr::OPERATORS))
 }
 
 // The argument byte of a record of this kind, where it has one.
@@ -61,7 +61,7 @@ fn take_argument(s: &[u8], p: Place, variables: u64, kind: u64) -> Field
 fn take_constant(s: &[u8], p: Place, kind: u64) -> Field
     ensures { λ r. ⌜ r ≡ constantAt kind (now (s .entry)) p ⌝ }
 {
-    if kind == 1 {
+    if kind == expr::CONSTANT {
         sheet_field::take_field(s, p, Width::Eight)
     } else {
         Field { value: 0, next: p }
@@ -72,7 +72,7 @@ fn take_constant(s: &[u8], p: Place, kind: u64) -> Field
 fn fits_width(kind: u64, width: u64, value: u64) -> bool
     ensures { λ r. ⌜ r ≡ fitsWidth kind width value ⌝ }
 {
-    (kind != 1)
+    (kind != expr::CONSTANT)
         | (((width != 1) | (value < 256))
             & ((width != 2) | (value < 65536))
             & ((width != 4) | (value < 4294967296)))
@@ -90,7 +90,7 @@ pub fn take_record(s: &[u8], p: Place, variables: u64, depth: u64, left: u64) ->
     requires { ⌜ (variables ≤ 32) × (depth ≤ 128) ⌝ }
     ensures { λ r. ⌜ r ≡ recordAt variables depth left (now (s .entry)) p ⌝ }
 {
-    let kind = sheet_field::code(s, p, 9);
+    let kind = sheet_field::code(s, p, expr::KINDS);
     let after_kind = kind.next;
     let argument = take_argument(s, after_kind, variables, kind.value);
     let after_argument = argument.next;

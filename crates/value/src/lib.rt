@@ -67,40 +67,40 @@ fn ratio(whole: bool, t: u64, a: u64, b: u64) -> Value
     }
 }
 
-// Operators 0 to 7, + - × / % & | ^, on two values of type t.
+// + - × / % & | ^ on two values of type t.
 fn arithmetic(operator: u64, t: u64, a: u64, b: u64) -> Value
     requires { ⌜ a < 2 ^ bits t ⌝ }
     requires { ⌜ b < 2 ^ bits t ⌝ }
     ensures { λ r. ⌜ r ≡ getD arithmetics operator noOperation t a b ⌝ }
 {
     match operator {
-        0 => Value::Of(arith::sum(t, a, b)),
-        1 => Value::Of(arith::difference(t, a, b)),
-        2 => Value::Of(arith::product(t, a, b)),
-        3 => ratio(true, t, a, b),
-        4 => ratio(false, t, a, b),
-        5 => Value::Of(a & b),
-        6 => Value::Of(a | b),
-        7 => Value::Of(a ^ b),
+        expr::ADD => Value::Of(arith::sum(t, a, b)),
+        expr::SUB => Value::Of(arith::difference(t, a, b)),
+        expr::MUL => Value::Of(arith::product(t, a, b)),
+        expr::DIV => ratio(true, t, a, b),
+        expr::MOD => ratio(false, t, a, b),
+        expr::AND => Value::Of(a & b),
+        expr::OR => Value::Of(a | b),
+        expr::XOR => Value::Of(a ^ b),
         _ => Value::NoValue,
     }
 }
 
-// Operators 8 and 9, << and >>, on a value of type t.
+// << and >> on a value of type t.
 fn shifted(operator: u64, t: u64, a: u64, k: u64) -> Value
     requires { ⌜ (8 ≤ operator) × (operator < 10) ⌝ }
     requires { ⌜ a < 2 ^ bits t ⌝ }
     requires { ⌜ k < 64 ⌝ }
     ensures { λ r. ⌜ r ≡ getD shifts (operator - 8) noOperation t a k ⌝ }
 {
-    if operator == 8 {
+    if operator == expr::SHL {
         Value::Of(arith::shift_left(t, a, k))
     } else {
         Value::Of(arith::shift_right(t, a, k))
     }
 }
 
-// Operators 10 to 15, == != < <= > >=, on two values of type t.
+// == != < <= > >= on two values of type t.
 fn compared(operator: u64, t: u64, a: u64, b: u64) -> Value
     requires { ⌜ 10 ≤ operator ⌝ }
     requires { ⌜ a < 2 ^ bits t ⌝ }
@@ -108,12 +108,12 @@ fn compared(operator: u64, t: u64, a: u64, b: u64) -> Value
     ensures { λ r. ⌜ r ≡ getD comparisons (operator - 10) noOperation t a b ⌝ }
 {
     match operator {
-        10 => flagged(a == b),
-        11 => flagged(a != b),
-        12 => flagged(arith::below(t, a, b)),
-        13 => flagged(!arith::below(t, b, a)),
-        14 => flagged(arith::below(t, b, a)),
-        15 => flagged(!arith::below(t, a, b)),
+        expr::EQUAL => flagged(a == b),
+        expr::NOT_EQUAL => flagged(a != b),
+        expr::LESS => flagged(arith::below(t, a, b)),
+        expr::LESS_EQUAL => flagged(!arith::below(t, b, a)),
+        expr::GREATER => flagged(arith::below(t, b, a)),
+        expr::GREATER_EQUAL => flagged(!arith::below(t, a, b)),
         _ => Value::NoValue,
     }
 }
@@ -125,7 +125,7 @@ fn joined(a: u64, b: u64) -> u64
     expr::common(expr::promoted(a), expr::promoted(b))
 }
 
-// Operators 0 to 15 on a of type ta and b of type tb.
+// An operator up to >= on a of type ta and b of type tb.
 fn binary(operator: u64, ta: u64, tb: u64, a: u64, b: u64) -> Value
     requires { ⌜ a < 2 ^ bits ta ⌝ }
     requires { ⌜ b < 2 ^ bits tb ⌝ }
@@ -134,10 +134,10 @@ fn binary(operator: u64, ta: u64, tb: u64, a: u64, b: u64) -> Value
     let t = joined(ta, tb);
     let x = arith::converted(ta, t, a);
     let y = arith::converted(tb, t, b);
-    if operator < 8 {
+    if operator < expr::SHL {
         return arithmetic(operator, t, x, y);
     }
-    if operator < 10 {
+    if operator < expr::EQUAL {
         let l = expr::promoted(ta);
         return shifted(
             operator,
@@ -185,13 +185,13 @@ fn blanked(v: Value) -> Value
     }
 }
 
-// Whether the left side of && (16) or || settles the whole.
+// Whether the left side of && or || settles the whole.
 fn settles(operator: u64, left: Truth) -> bool
     ensures { λ r. ⌜ r ≡ settlesOf operator left ⌝ }
 {
     match left {
-        Truth::Holds => operator != 16,
-        Truth::Fails => operator == 16,
+        Truth::Holds => operator != expr::LOGICAL_AND,
+        Truth::Fails => operator == expr::LOGICAL_AND,
         Truth::NoOutcome => true,
     }
 }
@@ -213,7 +213,7 @@ fn is_logic(rs: &[u64]) -> bool
     ensures { λ r. ⌜ r ≡ logicRoot (now (rs .entry)) ⌝ }
 {
     let tag = rs[rs.len() - 2];
-    (tag % 16 == 7) & (16 <= tag / 16)
+    (tag % 16 == expr::BINARY) & (expr::LOGICAL_AND <= tag / 16)
 }
 
 // A tree of one record.
@@ -227,9 +227,9 @@ fn leaf(rs: &[u64], types: &[u8], values: &[u64]) -> Value
     let tag = rs[n];
     let t = expr::static_type(rs, types);
     match tag % 16 {
-        0 => Value::Of(arith::cut(t, lent(values, tag / 16))),
-        1 => Value::Of(arith::cut(t, rs[n + 1])),
-        2 => Value::Of(1),
+        expr::VARIABLE => Value::Of(arith::cut(t, lent(values, tag / 16))),
+        expr::CONSTANT => Value::Of(arith::cut(t, rs[n + 1])),
+        expr::TRUE => Value::Of(1),
         _ => Value::Of(0),
     }
 }
@@ -285,21 +285,21 @@ fn numeric(rs: &[u64], types: &[u8], values: &[u64]) -> Value
     let n = rs.len() - 2;
     let tag = rs[n];
     let kind = tag % 16;
-    if kind < 5 {
+    if kind < expr::LOAD {
         return leaf(rs, types, values);
     }
     let below = &rs[..n];
-    if kind == 5 {
+    if kind == expr::LOAD {
         return blanked(integer(below, types, values));
     }
-    if kind == 6 {
+    if kind == expr::CAST {
         let s = expr::static_type(below, types);
         return retyped(s, tag / 16, integer(below, types, values));
     }
     let m = expr::last_start(below);
     let last = &rs[m..n];
     let tb = expr::static_type(last, types);
-    if kind == 7 {
+    if kind == expr::BINARY {
         let left = &rs[..m];
         let ta = expr::static_type(left, types);
         let a = integer(left, types, values);

@@ -2,8 +2,9 @@
 -- Assumes nothing.
 use mathlib.Core.Path.{_≡_, refl, sym}
 use mathlib.Core.List.{List, [], _∷_}
-use Prim.Native.Nat.{ℕ, _%_, _≤_, _<_}
+use Prim.Native.Nat.{ℕ, _≤_, _<_}
 use native.Mathlib.Omega.{arith}
+use borrow.Author.Needs.{needs}
 use lib.ListN.{getD, List·getD-eq-default}
 use Rattle.expr.specs.Tree.{arityOf}
 use Rattle.expr.proofs.Laws.{nine}
@@ -26,29 +27,36 @@ one k g l =
     (λ g h. refl) (λ g h. refl) (λ g h. omega arith) (λ g h. omega arith)
     k (omega arith) g l
 
+kind-requires : tie.Need-kind-requires
+kind-requires c κs = search needs
+
 returns : tie.Need-returns
 unfolding arityOf
-returns c = rw (c .match .keys1)
+returns c = rw (← c .before .kind .ensures, c .match .keys1)
 
 returns-2 : tie.Need-returns-2
 unfolding arityOf
-returns-2 c = rw (c .match .keys2)
+returns-2 c = rw (← c .before .kind .ensures, c .match .keys2)
 
 returns-3 : tie.Need-returns-3
 unfolding arityOf
-returns-3 c = one (c .before .before .before .args .tag % 16) (c .before .if1 .left) (c .if2 .taken)
+returns-3 c =
+    let k = c .before .before .before .kind in
+    rw (← k .ensures) (one (k .result) (c .before .if1 .left) (c .if2 .taken))
 
 returns-4 : tie.Need-returns-4
 unfolding arityOf
-returns-4 c = leaf (c .before .before .args .tag % 16) (c .if1 .taken)
+returns-4 c =
+    let k = c .before .before .kind in
+    rw (← k .ensures) (leaf (k .result) (c .if1 .taken))
 
 returns-5 : tie.Need-returns-5
 unfolding arityOf
 returns-5 c =
     let r = c .before .before .match .rest in
-    let k = c .before .before .before .args .tag % 16 in
-    let past : 9 ≤ k = omega (arith, r .1, r .0 .1) in
-    sym (List·getD-eq-default arities 0 past)
+    let k = c .before .before .before .kind in
+    let past : 9 ≤ k .result = omega (arith, r .1, r .0 .1) in
+    rw (← k .ensures) (sym (List·getD-eq-default arities 0 past))
 
 pub arity-spec : {M : Type 1} → statement M
-arity-spec = tie.close (tie.spec returns returns-2 returns-3 returns-4 returns-5)
+arity-spec = tie.close (tie.spec kind-requires returns returns-2 returns-3 returns-4 returns-5)

@@ -3,6 +3,7 @@
 use mathlib.Core.Path.{_≡_, refl, _∙_, sym}
 use Prim.Native.Nat.{_-_}
 use native.Mathlib.Omega.{arith}
+use borrow.Author.Needs.{needs}
 use borrow.Author.Tests.{eq-eqb, ne-eqb}
 use lib.ListN.{length, drop}
 use Rattle.expr.specs.Scan.{anyTag, ofKind}
@@ -11,25 +12,28 @@ use Rattle.expr.proofs.has_kind.Statement.{statement}
 use Rattle.expr.proofs.has_kind.Tie as tie
 
 abbrev Inv-loop : tie.InvT-loop
-Inv-loop rs kind i₀ i = anyTag (ofKind kind) rs ≡ anyTag (ofKind kind) (drop i rs)
+Inv-loop rs k i₀ i = anyTag (ofKind k) rs ≡ anyTag (ofKind k) (drop i rs)
 
 abbrev μ-loop : tie.MeasureT-loop
-μ-loop rs kind i₀ i = length rs - i
+μ-loop rs k i₀ i = length rs - i
 
 loop-holds : tie.Need-loop-holds Inv-loop μ-loop
 loop-holds c = refl
 
-mul-if1 : tie.Need-mul-if1 Inv-loop μ-loop
-mul-if1 c = omega arith
+mul-kind : tie.Need-mul-kind Inv-loop μ-loop
+mul-kind c = omega arith
 
-shared-slice-read-if1 : tie.Need-shared-slice-read-if1 Inv-loop μ-loop
-shared-slice-read-if1 c = omega arith
+shared-slice-read-kind : tie.Need-shared-slice-read-kind Inv-loop μ-loop
+shared-slice-read-kind c = omega arith
+
+kind-requires : tie.Need-kind-requires Inv-loop μ-loop
+kind-requires c κs = search needs
 
 returns : tie.Need-returns Inv-loop μ-loop
 returns c =
-    let l = c .before .before .before in
-    let a = l .before .args in
-    sym (l .loop .inv ∙ any-here (ofKind (a .kind)) (a .rs .now) (l .loop .i) (c .before .before .loop-test .taken) (eq-eqb _ _ (c .if1 .taken)))
+    let l = c .before .before .before .before in
+    let a = l .before .before .args in
+    sym (l .loop .inv ∙ any-here (ofKind (a .k)) (a .rs .now) (l .loop .i) (c .before .before .before .loop-test .taken) (eq-eqb _ _ (sym (c .before .kind .ensures) ∙ c .if1 .taken)))
 
 add-i : tie.Need-add-i Inv-loop μ-loop
 add-i c = omega arith
@@ -39,15 +43,15 @@ loop-less c = omega arith
 
 loop-again : tie.Need-loop-again Inv-loop μ-loop
 loop-again c =
-    let l = c .before .before .before in
-    let a = l .before .args in
-    l .loop .inv ∙ any-on (ofKind (a .kind)) (a .rs .now) (l .loop .i) (c .before .before .loop-test .taken) (ne-eqb _ _ (c .if1 .left))
+    let l = c .before .before .before .before in
+    let a = l .before .before .args in
+    l .loop .inv ∙ any-on (ofKind (a .k)) (a .rs .now) (l .loop .i) (c .before .before .before .loop-test .taken) (rw (← c .before .kind .ensures) (ne-eqb _ _ (c .if1 .left)))
 
 returns-2 : tie.Need-returns-2 Inv-loop μ-loop
 returns-2 c =
     let l = c .before in
-    let a = l .before .args in
-    sym (l .loop .inv ∙ any-end (ofKind (a .kind)) (a .rs .now) (l .loop .i) (c .loop-test .left))
+    let a = l .before .before .args in
+    sym (l .loop .inv ∙ any-end (ofKind (a .k)) (a .rs .now) (l .loop .i) (c .loop-test .left))
 
 pub has-kind-spec : {M : Type 1} → statement M
 has-kind-spec =
@@ -56,8 +60,9 @@ has-kind-spec =
     Inv-loop
     μ-loop
     loop-holds
-    mul-if1
-    shared-slice-read-if1
+    mul-kind
+    shared-slice-read-kind
+    kind-requires
     returns
     add-i
     loop-less

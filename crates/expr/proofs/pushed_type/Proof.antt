@@ -1,6 +1,6 @@
 -- `expr::pushed_type` meets its contract: each arm reads the definition's list at its kinds.
 -- Assumes nothing.
-use mathlib.Core.Path.{_≡_, refl, sym}
+use mathlib.Core.Path.{_≡_, refl, sym, _∙_}
 use mathlib.Core.List.{List}
 use Prim.Native.Nat.{ℕ, _/_, _%_, _≤_, _<_}
 use native.Mathlib.Omega.{arith}
@@ -37,6 +37,12 @@ module _ (types : List ℕ) (tag a b : ℕ) where
       let h : 9 ≤ tag % 16 = omega arith in
       sym (List·getD-eq-default (recordTypes types (tag / 16) a b) 2 h)
 
+argument-requires : tie.Need-argument-requires
+argument-requires c κs = search needs
+
+kind-requires : tie.Need-kind-requires
+kind-requires c κs = search needs
+
 variable-type-requires : tie.Need-variable-type-requires
 variable-type-requires c κs = search needs
 
@@ -51,44 +57,50 @@ joined-requires c κs = search needs
 
 returns : tie.Need-returns
 unfolding recordType
-returns c = rw (c .before .match .keys1) (c .variable-type .ensures)
+returns c = rw (← c .before .before .kind .ensures, c .before .match .keys1, ← c .before .before .before .argument .ensures) (c .variable-type .ensures)
 
 returns-2 : tie.Need-returns-2
 unfolding recordType
-returns-2 c = rw (c .before .match .keys2) (c .constant-type .ensures)
+returns-2 c = rw (← c .before .before .kind .ensures, c .before .match .keys2, ← c .before .before .before .argument .ensures) (c .constant-type .ensures)
 
 returns-3 : tie.Need-returns-3
 unfolding recordType
-returns-3 c = rw (c .before .match .keys3) (c .binary-type .ensures)
+returns-3 c = rw (← c .before .before .kind .ensures, c .before .match .keys3, ← c .before .before .before .argument .ensures) (c .binary-type .ensures)
 
 returns-4 : tie.Need-returns-4
 unfolding recordType
-returns-4 c = rw (c .before .match .keys4) (c .joined .ensures)
+returns-4 c = rw (← c .before .before .kind .ensures, c .before .match .keys4) (c .joined .ensures)
 
 returns-5 : tie.Need-returns-5
 unfolding recordType
 returns-5 c =
-    let s = c .before .before .before .before .args in
-    typed (s .types .now) (s .tag) (s .a) (s .b) (c .before .if1 .left) (c .if2 .taken)
+    let s = c .before .before .before .before .before .before .args in
+    let k = c .before .before .before .kind .ensures in
+    c .before .before .before .before .argument .ensures
+    ∙ typed (s .types .now) (s .tag) (s .a) (s .b) (omega (arith, k, c .before .if1 .left)) (omega (arith, k, c .if2 .taken))
 
 returns-6 : tie.Need-returns-6
 unfolding recordType
 returns-6 c =
-    let s = c .before .before .before .args in
+    let s = c .before .before .before .before .before .args in
     let r = c .before .match .rest in
-    signed (s .types .now) (s .tag) (s .a) (s .b) (omega (arith, r .0 .0 .0 .1, r .0 .0 .1)) (c .if1 .taken)
+    let k = c .before .before .kind .ensures in
+    signed (s .types .now) (s .tag) (s .a) (s .b) (omega (arith, k, r .0 .0 .0 .1, r .0 .0 .1)) (omega (arith, k, c .if1 .taken))
 
 returns-7 : tie.Need-returns-7
 unfolding recordType
 returns-7 c =
-    let s = c .before .before .before .before .args in
+    let s = c .before .before .before .before .before .before .args in
     let r = c .before .before .match .rest in
-    past (s .types .now) (s .tag) (s .a) (s .b) (c .if2 .left) (r .0 .1) (r .1)
+    let k = c .before .before .before .kind .ensures in
+    past (s .types .now) (s .tag) (s .a) (s .b) (omega (arith, k, c .if2 .left)) (λ e. r .0 .1 (k ∙ e)) (λ e. r .1 (k ∙ e))
 
 pub pushed-type-spec : {M : Type 1} → statement M
 pushed-type-spec =
     tie.close
     (tie.spec
+    argument-requires
+    kind-requires
     variable-type-requires
     constant-type-requires
     binary-type-requires

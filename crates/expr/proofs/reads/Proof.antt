@@ -3,6 +3,7 @@
 use mathlib.Core.Path.{_≡_, refl, _∙_, sym}
 use Prim.Native.Nat.{_-_}
 use native.Mathlib.Omega.{arith}
+use borrow.Author.Needs.{needs}
 use lib.ListN.{length, drop}
 use Rattle.expr.specs.Scan.{anyTag, isVariable, ofVariable}
 use Rattle.expr.proofs.Scans.{any-here, any-on, any-end, any-tree, variable-tag}
@@ -24,13 +25,20 @@ mul-tag c = omega arith
 shared-slice-read-tag : tie.Need-shared-slice-read-tag Inv-loop μ-loop
 shared-slice-read-tag c = omega arith
 
+kind-requires : tie.Need-kind-requires Inv-loop μ-loop
+kind-requires c κs = search needs
+
+argument-requires : tie.Need-argument-requires Inv-loop μ-loop
+argument-requires c κs = search needs
+
 returns : tie.Need-returns Inv-loop μ-loop
 returns c =
-    let l = c .before .before .before in
-    let a = l .before .args in
+    let l = c .before .before .before .before .before in
+    let a = l .before .before .args in
     let v = a .v in
-    sym (sym (any-tree (ofVariable v) (isVariable v) (variable-tag v) (a .rs .now) (l .before .pre)) ∙ l .loop .inv
-    ∙ any-here (ofVariable v) (a .rs .now) (l .loop .i) (c .before .before .loop-test .taken) (c .if1 .taken))
+    sym (sym (any-tree (ofVariable v) (isVariable v) (variable-tag v) (a .rs .now) (l .before .before .pre)) ∙ l .loop .inv
+    ∙ any-here (ofVariable v) (a .rs .now) (l .loop .i) (c .before .before .before .before .loop-test .taken)
+    (rw (← c .before .before .kind .ensures, ← c .before .argument .ensures) (c .if1 .taken)))
 
 add-i : tie.Need-add-i Inv-loop μ-loop
 add-i c = omega arith
@@ -40,16 +48,17 @@ loop-less c = omega arith
 
 loop-again : tie.Need-loop-again Inv-loop μ-loop
 loop-again c =
-    let l = c .before .before .before in
-    let a = l .before .args in
-    l .loop .inv ∙ any-on (ofVariable (a .v)) (a .rs .now) (l .loop .i) (c .before .before .loop-test .taken) (c .if1 .left)
+    let l = c .before .before .before .before .before in
+    let a = l .before .before .args in
+    l .loop .inv ∙ any-on (ofVariable (a .v)) (a .rs .now) (l .loop .i) (c .before .before .before .before .loop-test .taken)
+    (rw (← c .before .before .kind .ensures, ← c .before .argument .ensures) (c .if1 .left))
 
 returns-2 : tie.Need-returns-2 Inv-loop μ-loop
 returns-2 c =
     let l = c .before in
-    let a = l .before .args in
+    let a = l .before .before .args in
     let v = a .v in
-    sym (sym (any-tree (ofVariable v) (isVariable v) (variable-tag v) (a .rs .now) (l .before .pre)) ∙ l .loop .inv
+    sym (sym (any-tree (ofVariable v) (isVariable v) (variable-tag v) (a .rs .now) (l .before .before .pre)) ∙ l .loop .inv
     ∙ any-end (ofVariable v) (a .rs .now) (l .loop .i) (c .loop-test .left))
 
 pub reads-spec : {M : Type 1} → statement M
@@ -61,6 +70,8 @@ reads-spec =
     loop-holds
     mul-tag
     shared-slice-read-tag
+    kind-requires
+    argument-requires
     returns
     add-i
     loop-less
