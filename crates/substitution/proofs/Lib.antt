@@ -1,0 +1,6 @@
+-- types up to pointer and unsigned 64, which no operator tells apart
+pub mod Alike
+-- what substitution does to type and value
+pub mod Kept
+-- runs of a node, by its substituted condition
+pub mod Runs
