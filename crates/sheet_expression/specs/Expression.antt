@@ -1,4 +1,5 @@
--- Expressions of a sheet: a count, then records in postfix order that form one tree.
+-- Expressions of a sheet: a count, then records in postfix order that form one tree. A record's codes are judged as they come (2), the record itself
+-- at its last byte (7, then 8).
 use Prim.Native.Nat.{ℕ, zero, suc, _+_, _-_, _*_, _^_}
 use mathlib.Core.List.{List, [], _∷_, _++_}
 use mathlib.Core.Bool.{Bool, true, false, cond, not, _&&_, _||_}
@@ -12,12 +13,12 @@ use Rattle.expr.specs.Codes.{kindVariable, kindConstant, kindTrue, kindFalse, k
 use Rattle.expr.specs.Tree.{arityOf}
 use Rattle.sheet_expression.specs.declared.RecordField.{RecordField}
 
--- Expression: true, false and ternary have no argument; every other kind has one, a byte.
+-- True, false and ternary have no argument; every other kind has one, a byte (S39, S44).
 abbrev pub hasArgument : ℕ → Bool
 hasArgument kind = not (eqb kind kindTrue || eqb kind kindFalse || eqb kind kindTernary)
 
--- Turned back, 2, the tables: a variable's number is below the node's count of variables; a constant's width is 1,
--- 2, 4 or 8; an effect, a load and a cast have a type, 0 to 9; a binary has an operator, 0 to 17.
+-- Refusal 2, the tables of arguments: a variable's number is below the node's count of variables; a constant's width is 1, 2, 4 or 8; an effect, a
+-- load and a cast have a type, 0 to 9; a binary has an operator, 0 to 17 (S37, S38, S40, S41, S42, S43, S45, R8, R10).
 abbrev pub argumentOk : ℕ → ℕ → ℕ → Bool
 argumentOk variables kind x =
     (eqb kind kindVariable && ltb x variables)
@@ -30,11 +31,11 @@ argumentAt variables kind s p =
     let f = fieldAt 1 s p in
     cond (hasArgument kind) (checkField (argumentOk variables kind (f .value)) 2 (startOf p) f) (record { value = 0; next = p })
 
--- Expression, kind 1: a constant has a value of 8 bytes behind its width.
+-- A constant has a value of 8 bytes after its width (S38).
 unfoldable pub constantAt : ℕ → List ℕ → Place → Field
 constantAt kind s p = cond (eqb kind kindConstant) (fieldAt 8 s p) (record { value = 0; next = p })
 
--- Turned back, 8: a constant of 1, 2 or 4 bytes is below 2 to the 8, 16 or 32; 8 bytes hold any value.
+-- Refusal 8: a constant of 1, 2 or 4 bytes is below 2 to the 8, 16 or 32; 8 bytes hold any value (R20).
 abbrev pub fitsWidth : ℕ → ℕ → ℕ → Bool
 fitsWidth kind width value =
     not (eqb kind kindConstant)
@@ -46,9 +47,9 @@ fitsWidth kind width value =
 abbrev pub depthAfter : ℕ → ℕ → ℕ
 depthAfter depth arity = depth - arity + 1
 
--- A record, behind `depth` complete trees and with `left` records after it. Its checks at its last byte, in the order of
--- their numbers. Turned back, 7: a record lacks a child, at its kind byte; or behind the last record there is not one
--- tree, at the byte after the expression. Turned back, 8: a constant above its width, at its value.
+-- A record, with `depth` complete trees before it and `left` records after it. Its checks are made at its last byte, in the order of their numbers:
+-- 7, a record lacks a child, placed at its kind byte; 7, after the last record there is more than one tree, placed at the byte after the
+-- expression; 8, a constant above its width, placed at its value (S36, S37, S38, S40, S41, S42, S43, R2, R4, R8, R18, R19, R20).
 unfoldable pub recordAt : ℕ → ℕ → ℕ → List ℕ → Place → RecordField
 recordAt variables depth left s p =
     let kind = codeAt kindCount s p in
@@ -78,7 +79,7 @@ unfoldable pub takenFrom : ℕ → ℕ → List ℕ → Place → ℕ → Taken
 takenFrom variables total s p zero = record { words = []; depth = 0; next = p }
 takenFrom variables total s p (suc k) = takenMore variables (total - suc k) s (takenFrom variables total s p k)
 
--- Expression: a count from 1 to 128, then as many records.
+-- A count from 1 to 128, then as many records (S36).
 unfoldable pub expressionAt : ℕ → List ℕ → Place → Taken
 expressionAt variables s p =
     let n = countAt 1 128 s p in

@@ -16,7 +16,7 @@ pub struct RecordField {
     pub next: Place,
 }
 
-// How many trees are complete behind some records, and the place after them.
+// How many trees are complete after some records, and the place after them.
 pub struct Records {
     pub depth: u64,
     pub next: Place,
