@@ -4,17 +4,16 @@ use Prim.Native.Nat.{ℕ, zero, suc, _+_, _-_, _≤_, _<_, min}
 use mathlib.Core.Path.{_≡_, refl, sym, ap, _∙_}
 use mathlib.Core.Logic.{_⊎_, inl, inr}
 use mathlib.Core.List.{List, [], _∷_, _++_}
-use native.Mathlib.Decide.{decLt, decLe, ℕ-discrete}
+use native.Mathlib.Decide.{decLt}
 use native.Mathlib.Nat.{add-zero}
 use native.Mathlib.Omega.{arith}
-use lib.ListN.{length, getD, take, drop, set, length-set, length-append, length-take, length-drop, List·getD-append}
-use lib.Seq.{ext-getD, getD-set-other, getD-take, getD-drop, getD-append-add, length-take-le}
+use lib.ListN.{length, getD, take, drop, length-append, length-take, length-drop, List·getD-append}
+use lib.Seq.{ext-getD, getD-take, getD-drop, getD-append-add, length-take-le}
 use borrow.Author.Tests.{lt-ltb, le-ltb, eq-eqb, ne-eqb}
 use Rattle.poly.specs.Terms.{toggle, over}
 use Rattle.poly.specs.Places.{PutIn, TakenOut}
 use Rattle.search.specs.Ascending.{Ascending, countBelow}
 use Rattle.search.proofs.Laws.{Bracket, count-splits}
-use Rattle.poly.proofs.Moves.{after-set}
 
 place-rest : {x : ℕ} {l : List ℕ} {t at : ℕ} → Bracket (x ∷ l) t (suc at) (suc at) → Bracket l t at at
 place-rest p = record {
@@ -163,31 +162,3 @@ take-out-toggles old new {n} {t} {at} p room within there long taken =
     front : (i : ℕ) → i < length (without at (take n old))
         → getD new i 0 ≡ getD (without at (take n old)) i 0
     front i h = go i (omega (arith, size′)) (decLt i at)
-
--- A list copied to the front of another: the first i entries are.
-pub record Copied (a old new : List ℕ) (i : ℕ) : Type 0 where
-  pub within : i ≤ length a
-  pub long : length new ≡ length old
-  pub done : (k : ℕ) → k < i → getD new k 0 ≡ getD a k 0
-  pub rest : (k : ℕ) → i ≤ k → getD new k 0 ≡ getD old k 0
-
-pub copied-none : (a l : List ℕ) → Copied a l l 0
-copied-none a l = record {
-  within = omega arith;
-  long = refl;
-  done = λ k h. absurd (omega arith);
-  rest = λ k h. refl;
-}
-
-pub copied-more : {a old new : List ℕ} {i : ℕ} → Copied a old new i → length a ≤ length old → i < length a
-    → Copied a old (set new i (getD a i 0)) (i + 1)
-copied-more {a} {old} {new} {i} c room less = record {
-  within = omega arith;
-  long = length-set new i (getD a i 0) ∙ c .long;
-  done = λ k h. after-set new i (getD a i 0) k (getD a k 0) (omega (arith, c .long)) (λ e. rw e) (λ ne. c .done k (omega arith));
-  rest = λ k h. getD-set-other new i k (getD a i 0) 0 (omega arith) ∙ c .rest k (omega arith);
-}
-
-pub copied-all : {a old new : List ℕ} {i : ℕ} → Copied a old new i → length a ≤ length old → length a ≤ i → new ≡ over a old
-copied-all {a} {old} {new} c room end =
-    over-is a old new (c .long) room (λ k h. c .done k (omega arith)) (λ k h. c .rest k (omega (arith, c .within)))

@@ -84,15 +84,3 @@ pub fn add_product(list: &mut [u64], count: usize, a: &[u64], b: &[u64]) -> usiz
     }
     n
 }
-
-// Copies a polynomial to the front of a lent list, as a product out of the list that it was made in.
-pub fn copy(a: &[u64], list: &mut [u64])
-    requires { ⌜ length (now a) ≤ length (now list) ⌝ }
-    ensures { λ _. ⌜ now (list .exit) ≡ over (now (a .entry)) (now (list .entry)) ⌝ }
-{
-    let mut i = 0;
-    while i < a.len() {
-        list[i] = a[i];
-        i += 1;
-    }
-}

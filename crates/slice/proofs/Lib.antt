@@ -1,0 +1,2 @@
+-- the loop that copies
+pub mod Copied
