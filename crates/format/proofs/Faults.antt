@@ -1,0 +1,232 @@
+-- An instruction is modelled, and at fault, as reading tests it, exactly where the format says so. The tests go by tables: for given
+-- operands two functions of the mnemonic's number are compared number by number, so nothing here rests on how the tests are written.
+use Prim.Native.Nat.{ℕ, _+_, _*_, _/_, _%_, _<_, _≤_}
+use mathlib.Core.Path.{_≡_, refl, sym, _∙_}
+use mathlib.Core.Logic.{_⊎_, inl, inr, ⊎-elim}
+use mathlib.Core.Option.{Option, none, some}
+use mathlib.Core.Bool.{Bool, true, false, not, _&&_, _||_}
+use native.Mathlib.Omega.{arith}
+use lib.Dec.{eqb, leb}
+use borrow.Author.Tests.{eqb-true, eq-eqb, ne-eqb, not-false}
+use Rattle.isa.specs.declared.Register.{Register}
+use Rattle.isa.specs.Modelled.{modelled, sizesDiffer, outside, atFault}
+use Rattle.format.specs.Syntax.{Operand, Instruction, valueOf, meansOptional, meansInstruction}
+use Rattle.format.specs.Syntax.Operand.{reg, imm, mem}
+use Rattle.format.specs.Faults.{NeedsNone, NeedsTwo, NeedsOne, Modelled, Sound}
+use Rattle.format.specs.Faults.Modelled.{anyOperands, twoOperands, oneOperand}
+use Rattle.format.proofs.Tests.{Tests, of-eq, of-le, of-and, of-or, or-true, table, same-table}
+
+-- the mnemonics that need no operand, two, or one
+abbrev withNone : ℕ → Bool
+withNone m = eqb m 1 || (eqb m 2 || eqb m 3)
+
+abbrev withTwo : ℕ → Bool
+withTwo m = eqb m 4 || (leb 6 m && leb m 12)
+
+abbrev withOne : ℕ → Bool
+withOne m = eqb m 5 || (eqb m 13 || (eqb m 14 || eqb m 15))
+
+is-none : (m : ℕ) → Tests (withNone m) (NeedsNone m)
+is-none m = of-or (of-eq m 1) (of-or (of-eq m 2) (of-eq m 3))
+
+is-two : (m : ℕ) → Tests (withTwo m) (NeedsTwo m)
+is-two m = of-or (of-eq m 4) (of-and (of-le 6 m) (of-le m 12))
+
+is-one : (m : ℕ) → Tests (withOne m) (NeedsOne m)
+is-one m = of-or (of-eq m 5) (of-or (of-eq m 13) (of-or (of-eq m 14) (of-eq m 15)))
+
+-- whether an instruction of mnemonic m is modelled, by its operands
+abbrev needs : Bool → Option Operand → Option Operand → ℕ → Bool
+needs true a b m = false
+needs false none b m = withNone m
+needs false (some (imm v)) b m = withNone m
+needs false (some mem) b m = withNone m
+needs false (some (reg r)) none m = withNone m || withOne m
+needs false (some (reg r)) (some x) m = withNone m || withTwo m
+
+abbrev asked : Bool → Option Operand → Option Operand → ℕ → Bool
+asked call a b m = modelled (meansInstruction (record { address = 0; mnemonic = m; target = none; call = call; first = a; second = b; written = none; flags = none }))
+
+asked-is : (call : Bool) (a b : Option Operand) (m : ℕ) → m < 35 → asked call a b m ≡ needs call a b m
+unfolding table meansInstruction
+asked-is true a b m lt = same-table (asked true a b) (needs true a b) 35 refl m lt
+asked-is false none b m lt = same-table (asked false none b) (needs false none b) 35 refl m lt
+asked-is false (some (imm v)) b m lt = same-table (asked false (some (imm v)) b) (needs false (some (imm v)) b) 35 refl m lt
+asked-is false (some mem) b m lt = same-table (asked false (some mem) b) (needs false (some mem) b) 35 refl m lt
+asked-is false (some (reg r)) none m lt = same-table (asked false (some (reg r)) none) (needs false (some (reg r)) none) 35 refl m lt
+asked-is false (some (reg r)) (some (reg x)) m lt = same-table (asked false (some (reg r)) (some (reg x))) (needs false (some (reg r)) (some (reg x))) 35 refl m lt
+asked-is false (some (reg r)) (some (imm v)) m lt = same-table (asked false (some (reg r)) (some (imm v))) (needs false (some (reg r)) (some (imm v))) 35 refl m lt
+asked-is false (some (reg r)) (some mem) m lt = same-table (asked false (some (reg r)) (some mem)) (needs false (some (reg r)) (some mem)) 35 refl m lt
+
+needs-any : (a b : Option Operand) (m : ℕ) → withNone m ≡ true → needs false a b m ≡ true
+needs-any none b m e = e
+needs-any (some (imm v)) b m e = e
+needs-any (some mem) b m e = e
+needs-any (some (reg r)) none m e = rw e
+needs-any (some (reg r)) (some x) m e = rw e
+
+needed : (i : Instruction) → Modelled i → needs (i .call) (i .first) (i .second) (i .mnemonic) ≡ true
+needed i (anyOperands c n) = rw c (needs-any (i .first) (i .second) (i .mnemonic) (is-none (i .mnemonic) .passes n))
+needed i (twoOperands c n a b) = rw (c, a .1, b .1, is-two (i .mnemonic) .passes n) (or-true (withNone (i .mnemonic)))
+needed i (oneOperand c n a b) = rw (c, a .1, b, is-one (i .mnemonic) .passes n) (or-true (withNone (i .mnemonic)))
+
+never : {X : Type 0} → false ≡ true → X
+never e = let z : _≡_ {A = ℕ} 0 1 = cc in absurd (omega arith)
+
+back : (i : Instruction) (call : Bool) (a b : Option Operand) → i .call ≡ call → i .first ≡ a → i .second ≡ b → needs call a b (i .mnemonic) ≡ true → Modelled i
+back i true a b c p q e = never e
+back i false none b c p q e = anyOperands c (is-none (i .mnemonic) .holds e)
+back i false (some (imm v)) b c p q e = anyOperands c (is-none (i .mnemonic) .holds e)
+back i false (some mem) b c p q e = anyOperands c (is-none (i .mnemonic) .holds e)
+back i false (some (reg r)) none c p q e =
+    ⊎-elim (λ n. anyOperands c n) (λ n. oneOperand c n (r, p) q) (of-or (is-none (i .mnemonic)) (is-one (i .mnemonic)) .holds e)
+back i false (some (reg r)) (some x) c p q e =
+    ⊎-elim (λ n. anyOperands c n) (λ n. twoOperands c n (r, p) (x, q)) (of-or (is-none (i .mnemonic)) (is-two (i .mnemonic)) .holds e)
+
+-- modelled, both ways
+modelled-is : (i : Instruction) → i .mnemonic ≤ 34 → Tests (modelled (meansInstruction i)) (Modelled i)
+unfolding meansInstruction
+modelled-is i le =
+    let same = asked-is (i .call) (i .first) (i .second) (i .mnemonic) (omega arith) in
+    record { holds = λ e. back i (i .call) (i .first) (i .second) refl refl refl (sym same ∙ e); passes = λ h. same ∙ needed i h }
+
+-- the fault itself, of an instruction that is modelled
+abbrev undeclared : ℕ → ℕ → Bool
+undeclared m f = ((eqb m 13 || (eqb m 14 || eqb m 15)) && not (eqb (f / 2 % 16) 15)) || (eqb m 15 && not (eqb (f % 2) 1))
+
+abbrev faulty : Option Operand → Option Operand → Option ℕ → ℕ → Bool
+faulty a b f m =
+    (sizesDiffer (meansOptional a) (meansOptional b) || (not (eqb m 4) && (outside (meansOptional a) || outside (meansOptional b))))
+    || undeclared m (valueOf f)
+
+abbrev judgedAt : Bool → Option Operand → Option Operand → Option ℕ → ℕ → Bool
+judgedAt call a b f m = atFault (meansInstruction (record { address = 0; mnemonic = m; target = none; call = call; first = a; second = b; written = none; flags = f }))
+
+fault-is : (call : Bool) (a b : Option Operand) (f : Option ℕ) (m : ℕ) → m < 35 → judgedAt call a b f m ≡ (asked call a b m && faulty a b f m)
+unfolding table meansInstruction
+fault-is call a b f m lt = same-table (judgedAt call a b f) (λ m. asked call a b m && faulty a b f m) 35 refl m lt
+
+or-false : (a b : Bool) → (a || b) ≡ false → (a ≡ false) × (b ≡ false)
+or-false true b e = (e, cc)
+or-false false b e = (refl, e)
+
+-- two tests that hold, and what must then not
+both-false : (a b : Bool) → (a ≡ true → b ≡ false) → (a && b) ≡ false
+both-false true b h = h refl
+both-false false b h = refl
+
+after-true : (a b : Bool) → (a && b) ≡ false → a ≡ true → b ≡ false
+after-true a b e t = rw t at e
+
+-- sizes of registers of class 1
+differ : (c d s t : ℕ) → (c ≡ 1 → d ≡ 1 → s ≡ t) → (eqb c 1 && eqb d 1 && not (eqb s t)) ≡ false
+differ c d s t h =
+    both-false (eqb c 1 && eqb d 1) (not (eqb s t))
+    (λ e. let one = of-and (of-eq c 1) (of-eq d 1) .holds e in rw (eq-eqb s t (h (one .0) (one .1))))
+
+one-size : (a b : Option Operand) → ((x y : Register) → a ≡ some (reg x) → b ≡ some (reg y) → x .class ≡ 1 → y .class ≡ 1 → x .size ≡ y .size)
+    → sizesDiffer (meansOptional a) (meansOptional b) ≡ false
+one-size none b h = refl
+one-size (some (imm v)) b h = refl
+one-size (some mem) b h = refl
+one-size (some (reg x)) none h = refl
+one-size (some (reg x)) (some (imm v)) h = refl
+one-size (some (reg x)) (some mem) h = refl
+one-size (some (reg x)) (some (reg y)) h = differ (x .class) (y .class) (x .size) (y .size) (h x y refl refl)
+
+same-size : (a b : Option Operand) → sizesDiffer (meansOptional a) (meansOptional b) ≡ false
+    → (x y : Register) → a ≡ some (reg x) → b ≡ some (reg y) → x .class ≡ 1 → y .class ≡ 1 → x .size ≡ y .size
+same-size a b e x y p q c d = eqb-true (x .size) (y .size) (not-false _ (rw (p, q, eq-eqb (x .class) 1 c, eq-eqb (y .class) 1 d) at e))
+
+-- a register operand of class 1
+inside : (a : Option Operand) → ((r : Register) → a ≡ some (reg r) → r .class ≡ 1) → outside (meansOptional a) ≡ false
+inside none h = refl
+inside (some (imm v)) h = refl
+inside (some mem) h = refl
+inside (some (reg r)) h = rw (eq-eqb (r .class) 1 (h r refl))
+
+of-class : (a : Option Operand) → outside (meansOptional a) ≡ false → (r : Register) → a ≡ some (reg r) → r .class ≡ 1
+of-class a e r p = eqb-true (r .class) 1 (not-false _ (rw p at e))
+
+-- flags
+bit-of : (o : Option ℕ) (flag : ℕ) → (f : ℕ) × (o ≡ some f) × (f / flag % 2 ≡ 1) → valueOf o / flag % 2 ≡ 1
+bit-of o flag h = rw (h .1) (h .2)
+
+declares : (o : Option ℕ) (flag : ℕ) → (valueOf o ≡ 0 → ⊥) → valueOf o / flag % 2 ≡ 1 → (f : ℕ) × (o ≡ some f) × (f / flag % 2 ≡ 1)
+declares none flag some′ e = absurd (some′ refl)
+declares (some f) flag some′ e = (f, refl, e)
+
+abbrev Counts : ℕ → Type 0
+Counts m = (m ≡ 13) ⊎ ((m ≡ 14) ⊎ (m ≡ 15))
+
+is-count : (m : ℕ) → Tests (eqb m 13 || (eqb m 14 || eqb m 15)) (Counts m)
+is-count m = of-or (of-eq m 13) (of-or (of-eq m 14) (of-eq m 15))
+
+four-bits : (v : ℕ) → v / 2 % 2 ≡ 1 → v / 4 % 2 ≡ 1 → v / 8 % 2 ≡ 1 → v / 16 % 2 ≡ 1 → v / 2 % 16 ≡ 15
+four-bits v p z s o =
+    let e4 : v / 16 ≡ v / 16 % 2 + 2 * (v / 16 / 2) = omega arith in
+    let e3 : v / 8 ≡ v / 8 % 2 + 2 * (v / 16) = omega arith in
+    let e2 : v / 4 ≡ v / 4 % 2 + 2 * (v / 8) = omega arith in
+    let e1 : v / 2 ≡ v / 2 % 2 + 2 * (v / 4) = omega arith in
+    let e0 : v / 2 ≡ 16 * (v / 16 / 2) + 15 = omega arith in
+    omega arith
+
+all-declared : (i : Instruction) → Sound i → undeclared (i .mnemonic) (valueOf (i .flags)) ≡ false
+all-declared i h =
+    let m = i .mnemonic in
+    let v = valueOf (i .flags) in
+    let four : (eqb m 13 || (eqb m 14 || eqb m 15)) ≡ true → not (eqb (v / 2 % 16) 15) ≡ false = λ e.
+    let d = h .declared (is-count m .holds e) in
+    let p = bit-of (i .flags) 2 (d .0) in
+    let z = bit-of (i .flags) 4 (d .1) in
+    let s = bit-of (i .flags) 8 (d .2) in
+    let o = bit-of (i .flags) 16 (d .3) in
+    rw (eq-eqb (v / 2 % 16) 15 (four-bits v p z s o)) in
+    let carry : eqb m 15 ≡ true → not (eqb (v % 2) 1) ≡ false = λ e.
+    let c = bit-of (i .flags) 1 (h .carry (eqb-true m 15 e)) in
+    let low : v % 2 ≡ 1 = omega arith in
+    rw (eq-eqb (v % 2) 1 low) in
+    rw (both-false (eqb m 13 || (eqb m 14 || eqb m 15)) (not (eqb (v / 2 % 16) 15)) four, both-false (eqb m 15) (not (eqb (v % 2) 1)) carry)
+
+-- Sound as the tests have it
+sound-passes : (i : Instruction) → Sound i → faulty (i .first) (i .second) (i .flags) (i .mnemonic) ≡ false
+sound-passes i h =
+    let m = i .mnemonic in
+    let out : not (eqb m 4) ≡ true → (outside (meansOptional (i .first)) || outside (meansOptional (i .second))) ≡ false = λ e.
+    let other : m ≡ 4 → ⊥ = λ q. never (sym (rw (eq-eqb m 4 q)) ∙ e) in
+    rw (inside (i .first) (λ r p. h .classes other r (inl p)), inside (i .second) (λ r p. h .classes other r (inr p))) in
+    rw (one-size (i .first) (i .second) (h .sizes), both-false (not (eqb m 4)) _ out, all-declared i h)
+
+sound-holds : (i : Instruction) → faulty (i .first) (i .second) (i .flags) (i .mnemonic) ≡ false → Sound i
+sound-holds i e =
+    let m = i .mnemonic in
+    let v = valueOf (i .flags) in
+    let parts = or-false _ (undeclared m v) e in
+    let front = or-false (sizesDiffer (meansOptional (i .first)) (meansOptional (i .second))) _ (parts .0) in
+    let flags = or-false _ (eqb m 15 && not (eqb (v % 2) 1)) (parts .1) in
+    record {
+      sizes = same-size (i .first) (i .second) (front .0);
+      classes = λ other r.
+          let o = or-false (outside (meansOptional (i .first))) (outside (meansOptional (i .second))) (after-true (not (eqb m 4)) _ (front .1) (rw (ne-eqb m 4 other))) in
+          ⊎-elim (λ p. of-class (i .first) (o .0) r p) (λ p. of-class (i .second) (o .1) r p);
+      declared = λ n.
+          let all : v / 2 % 16 ≡ 15 = eqb-true (v / 2 % 16) 15 (not-false _ (after-true (eqb m 13 || (eqb m 14 || eqb m 15)) _ (flags .0) (is-count m .passes n))) in
+          let some′ : v ≡ 0 → ⊥ = omega arith in
+          (declares (i .flags) 2 some′ (omega arith), declares (i .flags) 4 some′ (omega arith), declares (i .flags) 8 some′ (omega arith), declares (i .flags) 16 some′ (omega arith));
+      carry = λ n.
+          let low : v % 2 ≡ 1 = eqb-true (v % 2) 1 (not-false _ (after-true (eqb m 15) _ (flags .1) (eq-eqb m 15 n))) in
+          declares (i .flags) 1 (omega arith) (omega arith);
+    }
+
+fault-at : (i : Instruction) → i .mnemonic ≤ 34 → atFault (meansInstruction i) ≡ (modelled (meansInstruction i) && faulty (i .first) (i .second) (i .flags) (i .mnemonic))
+unfolding meansInstruction
+fault-at i le = fault-is (i .call) (i .first) (i .second) (i .flags) (i .mnemonic) (omega arith)
+
+pub no-fault : (i : Instruction) → i .mnemonic ≤ 34 → (Modelled i → Sound i) → atFault (meansInstruction i) ≡ false
+no-fault i le h =
+    fault-at i le
+    ∙ both-false (modelled (meansInstruction i)) (faulty (i .first) (i .second) (i .flags) (i .mnemonic)) (λ e. sound-passes i (h (modelled-is i le .holds e)))
+
+pub sound-where : (i : Instruction) → i .mnemonic ≤ 34 → atFault (meansInstruction i) ≡ false → Modelled i → Sound i
+sound-where i le e h =
+    sound-holds i (after-true (modelled (meansInstruction i)) (faulty (i .first) (i .second) (i .flags) (i .mnemonic)) (sym (fault-at i le) ∙ e) (modelled-is i le .passes h))
