@@ -1,8 +1,8 @@
 //! Time a byte of reading on a full sheet.
 
-use crate::compare::{frame, run};
 use crate::encode::encode;
 use crate::format::*;
+use crate::frames::{ask_reading, run};
 use crate::generate::{Generator, Size};
 use crate::reader::read;
 use std::hint::black_box;
@@ -49,7 +49,7 @@ fn reader_time(sheet: &[u8]) -> f64 {
 fn program_time(program: &[String], sheet: &[u8]) -> io::Result<f64> {
     let timed = |copies: usize| -> io::Result<f64> {
         let mut input = Vec::new();
-        (0..copies).for_each(|_| frame(&mut input, sheet));
+        (0..copies).for_each(|_| ask_reading(&mut input, sheet));
         let start = Instant::now();
         run(program, input)?;
         Ok(start.elapsed().as_nanos() as f64)

@@ -5,8 +5,8 @@
 //! settle it: counts of shifts, the most negative value by -1, division by
 //! zero.
 
-use crate::compare;
 use crate::format::*;
+use crate::frames;
 use crate::types;
 use std::fmt::Write;
 use std::fs;
@@ -224,7 +224,7 @@ pub fn judge(nodes: &[&Node], runs: &[(usize, &[u64])]) -> io::Result<Vec<Outcom
         let due = nodes[*number].variables.len();
         values[..due].iter().for_each(|value| input.extend_from_slice(&value.to_ne_bytes()));
     }
-    let lines = compare::run(&[program.to_string_lossy().to_string()], input)?;
+    let lines = frames::run(&[program.to_string_lossy().to_string()], input)?;
     let outcome = |line: &String| OUTCOMES.iter().find(|(name, _)| name == line).map(|(_, o)| *o);
     let outcomes: Option<Vec<Outcome>> = lines.iter().map(outcome).collect();
     match outcomes {

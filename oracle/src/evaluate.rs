@@ -7,7 +7,6 @@ use crate::encode::encode;
 use crate::format::*;
 use crate::reader::{read, Refusal};
 use crate::types::{self, BOOL};
-use std::io::{self, Read, Write};
 
 /// A run that has no outcome.
 #[derive(Clone, Copy, Debug, PartialEq, Eq)]
@@ -198,7 +197,7 @@ pub fn evaluation(sheet: &[u8], number: u32, values: &[u64]) -> Answer {
     }
 }
 
-/// The answer as the line that the test program writes.
+/// The answer in words.
 pub fn line(answer: &Answer) -> String {
     match answer {
         Ok(true) => "holds".to_string(),
@@ -207,39 +206,17 @@ pub fn line(answer: &Answer) -> String {
     }
 }
 
-/// Appends a case as the test program reads it.
-pub fn frame_case(out: &mut Vec<u8>, sheet: &[u8], number: u32, values: &[u64]) {
-    out.extend_from_slice(&(sheet.len() as u32).to_le_bytes());
-    out.extend_from_slice(sheet);
-    out.extend_from_slice(&number.to_le_bytes());
-    out.extend_from_slice(&(values.len() as u32).to_le_bytes());
-    values.iter().for_each(|value| out.extend_from_slice(&value.to_le_bytes()));
+/// What stands between the answers of one line.
+pub const COMMA: &str = ", ";
+
+/// The answers on several sets of values as the line that the test program
+/// writes.
+pub fn joined<'a>(answers: impl Iterator<Item = &'a Answer>) -> String {
+    answers.map(line).collect::<Vec<String>>().join(COMMA)
 }
 
-fn four(input: &mut impl Read) -> io::Result<u32> {
-    let mut bytes = [0; 4];
-    input.read_exact(&mut bytes)?;
-    Ok(u32::from_le_bytes(bytes))
-}
-
-fn eight(input: &mut impl Read) -> io::Result<u64> {
-    let mut bytes = [0; 8];
-    input.read_exact(&mut bytes)?;
-    Ok(u64::from_le_bytes(bytes))
-}
-
-/// Answers cases, a line for each, until the input ends.
-pub fn answer(input: &mut impl Read, output: &mut impl Write) -> io::Result<()> {
-    loop {
-        let length = match four(input) {
-            Err(error) if error.kind() == io::ErrorKind::UnexpectedEof => return output.flush(),
-            length => length?,
-        };
-        let mut sheet = vec![0; length as usize];
-        input.read_exact(&mut sheet)?;
-        let number = four(input)?;
-        let count = four(input)?;
-        let values: Vec<u64> = (0..count).map(|_| eight(input)).collect::<io::Result<_>>()?;
-        writeln!(output, "{}", line(&evaluation(&sheet, number, &values)))?;
-    }
+/// The line for one node and several sets.
+pub fn evaluations(sheet: &[u8], number: u32, sets: &[Vec<u64>]) -> String {
+    let answers: Vec<Answer> = sets.iter().map(|set| evaluation(sheet, number, set)).collect();
+    joined(answers.iter())
 }

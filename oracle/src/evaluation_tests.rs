@@ -3,12 +3,14 @@
 
 use crate::c_judge::{self, Outcome};
 use crate::encode::encode;
-use crate::evaluate::{answer, evaluation, frame_case, lent, line, place_of_node, wrapped};
+use crate::evaluate::{evaluation, evaluations, lent, line, place_of_node, wrapped};
 use crate::evaluation_nodes::{made, TABLE};
 use crate::evaluation_vectors::{self, Case};
 use crate::format::*;
+use crate::frames::{ask_evaluation, serve, Question};
 use crate::random::Random;
 use crate::reader::read;
+use crate::stored::{List, EVALUATION};
 use crate::types;
 use crate::write::write;
 use std::collections::BTreeSet;
@@ -79,15 +81,19 @@ fn the_place_of_a_node_is_where_those_before_it_end() {
 fn answers_follow_cases() {
     let mut input = Vec::new();
     let good = sheet("node\nvars s8\ncond (< v0 0:1)");
-    frame_case(&mut input, &good, 0, &[0x80]);
-    frame_case(&mut input, &good, 0, &[0x7F, 5]);
-    frame_case(&mut input, &good, 2, &[]);
-    frame_case(&mut input, &[], 0, &[1, 2]);
+    ask_evaluation(&mut input, &good, 0, &[&[0x80], &[0x7F], &[0x100]]);
+    ask_evaluation(&mut input, &good, 0, &[&[0x7F, u64::MAX]]);
+    ask_evaluation(&mut input, &good, 2, &[&[]]);
+    ask_evaluation(&mut input, &[], 0, &[&[1, 2]]);
+    let line = |question: &Question| match question {
+        Question::Evaluation { sheet, node, sets } => Ok(evaluations(sheet, *node, sets)),
+        _ => panic!("an evaluation was asked for"),
+    };
     let mut output = Vec::new();
-    answer(&mut input.as_slice(), &mut output).unwrap();
-    let expected = "holds\nfails\nrefused 13 at 0\nrefused 1 at 0\n";
+    serve(&mut input.as_slice(), &mut output, line).unwrap();
+    let expected = "holds, fails, refused 16 at 0\nfails\nrefused 13 at 0\nrefused 1 at 0\n";
     assert_eq!(String::from_utf8(output).unwrap(), expected);
-    assert!(answer(&mut &input[..input.len() - 1], &mut Vec::new()).is_err());
+    assert!(serve(&mut &input[..input.len() - 1], &mut Vec::new(), line).is_err());
 }
 
 #[test]
@@ -132,13 +138,13 @@ fn for_c(case: &Case) -> Option<(Node, Outcome)> {
     Some((sheet.nodes[case.number as usize].clone(), outcome))
 }
 
-const STORED: &str = include_str!("../vectors/evaluation.txt");
-
 #[test]
 fn stored_cases_hold_by_the_compiler_too() {
-    let cases = evaluation_vectors::cases(STORED).unwrap();
+    let cases = evaluation_vectors::cases(EVALUATION).unwrap();
     assert!(cases.len() > 10_000);
-    assert!(evaluation_vectors::encode(&cases).len() < 3_000_000);
+    let mut list = List::default();
+    evaluation_vectors::store(&cases, &mut list);
+    assert!(list.frames.len() < 300_000);
     if !c_judge::present() {
         return;
     }
@@ -163,7 +169,7 @@ fn stored_cases_hold_by_the_compiler_too() {
 
 #[test]
 fn stored_cases_have_every_refusal() {
-    let cases = evaluation_vectors::cases(STORED).unwrap();
+    let cases = evaluation_vectors::cases(EVALUATION).unwrap();
     let numbers: BTreeSet<u8> =
         cases.iter().filter_map(|case| case.expected.err()).map(|refusal| refusal.number).collect();
     let all: Vec<u8> = numbers.into_iter().collect();

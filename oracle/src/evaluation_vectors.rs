@@ -1,9 +1,10 @@
-//! Stored cases for the evaluation, turned into one binary file for a replay
-//! program. README.md describes their text.
+//! Stored cases of the evaluation. README.md describes their text.
 
-use crate::evaluate::{evaluation, frame_case, line, wrapped, Answer};
+use crate::evaluate::{evaluation, joined, line, wrapped, Answer};
 use crate::format::{number_of, TYPES};
+use crate::frames::ask_evaluation;
 use crate::reader::Refusal;
+use crate::stored::List;
 use crate::vectors::{sheet_of, sources, Source};
 use crate::words::parse_number;
 
@@ -175,17 +176,15 @@ fn check(case: &Case) -> Result<(), String> {
     Err(format!("case {}: expected {expected}, the evaluator says {found}", case.name))
 }
 
-/// Each case as the test program reads it, and behind it number of the refusal
-/// (0: none), its place, and 1 for holds, of 4 bytes each.
-pub fn encode(cases: &[Case]) -> Vec<u8> {
-    let mut out = Vec::new();
-    for case in cases {
-        frame_case(&mut out, &case.sheet, case.number, &case.values);
-        let answer = match case.expected {
-            Ok(holds) => [0, 0, u32::from(holds)],
-            Err(refusal) => [u32::from(refusal.number), refusal.place as u32, 0],
-        };
-        answer.iter().for_each(|number| out.extend_from_slice(&number.to_le_bytes()));
+/// Adds the cases with the answers expected of them: one frame for those that
+/// follow each other with the same sheet, node and number of values.
+pub fn store(cases: &[Case], list: &mut List) {
+    let alike = |a: &Case, b: &Case| {
+        (a.number, a.values.len()) == (b.number, b.values.len()) && a.sheet == b.sheet
+    };
+    for group in cases.chunk_by(alike) {
+        let sets: Vec<&[u64]> = group.iter().map(|case| case.values.as_slice()).collect();
+        ask_evaluation(&mut list.frames, &group[0].sheet, group[0].number, &sets);
+        list.lines.push(joined(group.iter().map(|case| &case.expected)));
     }
-    out
 }

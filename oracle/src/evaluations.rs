@@ -1,18 +1,14 @@
 //! The comparison of a test program's evaluation with the C compiler and with
 //! the evaluator here.
-//!
-//! The program reads cases from standard input: length of the sheet (4), the
-//! sheet, number of the node (4), number of values (4), the values (8 each),
-//! all little-endian; it writes one line for each.
 
 use crate::c_judge::{self, Outcome};
-use crate::compare::run;
 use crate::damage;
 use crate::dump;
 use crate::encode::encode;
-use crate::evaluate::{evaluation, frame_case, lent_bits, line, place_of_node};
+use crate::evaluate::{evaluation, lent_bits, line, place_of_node, COMMA};
 use crate::evaluation_nodes::{made, number, Made};
 use crate::format::*;
+use crate::frames::{ask_evaluation, run};
 use crate::generate::{Generator, SMALL};
 use crate::random::Random;
 use crate::reader::{read, Refusal};
@@ -97,9 +93,9 @@ impl Tally {
         text().lines().chain([values]).for_each(|line| println!("    {line}"));
     }
 
-    fn too_many(&mut self, lines: usize, cases: usize) {
-        if lines > cases {
-            println!("the program wrote {} lines too many", lines - cases);
+    fn too_many(&mut self, what: &str, written: usize, due: usize) {
+        if written > due {
+            println!("the program wrote {} {what} too many", written - due);
             self.differences += 1;
         }
     }
@@ -162,25 +158,46 @@ pub fn compare(program: &[String], cases: u64, seed: u64) -> io::Result<bool> {
     Ok(tally.differences == 0)
 }
 
+/// The program's answers, as many for each frame as it has sets.
+fn answers(
+    program: &[String],
+    input: Vec<u8>,
+    sets: &[usize],
+    tally: &mut Tally,
+) -> io::Result<Vec<String>> {
+    let lines = run(program, input)?;
+    let mut list = Vec::new();
+    for (number, count) in sets.iter().enumerate() {
+        let line = lines.get(number).map_or("no line", String::as_str);
+        let words: Vec<&str> = line.split(COMMA).collect();
+        tally.too_many("answers", words.len(), *count);
+        let word = |at: usize| words.get(at).copied().unwrap_or("no answer").to_string();
+        list.extend((0..*count).map(word));
+    }
+    tally.too_many("lines", lines.len(), sets.len());
+    Ok(list)
+}
+
 fn batch(program: &[String], items: &[Item], tally: &mut Tally) -> io::Result<()> {
     let nodes: Vec<&Node> = items.iter().map(|item| &item.node).collect();
     let mut runs: Vec<(usize, &[u64])> = Vec::new();
-    let mut input = Vec::new();
+    let (mut input, mut counts) = (Vec::new(), Vec::new());
     for (number, item) in items.iter().enumerate() {
-        for values in &item.sets {
-            runs.push((number, values));
-            frame_case(&mut input, &item.sheet, item.number, values);
+        // The sets of one frame have as many values.
+        for sets in item.sets.chunk_by(|a, b| a.len() == b.len()) {
+            let sets: Vec<&[u64]> = sets.iter().map(Vec::as_slice).collect();
+            runs.extend(sets.iter().map(|values| (number, *values)));
+            ask_evaluation(&mut input, &item.sheet, item.number, &sets);
+            counts.push(sets.len());
         }
     }
     let outcomes = c_judge::judge(&nodes, &runs)?;
-    let lines = run(program, input)?;
-    tally.too_many(lines.len(), runs.len());
+    let answers = answers(program, input, &counts, tally)?;
     for (at, (number, values)) in runs.iter().enumerate() {
         let item = &items[*number];
         let due = c_line(outcomes[at], item.place);
         let own = line(&evaluation(&item.sheet, item.number, values));
-        let found = lines.get(at).map_or("no line", String::as_str);
-        let answers = [("C", due.as_str()), ("evaluator", &own), ("program", found)];
+        let answers = [("C", due.as_str()), ("evaluator", &own), ("program", &answers[at])];
         let alone = || Sheet { nodes: vec![item.node.clone()], ..Default::default() };
         tally.case(&answers, || dump::text(&alone()), &shown_values(values));
     }
@@ -251,13 +268,13 @@ fn compare_refusals(
 ) -> io::Result<()> {
     let list: Vec<_> = (0..cases).map(|index| refusal_case(seed, index)).collect();
     let mut input = Vec::new();
-    list.iter().for_each(|(sheet, number, values)| frame_case(&mut input, sheet, *number, values));
-    let lines = run(program, input)?;
-    tally.too_many(lines.len(), list.len());
+    for (sheet, number, values) in &list {
+        ask_evaluation(&mut input, sheet, *number, &[values]);
+    }
+    let found = answers(program, input, &vec![1; list.len()], tally)?;
     for (at, (sheet, number, values)) in list.iter().enumerate() {
         let own = line(&evaluation(sheet, *number, values));
-        let found = lines.get(at).map_or("no line", String::as_str);
-        let answers = [("evaluator", own.as_str()), ("program", found)];
+        let answers = [("evaluator", own.as_str()), ("program", &found[at])];
         let run = format!("node {number}, {}", shown_values(values));
         tally.case(&answers, || dump::dump(sheet), &run);
     }

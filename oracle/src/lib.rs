@@ -15,6 +15,7 @@ mod evaluation_tests;
 pub mod evaluation_vectors;
 pub mod evaluations;
 pub mod format;
+pub mod frames;
 pub mod generate;
 pub mod held;
 pub mod limits;
@@ -25,6 +26,7 @@ pub mod replay;
 pub mod rich;
 pub mod rich_nodes;
 pub mod silicon;
+pub mod stored;
 #[cfg(test)]
 mod tests;
 pub mod types;

@@ -1,8 +1,9 @@
 //! The commands. README.md has an example of each.
 
+use oracle::frames::Question;
 use oracle::{
-    bench, compare, dump, evaluate, evaluation_vectors, evaluations, processor, reader, replay,
-    vectors, verdicts, words, write,
+    bench, compare, dump, evaluate, evaluations, frames, processor, reader, stored, verdicts,
+    words, write,
 };
 use std::io::{self, BufReader, BufWriter, Read, Write};
 use std::process::ExitCode;
@@ -12,21 +13,17 @@ const USAGE: &str = "usage:
   oracle fields TEXT               the start and name of each field
   oracle dump SHEET                sheet bytes to text, or the refusal
   oracle read SHEET                the reader's answer in one line
-  oracle answer                    answers framed sheets from standard input
+  oracle answer                    answers frames of reading and of evaluation
   oracle compare --program PATH [--sheets N] [--seed S]
   oracle compare --stub [--sheets N] [--seed S]
-  oracle vectors TEXT OUT          stored cases to one binary file
   oracle bench [--program PATH] [--save SHEET]
-  oracle replay-blocks OUT --given PATH
-                                   stored answers on blocks to one binary file
+  oracle stored FRAMES LINES --given PATH
+                                   the stored cases, and the lines due
   oracle verdicts --program PATH --given PATH [--sheets N] [--seed S] [--blocks-only]
   oracle verdicts --stub --given PATH [--sheets N] [--seed S] [--blocks-only]
   oracle processor --program PATH [--runs N] [--seed S]
   oracle evaluations --program PATH [--cases N] [--seed S]
   oracle evaluations --stub [--cases N] [--seed S]
-  oracle evaluate-answer           answers cases of evaluation from standard input
-  oracle evaluation-vectors TEXT OUT
-                                   stored cases of evaluation to one binary file
 A file name of - is standard input or output.";
 
 type Outcome = Result<bool, String>;
@@ -52,14 +49,11 @@ fn command(args: &[String]) -> Outcome {
         ["read", sheet] => read_sheet(sheet),
         ["answer"] => answer(),
         ["compare", options @ ..] => compare_program(&Options::parse(options)?),
-        ["vectors", text, out] => make_vectors(text, out),
         ["bench", options @ ..] => bench_reader(&Options::parse(options)?),
         ["processor", options @ ..] => judge_by_processor(&Options::parse(options)?),
-        ["replay-blocks", out, options @ ..] => make_replay(out, &Options::parse(options)?),
+        ["stored", frames, lines, options @ ..] => store(frames, lines, &Options::parse(options)?),
         ["verdicts", options @ ..] => compare_verdicts(&Options::parse(options)?),
         ["evaluations", options @ ..] => compare_evaluations(&Options::parse(options)?),
-        ["evaluate-answer"] => answer_evaluations(),
-        ["evaluation-vectors", text, out] => make_evaluation_vectors(text, out),
         _ => Err(USAGE.to_string()),
     }
 }
@@ -107,13 +101,13 @@ impl Options {
         Ok(options)
     }
 
-    /// The program to run; `--stub` stands for this program's command `own`.
-    fn command(&self, own: &str) -> Result<Option<Vec<String>>, String> {
+    /// The program to run; `--stub` stands for this program's own answers.
+    fn command(&self) -> Result<Option<Vec<String>>, String> {
         if !self.stub {
             return Ok(self.program.as_ref().map(|path| vec![path.clone()]));
         }
         let path = std::env::current_exe().map_err(|error| error.to_string())?;
-        Ok(Some(vec![path.to_string_lossy().to_string(), own.to_string()]))
+        Ok(Some(vec![path.to_string_lossy().to_string(), "answer".to_string()]))
     }
 }
 
@@ -172,12 +166,17 @@ fn read_sheet(sheet: &str) -> Outcome {
 fn answer() -> Outcome {
     let mut input = BufReader::new(io::stdin());
     let mut output = BufWriter::new(io::stdout());
-    compare::answer(&mut input, &mut output).map_err(|error| error.to_string())?;
+    let line = |question: &Question| match question {
+        Question::Reading(sheet) => Ok(reader::line(&reader::read(sheet))),
+        Question::Blocks(_) => Err(io::Error::other("the given source answers this")),
+        Question::Evaluation { sheet, node, sets } => Ok(evaluate::evaluations(sheet, *node, sets)),
+    };
+    frames::serve(&mut input, &mut output, line).map_err(|error| error.to_string())?;
     Ok(true)
 }
 
 fn compare_program(options: &Options) -> Outcome {
-    let Some(program) = options.command("answer")? else {
+    let Some(program) = options.command()? else {
         return Err(format!("compare needs --program or --stub\n{USAGE}"));
     };
     let (sheets, seed) = (options.sheets.unwrap_or(100_000), options.seed.unwrap_or(1));
@@ -215,7 +214,7 @@ fn judge_by_processor(options: &Options) -> Outcome {
 }
 
 fn compare_evaluations(options: &Options) -> Outcome {
-    let Some(program) = options.command("evaluate-answer")? else {
+    let Some(program) = options.command()? else {
         return Err(format!("evaluations needs --program or --stub\n{USAGE}"));
     };
     let (cases, seed) = (options.cases.unwrap_or(200_000), options.seed.unwrap_or(1));
@@ -223,42 +222,22 @@ fn compare_evaluations(options: &Options) -> Outcome {
     compared.map_err(|error| format!("{}: {error}", program[0]))
 }
 
-fn answer_evaluations() -> Outcome {
-    let mut input = BufReader::new(io::stdin());
-    let mut output = BufWriter::new(io::stdout());
-    evaluate::answer(&mut input, &mut output).map_err(|error| error.to_string())?;
-    Ok(true)
-}
-
-fn store(out: &str, cases: usize, bytes: &[u8]) -> Outcome {
-    output(out, bytes)?;
-    println!("{cases} cases, {} bytes", bytes.len());
-    Ok(true)
-}
-
-fn make_vectors(text: &str, out: &str) -> Outcome {
-    let cases = vectors::cases(&input_text(text)?)?;
-    store(out, cases.len(), &vectors::encode(&cases))
-}
-
-fn make_evaluation_vectors(text: &str, out: &str) -> Outcome {
-    let cases = evaluation_vectors::cases(&input_text(text)?)?;
-    store(out, cases.len(), &evaluation_vectors::encode(&cases))
-}
-
-fn make_replay(out: &str, options: &Options) -> Outcome {
+fn store(frames: &str, lines: &str, options: &Options) -> Outcome {
     let Some(given) = &options.given else {
-        return Err(format!("replay-blocks needs --given\n{USAGE}"));
+        return Err(format!("stored needs --given\n{USAGE}"));
     };
-    let Some((cases, bytes)) = replay::make(std::slice::from_ref(given))? else {
-        println!("{}", verdicts::ABSENT);
-        return Ok(false);
-    };
-    store(out, cases, &bytes)
+    let list = stored::list(std::slice::from_ref(given))?;
+    output(frames, &list.frames)?;
+    output(lines, list.text().as_bytes())?;
+    println!("{} lines, {} bytes of frames", list.lines.len(), list.frames.len());
+    if list.open > 0 {
+        println!("{}; {} lines are open", verdicts::ABSENT, list.open);
+    }
+    Ok(list.open == 0)
 }
 
 fn bench_reader(options: &Options) -> Outcome {
-    let program = options.command("answer")?;
+    let program = options.command()?;
     let outcome = bench::bench(program.as_deref(), options.save.as_deref());
     outcome.map_err(|error| error.to_string())?;
     Ok(true)

@@ -3,10 +3,11 @@
 //! verdicts on the same instructions are held against what the jumps did.
 
 use crate::assemble::{encodings, Code};
-use crate::compare::{frame, hex, run};
+use crate::compare::hex;
 use crate::dump;
 use crate::encode::encode;
 use crate::format::*;
+use crate::frames::{ask_blocks, run};
 use crate::random::Random;
 use crate::silicon::{Runner, Start, FIRST_JUMP, JUMPS, MISSING};
 use crate::verdicts::{alone, Line, ABSENT};
@@ -333,7 +334,7 @@ pub fn judge(program: &[String], runs: u64, seed: u64) -> io::Result<bool> {
         let end = bodies.min(first + BATCH);
         let list: Vec<Body> = (first..end).map(|index| body(seed, index)).collect();
         let mut input = Vec::new();
-        list.iter().for_each(|body| frame(&mut input, &encode(&sheet(body)).bytes));
+        list.iter().for_each(|body| ask_blocks(&mut input, &encode(&sheet(body)).bytes));
         let lines = run(program, input)?;
         if lines.first().is_some_and(|line| line == ABSENT) {
             println!("{ABSENT}");

@@ -1,14 +1,15 @@
-//! Stored answers of the given source on blocks, for a replay program: cases
-//! worked out by hand, and generated sheets.
+//! Stored cases of the verdicts on blocks: sheets with answers worked out by
+//! hand, and generated sheets with those of the given source.
 
-use crate::compare::{frame, run};
+use crate::frames::{ask_blocks, run};
 use crate::reader::read;
 use crate::rich;
+use crate::stored::List;
 use crate::vectors::{sheet_of, sources, Source};
 use crate::verdicts::{Line, ABSENT};
 
-/// Generated sheets in the file, and the seed that they depend on.
-const SHEETS: usize = 1_000;
+/// Generated sheets in the list, and the seed that they depend on.
+const SHEETS: usize = 300;
 const SEED: u64 = 2_016;
 
 /// Longer sheets are passed over.
@@ -47,46 +48,43 @@ fn generated() -> Vec<Case> {
     fit.take(SHEETS).map(case).collect()
 }
 
-/// The cases worked out by hand.
-pub const BY_HAND: &str = include_str!("../vectors/blocks.txt");
-
-/// The file's content: the cases by hand and the generated ones, with the
-/// answers of the given source; nothing where it is absent. A case by hand
-/// that it answers otherwise is an error.
-pub fn make(given: &[String]) -> Result<Option<(usize, Vec<u8>)>, String> {
-    let mut list = cases(BY_HAND)?;
-    list.extend(generated());
+/// Adds the cases by hand and the generated ones with the answers of the given
+/// source. A case by hand that it answers otherwise is an error. Where it is
+/// absent, only the cases by hand have lines.
+pub fn store(by_hand: &[Case], given: &[String], list: &mut List) -> Result<(), String> {
+    let generated = generated();
+    let cases: Vec<&Case> = by_hand.iter().chain(&generated).collect();
     let mut input = Vec::new();
-    list.iter().for_each(|case| frame(&mut input, &case.sheet));
-    let lines = run(given, input).map_err(|error| format!("{}: {error}", given[0]))?;
+    cases.iter().for_each(|case| ask_blocks(&mut input, &case.sheet));
+    let lines = run(given, input.clone()).map_err(|error| format!("{}: {error}", given[0]))?;
+    list.frames.extend(input);
     if lines.first().is_some_and(|line| line == ABSENT) {
-        return Ok(None);
+        list.lines.extend(by_hand.iter().filter_map(|case| case.expected.as_deref().map(due)));
+        list.open = generated.len();
+        return Ok(());
     }
-    let mut out = Vec::new();
-    for (number, case) in list.iter().enumerate() {
+    for (number, case) in cases.iter().enumerate() {
         let line = lines.get(number).map_or("no line", String::as_str);
-        out.extend(record(case, line).map_err(|error| format!("case {}: {error}", case.name))?);
+        let answers = answers(case, line);
+        let answers =
+            answers.ok_or_else(|| format!("case {}: the given source says '{line}'", case.name))?;
+        list.lines.push(due(&answers));
     }
-    Ok(Some((list.len(), out)))
+    Ok(())
 }
 
-/// Length (4), sheet, number of blocks (4), a byte for each block.
-fn record(case: &Case, line: &str) -> Result<Vec<u8>, String> {
+/// The line due for these answers.
+fn due(answers: &[String]) -> String {
+    answers.iter().fold("blocks".to_string(), |line, answer| format!("{line} {answer}"))
+}
+
+/// The given source's answers on the blocks, if they are those expected and all
+/// of them are answers on blocks.
+fn answers(case: &Case, line: &str) -> Option<Vec<String>> {
     let Line::Answers { blocks, .. } = Line::parse(line) else {
-        return Err(format!("the given source says '{line}'"));
+        return None;
     };
-    if case.expected.as_ref().is_some_and(|expected| *expected != blocks) {
-        return Err(format!("the given source says '{line}'"));
-    }
-    let mut out = Vec::new();
-    frame(&mut out, &case.sheet);
-    out.extend_from_slice(&(blocks.len() as u32).to_le_bytes());
-    for answer in &blocks {
-        out.push(code(answer).ok_or_else(|| format!("the given source says '{answer}'"))?);
-    }
-    Ok(out)
-}
-
-fn code(answer: &str) -> Option<u8> {
-    ["n", "u", "a1", "v1"].iter().position(|known| *known == answer).map(|code| code as u8)
+    let known = |answer: &String| ["n", "u", "a1", "v1"].contains(&answer.as_str());
+    let right = case.expected.as_ref().is_none_or(|expected| *expected == blocks);
+    (right && blocks.iter().all(known)).then_some(blocks)
 }

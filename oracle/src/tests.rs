@@ -1,12 +1,13 @@
 //! Tests of writer, reader, dump, generator and stored cases.
 
-use crate::compare::{answer, frame};
 use crate::damage;
 use crate::dump::{dump, text};
 use crate::encode::{encode, place_of_cut};
 use crate::format::*;
+use crate::frames::{ask_reading, serve, Question};
 use crate::generate::{Generator, SMALL};
 use crate::reader::{line, read};
+use crate::stored::{self, List};
 use crate::types;
 use crate::vectors;
 use crate::write::write;
@@ -163,9 +164,12 @@ fn reader_takes_the_lower_number_at_one_byte() {
 
 #[test]
 fn stored_cases_hold() {
-    let cases = vectors::cases(include_str!("../vectors/reading.txt")).unwrap();
+    let cases = vectors::cases(stored::READING).unwrap();
     assert!(cases.len() > 500);
-    assert!(vectors::encode(&cases).len() < 3_000_000);
+    let mut list = List::default();
+    vectors::store(&cases, &mut list);
+    assert_eq!(list.lines.len(), cases.len());
+    assert!(list.frames.len() < 500_000);
 }
 
 #[test]
@@ -236,11 +240,15 @@ fn dump_of_a_refused_sheet_marks_the_place() {
 #[test]
 fn answers_follow_framed_sheets() {
     let mut input = Vec::new();
-    frame(&mut input, &bytes_of(FIRST));
-    frame(&mut input, &[]);
-    frame(&mut input, &[0; 7]);
+    ask_reading(&mut input, &bytes_of(FIRST));
+    ask_reading(&mut input, &[]);
+    ask_reading(&mut input, &[0; 7]);
     let mut output = Vec::new();
-    answer(&mut input.as_slice(), &mut output).unwrap();
+    serve(&mut input.as_slice(), &mut output, |question| match question {
+        Question::Reading(sheet) => Ok(line(&read(sheet))),
+        _ => panic!("reading was asked for"),
+    })
+    .unwrap();
     let expected = "accepted 2 1 0 at 2 42 60\nrefused 1 at 0\nrefused 1 at 6\n";
     assert_eq!(String::from_utf8(output).unwrap(), expected);
 }

@@ -1,12 +1,14 @@
-//! Stored cases: a text of named sheets with the answers expected of them,
-//! turned into one binary file for a replay program.
+//! Stored cases of reading: a text of named sheets with the answers expected of
+//! them.
 //!
 //! A case is `case NAME`, then `expect accepted I B N` or
 //! `expect refused N at P`, then the sheet as text or as lines `hex ...`.
 //! `expect accepted I B N and cuts` adds the sheet cut at every length.
 
 use crate::encode::{place_of_cut, Field};
+use crate::frames::ask_reading;
 use crate::reader::{line, read};
+use crate::stored::List;
 use crate::words::parse_hex;
 use crate::write::write_from;
 
@@ -151,22 +153,10 @@ fn check(case: &Case) -> Result<(), String> {
     Err(format!("case {name}: expected {expected:?}, the reader says {}", line(&answer)))
 }
 
-/// For each case: length, sheet, number (0 accepted), place, three counts.
-/// Numbers are little-endian, 4 bytes each.
-pub fn encode(cases: &[Case]) -> Vec<u8> {
-    let mut out = Vec::new();
+/// Adds the cases with the reader's lines, which were checked.
+pub fn store(cases: &[Case], list: &mut List) {
     for case in cases {
-        let (number, place, counts) = match case.expected {
-            Expected::Accepted(counts) => (0, 0, counts),
-            Expected::Refused { number, place } => (number, place, [0; 3]),
-        };
-        out.extend_from_slice(&(case.sheet.len() as u32).to_le_bytes());
-        out.extend_from_slice(&case.sheet);
-        out.extend_from_slice(&u32::from(number).to_le_bytes());
-        out.extend_from_slice(&place.to_le_bytes());
-        for count in counts {
-            out.extend_from_slice(&u32::from(count).to_le_bytes());
-        }
+        ask_reading(&mut list.frames, &case.sheet);
+        list.lines.push(line(&read(&case.sheet)));
     }
-    out
 }

@@ -12,6 +12,7 @@ use crate::reader::read;
 use crate::replay;
 use crate::rich;
 use crate::silicon::{Runner, Start, FIRST_JUMP, JUMPS, MISSING};
+use crate::stored;
 use crate::verdicts::Line;
 use crate::write::write;
 
@@ -77,7 +78,7 @@ fn lines_are_taken_apart() {
 
 #[test]
 fn cases_by_hand_are_accepted_and_have_an_answer_for_each_block() {
-    let cases = replay::cases(replay::BY_HAND).unwrap();
+    let cases = replay::cases(stored::BLOCKS).unwrap();
     assert!(cases.len() > 50);
     for case in cases {
         let sheet = read(&case.sheet).unwrap().sheet;

@@ -12,9 +12,9 @@
 //! of docs/DIFFERENCES.md and the refusals that it does not have. The second
 //! answers are the ones due; where they are not the first, that is counted.
 
-use crate::compare::{frame, run};
 use crate::dump;
 use crate::format::{Block, Sheet};
+use crate::frames::{ask_blocks, run};
 use crate::reader::read;
 use crate::rich;
 use std::collections::BTreeMap;
@@ -147,7 +147,7 @@ pub fn compare(job: &Job) -> io::Result<bool> {
 
 fn answers(program: &[String], sheets: &[Vec<u8>]) -> io::Result<Vec<String>> {
     let mut input = Vec::new();
-    sheets.iter().for_each(|sheet| frame(&mut input, sheet));
+    sheets.iter().for_each(|sheet| ask_blocks(&mut input, sheet));
     run(program, input)
 }
 

@@ -1,81 +1,148 @@
-// For test programs: sheets from standard input, each behind its length, and words and numbers to standard output.
+// For test programs: frames from standard input, the numbers in them, and words and numbers to standard output. A frame is
+// its length in 4 bytes and that many bytes; every number has its lowest byte first.
+use libc::STDERR_FILENO;
 use libc::STDIN_FILENO;
 use libc::STDOUT_FILENO;
 ghost use mathlib.Core.Path.{_≡_};
 ghost use lib.ListN.{length};
+ghost use Rattle.test_io.specs.Frame.{Fits, statusOf};
 
-pub fn word(text: &[u8]) {
-    io::write_all(STDOUT_FILENO, text);
+// How a program ends.
+pub enum Ending {
+    // every frame was answered
+    Whole,
+    // the input ends inside a frame, or a frame inside what it must have
+    Cut,
+    // a frame is longer than the room for it, or than what it must have
+    TooLong,
+    TooManyValues,
+    // the frame's first byte is no operation's number
+    NoOperation,
+    // the system did not give the input, or did not take the output
+    Unread,
+    Unwritten,
+}
+
+// What comes next: a frame of that length at the front of the room, or the end.
+pub enum Next {
+    Frame(usize),
+    Over(Ending),
+}
+
+// Whether all of it was written.
+pub fn word(text: &[u8]) -> bool {
+    io::write_all(STDOUT_FILENO, text)
 }
 
 // A space and the number.
-pub fn number(n: u64) {
-    word(b" ");
-    io::print_decimal(STDOUT_FILENO, n);
+pub fn number(n: u64) -> bool {
+    word(b" ") & io::print_decimal(STDOUT_FILENO, n)
 }
 
-// Room for the longest sheet that is read.
+fn complain(text: &[u8]) {
+    io::write_all(STDERR_FILENO, text);
+}
+
+// Says on standard error why a program ends too early, and gives its exit status.
+pub fn status(e: Ending) -> u32
+    ensures { λ r. ⌜ r ≡ statusOf e ⌝ }
+{
+    match e {
+        Ending::Whole => 0,
+        Ending::Cut => {
+            complain(b"the input is cut\n");
+            1
+        }
+        Ending::TooLong => {
+            complain(b"a frame is too long\n");
+            2
+        }
+        Ending::TooManyValues => {
+            complain(b"a frame has too many values\n");
+            3
+        }
+        Ending::NoOperation => {
+            complain(b"a frame names no operation\n");
+            4
+        }
+        Ending::Unread => {
+            complain(b"the input cannot be read\n");
+            5
+        }
+        Ending::Unwritten => {
+            complain(b"the output cannot be written\n");
+            6
+        }
+    }
+}
+
+// Room for the longest frame that is read.
 pub fn room() -> [u8; 1048576]
     ensures { λ r. ⌜ 1048576 ≡ length r ⌝ }
 {
     [0; 1048576]
 }
 
-// A sheet of that length at the front of the room, or the end of the input.
-pub enum Next {
-    Sheet(usize),
-    End,
+// The byte at that place, and 0 past the end.
+pub fn byte(s: &[u8], at: usize) -> u8 {
+    if at < s.len() { s[at] } else { 0 }
 }
 
-fn size(a: u8, b: u8, c: u8, d: u8) -> usize {
-    (a as usize) + 256 * ((b as usize) + 256 * ((c as usize) + 256 * (d as usize)))
+// The first four bytes, as a number.
+pub fn four(s: &[u8]) -> u32 {
+    let a = byte(s, 0) as u32;
+    let b = byte(s, 1) as u32;
+    let c = byte(s, 2) as u32;
+    let d = byte(s, 3) as u32;
+    a + 256 * (b + 256 * (c + 256 * d))
 }
 
-// A number in four bytes, little-endian, read from standard input; the largest where the input ends.
-pub fn next_number() -> usize {
-    let mut head = [0u8; 4];
-    let got = io::read_full(STDIN_FILENO, &mut head);
-    if got < 4 {
-        return usize::MAX;
+// The first eight bytes.
+pub fn eight(s: &[u8]) -> u64 {
+    let low = four(s) as u64;
+    if s.len() < 4 {
+        return low;
     }
-    size(head[0], head[1], head[2], head[3])
+    low + 4294967296 * (four(&s[4..]) as u64)
 }
 
-// Reads n bytes to the front of the room, and says whether there were as many, and room for them.
-pub fn next_bytes(buf: &mut [u8], n: usize) -> bool {
-    if n > buf.len() {
-        return false;
+// The frame of that length, at the front of the room.
+fn body(buf: &mut [u8], n: usize) -> Next
+    ensures { λ r. ⌜ Fits r (length (now (buf .exit))) ⌝ }
+{
+    if buf.len() < n {
+        return Next::Over(Ending::TooLong);
     }
     let had = io::read_full(STDIN_FILENO, &mut buf[..n]);
-    n <= had
-}
-
-pub fn next_sheet(buf: &mut [u8]) -> Next {
-    let n = next_number();
-    if next_bytes(buf, n) {
-        Next::Sheet(n)
-    } else {
-        Next::End
+    if had < n {
+        return Next::Over(Ending::Cut);
     }
+    Next::Frame(n)
 }
 
-// A number in eight bytes; 0 where the input ends.
-fn next_long() -> u64 {
-    let mut head = [0u8; 8];
-    let got = io::read_full(STDIN_FILENO, &mut head);
-    if got < 8 {
-        return 0;
+// Fills the head, as a frame whose length is known. The input may end before its first byte, and not after.
+fn fill(head: &mut [u8]) -> Next {
+    let got = libc::read(STDIN_FILENO, head);
+    if got < 0 {
+        return Next::Over(Ending::Unread);
     }
-    let low = size(head[0], head[1], head[2], head[3]);
-    let high = size(head[4], head[5], head[6], head[7]);
-    (low % 4294967296) as u64 + 4294967296 * ((high % 4294967296) as u64)
+    if got == 0 {
+        return Next::Over(Ending::Whole);
+    }
+    let n = io::count(got, head);
+    if io::read_full(STDIN_FILENO, &mut head[n..]) < head.len() - n {
+        return Next::Over(Ending::Cut);
+    }
+    Next::Frame(head.len())
 }
 
-// Reads numbers of eight bytes until the list is full.
-pub fn next_values(values: &mut [u64]) {
-    let mut i: usize = 0;
-    while i < values.len() {
-        values[i] = next_long();
-        i += 1;
+pub fn next_frame(buf: &mut [u8]) -> Next
+    ensures { λ r. ⌜ Fits r (length (now (buf .exit))) ⌝ }
+{
+    let mut head = [0u8; 4];
+    let filled = fill(&mut head);
+    match filled {
+        Next::Over(e) => Next::Over(e),
+        Next::Frame(_) => body(buf, four(&head) as usize),
     }
 }

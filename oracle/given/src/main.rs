@@ -1,5 +1,5 @@
-//! The given source as a program: it reads framed sheets from standard input
-//! and writes for each the verdicts on its blocks and nodes, or the refusal.
+//! The given source as a program: it reads frames from standard input and
+//! writes for each the verdicts on its blocks and nodes, or the refusal.
 //! oracle/README.md says what is changed in the source.
 
 #[cfg(given_source)]
@@ -42,7 +42,7 @@ use std::io;
 use std::process::ExitCode;
 
 const USAGE: &str = "usage: given [--differences]
-Sheets are read from standard input, each as a length of 4 bytes and the bytes.
+Frames for the verdicts on blocks are read from standard input.
 --differences judges nodes with the entries of docs/DIFFERENCES.md and with the
 refusals 10 and 11.";
 
@@ -66,11 +66,15 @@ fn main() -> ExitCode {
 #[cfg(given_source)]
 fn run(differences: bool) -> io::Result<()> {
     use engine::Nodes;
+    use oracle::frames::Question;
     guard::hush();
     let nodes = if differences { Nodes::WithDifferences } else { Nodes::AsTheyAre };
     let mut input = io::BufReader::new(io::stdin());
     let mut output = io::BufWriter::new(io::stdout());
-    oracle::compare::serve(&mut input, &mut output, |sheet| engine::line(sheet, nodes))
+    oracle::frames::serve(&mut input, &mut output, |question| match question {
+        Question::Blocks(sheet) => Ok(engine::line(sheet, nodes)),
+        _ => Err(io::Error::other("the given source judges blocks and nodes alone")),
+    })
 }
 
 #[cfg(not(given_source))]

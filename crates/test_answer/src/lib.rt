@@ -1,0 +1,241 @@
+// The operations as a program that a comparison can ask: frames from standard input, a line for each to standard output.
+// A frame's first byte is the operation's number: 0 reading, 1 the verdicts on all blocks, 2 the evaluation. A sheet makes
+// up the rest of a frame of 0 and 1. In a frame of 2 stand, in 4 bytes each, the node's number, how many values a set has,
+// how many sets there are, and the sheet's length; then the sheet, and the sets: a value is its number of bytes (0 to 8)
+// and those bytes.
+use evaluate_node::Evaluation;
+use pomthija::BlockAnswer;
+use sheet::Reading;
+use sheet::Sheet;
+use test_io::Ending;
+use test_io::Next;
+
+fn refused(k: u64, at: usize) -> bool {
+    test_io::word(b"refused")
+        & test_io::number(k)
+        & test_io::word(b" at")
+        & test_io::number(at as u64)
+}
+
+// The three counts, and where the records start.
+fn accepted(sheet: Sheet) -> bool {
+    let i = sheet.instructions;
+    let b = sheet.blocks;
+    let n = sheet.nodes;
+    test_io::word(b"accepted")
+        & test_io::number(i.count)
+        & test_io::number(b.count)
+        & test_io::number(n.count)
+        & test_io::word(b" at")
+        & test_io::number(i.at as u64)
+        & test_io::number(b.at as u64)
+        & test_io::number(n.at as u64)
+}
+
+fn say_reading(s: &[u8]) -> bool {
+    let reading = sheet::read(s);
+    match reading {
+        Reading::Accepted(sheet) => accepted(sheet),
+        Reading::Refused(k, at) => refused(k, at),
+    }
+}
+
+// a1 always, v1 never, u undecided, n no branch.
+fn say_verdict(a: BlockAnswer) -> bool {
+    match a {
+        BlockAnswer::NoBranch => test_io::word(b" n"),
+        BlockAnswer::Undecided => test_io::word(b" u"),
+        BlockAnswer::Always => test_io::word(b" a1"),
+        BlockAnswer::Never => test_io::word(b" v1"),
+        BlockAnswer::Refused(k, at) => test_io::word(b" ") & refused(k, at),
+    }
+}
+
+// Whether the number past the last block is refused as it should be; if not, its answer is one too many on the line.
+fn past_the_last(a: BlockAnswer) -> bool {
+    if let BlockAnswer::Refused(k, at) = a {
+        if (k == 13) & (at == 0) {
+            return true;
+        }
+    }
+    say_verdict(a)
+}
+
+fn say_blocks(s: &[u8], n: u64) -> bool {
+    let mut written = test_io::word(b"blocks");
+    let mut i: u64 = 0;
+    while i < n {
+        written = written & say_verdict(pomthija::block_verdict(s, i));
+        i += 1;
+    }
+    written & past_the_last(pomthija::block_verdict(s, n))
+}
+
+fn say_verdicts(s: &[u8]) -> bool {
+    let reading = sheet::read(s);
+    match reading {
+        Reading::Accepted(sheet) => {
+            let blocks = sheet.blocks;
+            say_blocks(s, blocks.count)
+        }
+        Reading::Refused(k, at) => refused(k, at),
+    }
+}
+
+// Commas stand between the evaluations of one line.
+fn comma(number: u32) -> bool {
+    if number > 0 {
+        return test_io::word(b", ");
+    }
+    true
+}
+
+fn say_evaluation(e: Evaluation) -> bool {
+    match e {
+        Evaluation::Holds => test_io::word(b"holds"),
+        Evaluation::Fails => test_io::word(b"fails"),
+        Evaluation::Refused(k, at) => refused(k, at),
+    }
+}
+
+// Ends the line.
+fn line(written: bool) -> Ending {
+    if written & test_io::word(b"\n") {
+        Ending::Whole
+    } else {
+        Ending::Unwritten
+    }
+}
+
+// A value and the place behind it, or the end of the bytes.
+enum Taken {
+    Value(u64, usize),
+    Cut,
+}
+
+// The value at that place.
+fn take_value(s: &[u8], at: usize) -> Taken {
+    if at >= s.len() {
+        return Taken::Cut;
+    }
+    let n = test_io::byte(s, at) as usize;
+    let from = at + 1;
+    if n > 8 {
+        return Taken::Cut;
+    }
+    if n > s.len() - from {
+        return Taken::Cut;
+    }
+    let next = from + n;
+    Taken::Value(test_io::eight(&s[from..next]), next)
+}
+
+// Where a set that was read ends.
+enum Set {
+    To(usize),
+    Cut,
+}
+
+// Fills the list with the values from that place on.
+fn take_set(s: &[u8], from: usize, values: &mut [u64]) -> Set {
+    let mut at = from;
+    let mut i: usize = 0;
+    while i < values.len() {
+        let taken = take_value(s, at);
+        match taken {
+            Taken::Cut => return Set::Cut,
+            Taken::Value(v, next) => {
+                values[i] = v;
+                at = next;
+            }
+        }
+        i += 1;
+    }
+    Set::To(at)
+}
+
+// The evaluation on each set, all on one line.
+fn say_sets(sheet: &[u8], node: u64, sets: &[u8], count: u32, values: &mut [u64]) -> Ending {
+    let mut at: usize = 0;
+    let mut i: u32 = 0;
+    while i < count {
+        let set = take_set(sets, at, values);
+        match set {
+            Set::Cut => return Ending::Cut,
+            Set::To(next) => at = next,
+        }
+        if !(comma(i) & say_evaluation(pomthija::evaluation(sheet, node, values))) {
+            return Ending::Unwritten;
+        }
+        i += 1;
+    }
+    if at < sets.len() {
+        return Ending::TooLong;
+    }
+    line(true)
+}
+
+// The frame of an evaluation, behind the operation's number.
+fn answer_evaluation(s: &[u8], values: &mut [u64]) -> Ending {
+    if s.len() < 16 {
+        return Ending::Cut;
+    }
+    let node = test_io::four(s) as u64;
+    let each = test_io::four(&s[4..]) as usize;
+    let count = test_io::four(&s[8..]);
+    let end = 16 + test_io::four(&s[12..]) as usize;
+    if values.len() < each {
+        return Ending::TooManyValues;
+    }
+    if s.len() < end {
+        return Ending::Cut;
+    }
+    say_sets(&s[16..end], node, &s[end..], count, &mut values[..each])
+}
+
+fn answer(s: &[u8], values: &mut [u64]) -> Ending {
+    if s.len() == 0 {
+        return Ending::Cut;
+    }
+    match s[0] {
+        0 => line(say_reading(&s[1..])),
+        1 => line(say_verdicts(&s[1..])),
+        2 => answer_evaluation(&s[1..], values),
+        _ => Ending::NoOperation,
+    }
+}
+
+// Answers the next frame. The rest is over where there is none, or where it has no answer.
+fn answer_next(buf: &mut [u8], values: &mut [u64]) -> Next {
+    let next = test_io::next_frame(buf);
+    match next {
+        Next::Over(e) => Next::Over(e),
+        Next::Frame(n) => {
+            let e = answer(&buf[..n], values);
+            match e {
+                Ending::Whole => Next::Frame(n),
+                _ => Next::Over(e),
+            }
+        }
+    }
+}
+
+fn answer_all(buf: &mut [u8], values: &mut [u64]) -> Ending {
+    let mut turns = u64::MAX;
+    while turns > 0 {
+        let next = answer_next(buf, values);
+        if let Next::Over(e) = next {
+            return e;
+        }
+        turns -= 1;
+    }
+    Ending::Whole
+}
+
+// The program; a host's `main` returns the number as its exit status.
+#[no_mangle]
+pub extern "C" fn pomthija_test_answer() -> u32 {
+    let mut buf = test_io::room();
+    let mut values = [0u64; 256];
+    test_io::status(answer_all(&mut buf, &mut values))
+}

@@ -1,0 +1,33 @@
+//! The stored cases as one list for a replay program: the frames that it reads
+//! and the lines that are due. README.md describes their texts.
+
+use crate::{evaluation_vectors, replay, vectors};
+
+pub const READING: &str = include_str!("../vectors/reading.txt");
+pub const EVALUATION: &str = include_str!("../vectors/evaluation.txt");
+pub const BLOCKS: &str = include_str!("../vectors/blocks.txt");
+
+#[derive(Default)]
+pub struct List {
+    pub frames: Vec<u8>,
+    pub lines: Vec<String>,
+    /// Frames at the end whose lines are not known.
+    pub open: usize,
+}
+
+impl List {
+    /// The lines as the program writes them.
+    pub fn text(&self) -> String {
+        self.lines.iter().map(|line| format!("{line}\n")).collect()
+    }
+}
+
+/// All cases, checked. The generated ones come last; their lines are the given
+/// source's, and open where it is absent.
+pub fn list(given: &[String]) -> Result<List, String> {
+    let mut list = List::default();
+    vectors::store(&vectors::cases(READING)?, &mut list);
+    evaluation_vectors::store(&evaluation_vectors::cases(EVALUATION)?, &mut list);
+    replay::store(&replay::cases(BLOCKS)?, given, &mut list)?;
+    Ok(list)
+}
