@@ -1,0 +1,4 @@
+pub mod Parity
+pub mod LowBit
+pub mod Exact
+pub mod Decide
