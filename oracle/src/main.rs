@@ -1,10 +1,10 @@
 //! The commands. README.md has an example of each.
 
-use oracle::frames::Question;
-use oracle::{
-    bench, compare, dump, evaluate, evaluations, frames, processor, reader, stored, verdicts,
-    words, write,
-};
+use oracle::comparisons::frames::{self, Question};
+use oracle::comparisons::{evaluations, processor, reading, reading_time, verdicts};
+use oracle::judges::{evaluator, reader};
+use oracle::sheets::{from_text, to_text, words};
+use oracle::stored;
 use std::io::{self, BufReader, BufWriter, Read, Write};
 use std::process::ExitCode;
 
@@ -133,8 +133,8 @@ fn output(path: &str, bytes: &[u8]) -> Result<(), String> {
     outcome.map_err(|error| format!("{path}: {error}"))
 }
 
-fn written(path: &str) -> Result<write::Written, String> {
-    write::write(&input_text(path)?).map_err(|error| format!("{path}, {error}"))
+fn written(path: &str) -> Result<from_text::Written, String> {
+    from_text::write(&input_text(path)?).map_err(|error| format!("{path}, {error}"))
 }
 
 fn write_sheet(text: &str, sheet: &str) -> Outcome {
@@ -154,7 +154,7 @@ fn fields(text: &str) -> Outcome {
 }
 
 fn dump_sheet(sheet: &str) -> Outcome {
-    output("-", dump::dump(&input(sheet)?).as_bytes())?;
+    output("-", to_text::dump(&input(sheet)?).as_bytes())?;
     Ok(true)
 }
 
@@ -169,7 +169,9 @@ fn answer() -> Outcome {
     let line = |question: &Question| match question {
         Question::Reading(sheet) => Ok(reader::line(&reader::read(sheet))),
         Question::Blocks(_) => Err(io::Error::other("the given source answers this")),
-        Question::Evaluation { sheet, node, sets } => Ok(evaluate::evaluations(sheet, *node, sets)),
+        Question::Evaluation { sheet, node, sets } => {
+            Ok(evaluator::evaluations(sheet, *node, sets))
+        }
     };
     frames::serve(&mut input, &mut output, line).map_err(|error| error.to_string())?;
     Ok(true)
@@ -180,7 +182,7 @@ fn compare_program(options: &Options) -> Outcome {
         return Err(format!("compare needs --program or --stub\n{USAGE}"));
     };
     let (sheets, seed) = (options.sheets.unwrap_or(100_000), options.seed.unwrap_or(1));
-    compare::compare(&program, sheets, seed).map_err(|error| format!("{}: {error}", program[0]))
+    reading::compare(&program, sheets, seed).map_err(|error| format!("{}: {error}", program[0]))
 }
 
 fn compare_verdicts(options: &Options) -> Outcome {
@@ -238,7 +240,7 @@ fn store(frames: &str, lines: &str, options: &Options) -> Outcome {
 
 fn bench_reader(options: &Options) -> Outcome {
     let program = options.command()?;
-    let outcome = bench::bench(program.as_deref(), options.save.as_deref());
+    let outcome = reading_time::bench(program.as_deref(), options.save.as_deref());
     outcome.map_err(|error| error.to_string())?;
     Ok(true)
 }

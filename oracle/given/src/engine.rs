@@ -8,10 +8,10 @@ use crate::lift::Statement;
 use crate::opaque;
 use crate::pipeline::Disasm;
 use crate::register::RegisterId;
-use oracle::format as sheet;
-use oracle::held::{substitute, Rule};
-use oracle::limits;
-use oracle::reader;
+use oracle::sheets::syntax as sheet;
+use oracle::judges::substitution::{substitute, Rule};
+use oracle::judges::node_limits;
+use oracle::judges::reader;
 
 /// Records of a substituted expression beyond which a node is not judged:
 /// the given source has no limit, and expressions may double at each step.
@@ -109,7 +109,7 @@ fn operand(operand: sheet::Operand) -> Operand {
 /// `-` where the source was not run to its end.
 fn node_answer(node: &sheet::Node, nodes: Nodes) -> String {
     let differ = nodes == Nodes::WithDifferences;
-    if let (true, Some(number)) = (differ, limits::refusal(node)) {
+    if let (true, Some(number)) = (differ, node_limits::refusal(node)) {
         return format!("r{number}");
     }
     let rule = if differ { Rule::Ours } else { Rule::Given };

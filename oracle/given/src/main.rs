@@ -66,12 +66,12 @@ fn main() -> ExitCode {
 #[cfg(given_source)]
 fn run(differences: bool) -> io::Result<()> {
     use engine::Nodes;
-    use oracle::frames::Question;
+    use oracle::comparisons::frames::Question;
     guard::hush();
     let nodes = if differences { Nodes::WithDifferences } else { Nodes::AsTheyAre };
     let mut input = io::BufReader::new(io::stdin());
     let mut output = io::BufWriter::new(io::stdout());
-    oracle::frames::serve(&mut input, &mut output, |question| match question {
+    oracle::comparisons::frames::serve(&mut input, &mut output, |question| match question {
         Question::Blocks(sheet) => Ok(engine::line(sheet, nodes)),
         _ => Err(io::Error::other("the given source judges blocks and nodes alone")),
     })
@@ -79,6 +79,6 @@ fn run(differences: bool) -> io::Result<()> {
 
 #[cfg(not(given_source))]
 fn run(_differences: bool) -> io::Result<()> {
-    println!("{}", oracle::verdicts::ABSENT);
+    println!("{}", oracle::comparisons::verdicts::ABSENT);
     io::copy(&mut io::stdin(), &mut io::sink()).map(|_| ())
 }

@@ -1,7 +1,7 @@
 //! The given source on rows worked out by hand.
 
 use crate::engine::{line, Nodes};
-use oracle::write::write;
+use oracle::sheets::from_text::write;
 
 fn bytes_of(text: &str) -> Vec<u8> {
     write(text).unwrap_or_else(|error| panic!("{error}")).bytes

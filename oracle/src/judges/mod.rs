@@ -1,0 +1,9 @@
+//! What says which answer is due, and shares nothing with the product.
+
+pub mod assembler;
+pub mod c_compiler;
+pub mod evaluator;
+pub mod node_limits;
+pub mod processor;
+pub mod reader;
+pub mod substitution;
