@@ -145,17 +145,17 @@ some-same e = cc
 type-same : {t u : StaticType} → some t ≡ some u → t ≡ u
 type-same e = cc
 
-entry-of : (l : List ℕ) (n : ℕ) → n < length l → entry l n ≡ some (getD l n 0)
+entry-of : (l : List ℕ) (n d : ℕ) → n < length l → entry l n ≡ some (getD l n d)
 unfolding entry
-entry-of [] n lt = absurd (omega arith)
-entry-of (x ∷ l) zero lt = refl
-entry-of (x ∷ l) (suc n) lt = entry-of l n (omega arith)
+entry-of [] n d lt = absurd (omega arith)
+entry-of (x ∷ l) zero d lt = refl
+entry-of (x ∷ l) (suc n) d lt = entry-of l n d (omega arith)
 
-code-of : (l : List ℕ) → All (λ t. t ≤ 9) l → (n : ℕ) → getD l n 0 < 10
+code-of : (l : List ℕ) → All (λ t. t ≤ 9) l → (n d : ℕ) → n < length l → getD l n d < 10
 unfolding All
-code-of [] few n = omega arith
-code-of (x ∷ l) few zero = omega (arith, few .0)
-code-of (x ∷ l) few (suc n) = code-of l (few .1) n
+code-of [] few n d lt = absurd (omega arith)
+code-of (x ∷ l) few zero d lt = omega (arith, few .0)
+code-of (x ∷ l) few (suc n) d lt = code-of l (few .1) n d (omega arith)
 
 once : (c : ℕ) (t : StaticType) → c < 10 → entry typesByCode c ≡ some t → t ≡ ofCode c
 once c t lt e = type-same (sym e ∙ code-entry c lt)
@@ -218,10 +218,19 @@ module _ (types : List ℕ) (few : All (λ t. t ≤ 9) types) where
   constant-typed w x (inr (inr (inl e))) = rw e record { below = omega arith; has = ofConstant }
   constant-typed w x (inr (inr (inr e))) = rw e record { below = omega arith; has = ofConstant }
 
+  -- whatever stands for a variable that is not declared
+  variable-typed : (n d : ℕ) → n < length types → Typed (variable n) (getD types n d)
+  variable-typed n d lt = let small = code-of types few n d lt in record { below = small; has = ofVariable (entry-of types n d lt) (code-entry (getD types n d) small) }
+
+  variable-once : (n d code : ℕ) (t : StaticType) → n < length types → entry types n ≡ some code → entry typesByCode code ≡ some t → t ≡ ofCode (getD types n d)
+  variable-once n d code t lt p q =
+      let same : code ≡ getD types n d = some-same (sym p ∙ entry-of types n d lt) in
+      rw (← same) (once code t (rw same (code-of types few n d lt)) q)
+
   -- every valid expression has the type whose code is computed
   typed : (e : Expr) → ValidTree (length types) e → Typed e (typeOf types e)
   unfolding typeOf ValidTree typesByCode
-  typed (variable n) v = record { below = code-of types few n; has = ofVariable (entry-of types n v) (code-entry (getD types n 0) (code-of types few n)) }
+  typed (variable n) v = variable-typed n _ v
   typed (constant w x) v = constant-typed w x (v .width)
   typed conditionTrue v = record { below = omega arith; has = ofTrue }
   typed conditionFalse v = record { below = omega arith; has = ofFalse }
@@ -237,9 +246,7 @@ module _ (types : List ℕ) (few : All (λ t. t ≤ 9) types) where
   -- and no other
   typed-once : {e : Expr} {t : StaticType} → HasType types e t → ValidTree (length types) e → t ≡ ofCode (typeOf types e)
   unfolding typeOf ValidTree typesByCode
-  typed-once (ofVariable {n = n} {code = code} {t = t} p q) v =
-      let same : code ≡ getD types n 0 = some-same (sym p ∙ entry-of types n v) in
-      rw (← same) (once code t (rw same (code-of types few n)) q)
+  typed-once (ofVariable {n = n} {code = code} {t = t} p q) v = variable-once n _ code t v p q
   typed-once (ofConstant {w = w}) v = constant-once w (v .width)
   typed-once ofTrue v = refl
   typed-once ofFalse v = refl
@@ -258,32 +265,23 @@ variable-valid : (n v : ℕ) → v < n → ValidTree n (variable v)
 unfolding ValidTree
 variable-valid n v lt = lt
 
-variable-type : (types : List ℕ) (v : ℕ) → typeOf types (variable v) ≡ getD types v 0
-unfolding typeOf
-variable-type types v = refl
-
 -- an assignment's value has its variable's type where reading's test says so
 typed-assignment : (types : List ℕ) → All (λ t. t ≤ 9) types → (v : ℕ) (e : Expr) → ValidAssignment types v e → TypedAssignment types v e
 typed-assignment types few v e h =
+    let there = variable-valid (length types) v (h .declared) in
     let t = typed types few e (h .value .tree) in
+    let u = typed types few (variable v) there in
     let one = typed-once types few (h .ofValue) (h .value .tree) in
-    let two = typed-once types few (h .ofVariable) (variable-valid (length types) v (h .declared)) in
-    let same : sameType (typeOf types e) (getD types v 0) ≡ alike (ofCode (typeOf types e)) (ofCode (getD types v 0)) = same-code _ _ (t .below) (code-of types few v) in
-    let alike′ : alike (ofCode (typeOf types e)) (ofCode (getD types v 0)) ≡ true = rw (← one, ← variable-type types v, ← two) (alike-self (h .type)) in
-    record { declared = h .declared; value = h .value; typed = same ∙ alike′ }
+    let two = typed-once types few (h .ofVariable) there in
+    let same = same-code (typeOf types e) (typeOf types (variable v)) (t .below) (u .below) in
+    record { declared = h .declared; value = h .value; typed = same ∙ rw (← one, ← two) (alike-self (h .type)) }
 
 valid-assignment : (types : List ℕ) → All (λ t. t ≤ 9) types → (v : ℕ) (e : Expr) → TypedAssignment types v e → ValidAssignment types v e
 valid-assignment types few v e h =
     let t = typed types few e (h .value .tree) in
-    let small = code-of types few v in
-    let same = alike-same (ofCode (typeOf types e)) (ofCode (getD types v 0)) (sym (same-code _ _ (t .below) small) ∙ h .typed) in
-    record {
-      declared = h .declared;
-      value = h .value;
-      type = ofCode (getD types v 0);
-      ofValue = has-as types few same (t .has);
-      ofVariable = ofVariable (entry-of types v (h .declared)) (code-entry (getD types v 0) small);
-    }
+    let u = typed types few (variable v) (variable-valid (length types) v (h .declared)) in
+    let same = alike-same (ofCode (typeOf types e)) (ofCode (typeOf types (variable v))) (sym (same-code (typeOf types e) (typeOf types (variable v)) (t .below) (u .below)) ∙ h .typed) in
+    record { declared = h .declared; value = h .value; type = ofCode (typeOf types (variable v)); ofValue = has-as types few same (t .has); ofVariable = u .has }
 
 typed-statement : (types : List ℕ) → All (λ t. t ≤ 9) types → (x : Statement) → ValidStatement types x → TypedStatement types x
 typed-statement types few (assignment v e) h = typed-assignment types few v e h
