@@ -4,7 +4,7 @@ use Prim.Native.Nat.{ℕ, _+_, _*_, _/_, _%_, _<_, _≤_}
 use mathlib.Core.Path.{_≡_, refl, sym, _∙_}
 use mathlib.Core.Logic.{_⊎_, inl, inr, ⊎-elim}
 use mathlib.Core.Option.{Option, none, some}
-use mathlib.Core.Bool.{Bool, true, false, not, _&&_, _||_}
+use mathlib.Core.Bool.{Bool, true, false, not, _&&_, _||_, or-true}
 use native.Mathlib.Omega.{arith}
 use lib.Dec.{eqb, leb}
 use borrow.Author.Tests.{eqb-true, eq-eqb, ne-eqb, not-false}
@@ -14,7 +14,7 @@ use Rattle.format.specs.Syntax.{Operand, Instruction, valueOf, meansOpti
 use Rattle.format.specs.Syntax.Operand.{reg, imm, mem}
 use Rattle.format.specs.Faults.{NeedsNone, NeedsTwo, NeedsOne, Modelled, Sound}
 use Rattle.format.specs.Faults.Modelled.{anyOperands, twoOperands, oneOperand}
-use Rattle.format.proofs.Tests.{Tests, of-eq, of-le, of-and, of-or, or-true, table, same-table}
+use Rattle.format.proofs.Tests.{both-false, never, Tests, of-eq, of-le, of-and, of-or, table, same-table}
 
 -- the mnemonics that need no operand, two, or one
 abbrev withNone : ℕ → Bool
@@ -70,9 +70,6 @@ needed i (anyOperands c n) = rw c (needs-any (i .first) (i .second) (i .mnemonic
 needed i (twoOperands c n a b) = rw (c, a .1, b .1, is-two (i .mnemonic) .passes n) (or-true (withNone (i .mnemonic)))
 needed i (oneOperand c n a b) = rw (c, a .1, b, is-one (i .mnemonic) .passes n) (or-true (withNone (i .mnemonic)))
 
-never : {X : Type 0} → false ≡ true → X
-never e = let z : _≡_ {A = ℕ} 0 1 = cc in absurd (omega arith)
-
 back : (i : Instruction) (call : Bool) (a b : Option Operand) → i .call ≡ call → i .first ≡ a → i .second ≡ b → needs call a b (i .mnemonic) ≡ true → Modelled i
 back i true a b c p q e = never e
 back i false none b c p q e = anyOperands c (is-none (i .mnemonic) .holds e)
@@ -109,11 +106,6 @@ fault-is call a b f m lt = same-table (judgedAt call a b f) (λ m. asked call a 
 or-false : (a b : Bool) → (a || b) ≡ false → (a ≡ false) × (b ≡ false)
 or-false true b e = (e, cc)
 or-false false b e = (refl, e)
-
--- two tests that hold, and what must then not
-both-false : (a b : Bool) → (a ≡ true → b ≡ false) → (a && b) ≡ false
-both-false true b h = h refl
-both-false false b h = refl
 
 after-true : (a b : Bool) → (a && b) ≡ false → a ≡ true → b ≡ false
 after-true a b e t = rw t at e

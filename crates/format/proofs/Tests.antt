@@ -1,9 +1,9 @@
 -- Tests as facts, and two functions of a number that agree wherever a table says so.
 use Prim.Native.Nat.{ℕ, zero, suc, _<_, _≤_}
-use mathlib.Core.Path.{_≡_, refl, sym, _∙_}
+use mathlib.Core.Path.{_≡_, refl}
 use mathlib.Core.Logic.{_⊎_, inl, inr, ⊎-elim}
 use mathlib.Core.List.{List, [], _∷_}
-use mathlib.Core.Bool.{Bool, true, false, not, _&&_, _||_}
+use mathlib.Core.Bool.{Bool, true, false, _&&_, _||_, or-true, false≢true}
 use native.Mathlib.Omega.{arith}
 use lib.Dec.{eqb, leb}
 use borrow.Author.Tests.{eqb-true, eqb-false, eq-eqb, leb-true, le-leb}
@@ -20,13 +20,13 @@ pub or-cases : (a b : Bool) → (a || b) ≡ true → (a ≡ true) ⊎ (b ≡ tr
 or-cases true b e = inl refl
 or-cases false b e = inr e
 
-pub or-true : (a : Bool) → (a || true) ≡ true
-or-true true = refl
-or-true false = refl
+-- a test that fails wherever another passes
+pub both-false : (a b : Bool) → (a ≡ true → b ≡ false) → (a && b) ≡ false
+both-false true b h = h refl
+both-false false b h = refl
 
-pub or-none : (a : Bool) → (a || false) ≡ true → a ≡ true
-or-none true e = refl
-or-none false e = e
+pub never : {X : Type 0} → false ≡ true → X
+never e = absurd (false≢true e)
 
 -- a test and what it tests
 pub record Tests (b : Bool) (P : Type 0) : Type 0 where

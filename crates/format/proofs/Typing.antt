@@ -2,9 +2,9 @@
 -- so what the definitions of reading give is compared with promotion and the common type number by number.
 use Prim.Native.Nat.{ℕ, zero, suc, _*_, _<_, _≤_}
 use mathlib.Core.Path.{_≡_, refl, sym, ap, _∙_}
-use mathlib.Core.Logic.{_⊎_, inl, inr, ⊎-elim}
+use mathlib.Core.Logic.{_⊎_, inl, inr}
 use mathlib.Core.List.{List, [], _∷_}
-use mathlib.Core.Option.{Option, none, some}
+use mathlib.Core.Option.{some}
 use mathlib.Core.Bool.{Bool, true, false, _&&_, cond}
 use native.Mathlib.Omega.{arith}
 use lib.Dec.{eqb, leb, ltb}
@@ -23,7 +23,7 @@ use Rattle.format.specs.Types.Promoted.{truth, narrow, wide}
 use Rattle.format.specs.Types.Common.{left, right, tie}
 use Rattle.format.specs.Types.HasType.{ofVariable, ofConstant, ofTrue, ofFalse, ofEffect, ofLoad, ofCast, ofArithmetic, ofShift, ofTest, ofTernary}
 use Rattle.format.specs.Sheet.{ValidAssignment, ValidStatement}
-use Rattle.format.proofs.Tests.{table, same-table}
+use Rattle.format.proofs.Tests.{never, table, same-table}
 use Rattle.format.proofs.Statements.{TypedAssignment, TypedStatement}
 
 -- promotion and the common type as functions
@@ -105,20 +105,17 @@ same-code c d lt few =
     d
     few
 
-not-true : {X : Type 0} → false ≡ true → X
-not-true e = let z : _≡_ {A = ℕ} 0 1 = cc in absurd (omega arith)
-
 alike-integer : (s r : Bool) (b d : ℕ) → (cond s r (cond r false true) && eqb b d) ≡ true
     → _≡_ {A = Integer} (record { signed = s; bits = b }) (record { signed = r; bits = d })
 alike-integer true true b d e = rw (eqb-true b d e)
-alike-integer true false b d e = not-true e
-alike-integer false true b d e = not-true e
+alike-integer true false b d e = never e
+alike-integer false true b d e = never e
 alike-integer false false b d e = rw (eqb-true b d e)
 
 alike-same : (t u : StaticType) → alike t u ≡ true → t ≡ u
 alike-same bool bool e = refl
-alike-same bool (integer u) e = not-true e
-alike-same (integer t) bool e = not-true e
+alike-same bool (integer u) e = never e
+alike-same (integer t) bool e = never e
 alike-same (integer t) (integer u) e = ap integer (alike-integer (t .signed) (u .signed) (t .bits) (u .bits) e)
 
 self-integer : (s : Bool) (b : ℕ) → (cond s s (cond s false true) && eqb b b) ≡ true
