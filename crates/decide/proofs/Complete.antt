@@ -17,8 +17,8 @@ use Rattle.poly.specs.Terms.{sum, product, toggle}
 use Rattle.poly.specs.Meaning.{bits, value}
 use Rattle.poly.proofs.Values.{value-sum, ascending-toggle, ascending-sum, ascending-product}
 use Rattle.poly.proofs.Unique.{one-everywhere}
-use Rattle.decide.specs.Parity.{Entry, Low, entered, numberIn, atomLow, lowOf, parity, difference}
-use Rattle.decide.specs.Parity.Entry.{adds, multiplies, joins, keeps, clears, atom}
+use Rattle.parity.specs.Parity.{Entry, Low, entered, numberIn, atomLow, lowOf, parity, difference}
+use Rattle.parity.specs.Parity.Entry.{adds, multiplies, joins, keeps, clears, atom}
 use Rattle.decide.specs.LowBit.{lowBit, AlwaysDiffer}
 use Rattle.decide.specs.Exact.{exactSides}
 use Rattle.decide.specs.Decide.{orElse, equalSides, onExact, oddSides, equality, decide}

@@ -13,7 +13,7 @@ use Rattle.verdict.specs.declared.Reason.{Reason}
 use Rattle.verdict.specs.declared.Reason.the-variants.{EqualSides, Truth, UnsignedZero, ExactSides, Parity, Halves}
 use Rattle.verdict.specs.declared.Verdict.{Verdict}
 use Rattle.verdict.specs.declared.Verdict.the-variants.{Always, Never, Undecided, NoBranch}
-use Rattle.decide.specs.Parity.{parity, rightLow, difference, few}
+use Rattle.parity.specs.Parity.{parity, rightLow, difference, few}
 use Rattle.decide.specs.Exact.{isConstant, exactFits, exactSides}
 
 -- always where it holds, never where it fails

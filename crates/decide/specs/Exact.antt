@@ -8,7 +8,7 @@ use Rattle.expr.specs.Codes.{opAnd, opMod, opMul, opSub, opXor}
 use Rattle.expr.specs.Tree.{Expr}
 use Rattle.expr.specs.Tree.Expr.{variable, constant, conditionTrue, conditionFalse, effect, load, cast, binary, ternary}
 use Rattle.expr.specs.Scan.{hasEffect, sameTree}
-use Rattle.decide.specs.Parity.{constantOf, parity}
+use Rattle.parity.specs.Parity.{constantOf, parity}
 
 -- a part is the constant k
 abbrev pub valued : Option ℕ → ℕ → Bool

@@ -9,8 +9,8 @@ use Rattle.expr.specs.Tree.{Expr}
 use Rattle.expr.specs.Tree.Expr.{variable, constant, conditionTrue, conditionFalse, effect, load, cast, binary, ternary}
 use Rattle.expr.specs.Scan.{hasEffect}
 use Rattle.value.specs.Evaluation.{ByPath, under}
-use Rattle.decide.specs.Parity.{Entry, entered}
-use Rattle.decide.specs.Parity.Entry.{adds, multiplies, joins, keeps, clears, atom}
+use Rattle.parity.specs.Parity.{Entry, entered}
+use Rattle.parity.specs.Parity.Entry.{adds, multiplies, joins, keeps, clears, atom}
 
 -- The bit of an atom: equal atoms have one bit, by their tree; each with an effect in it has its own, by its path (N13).
 abbrev pub atomBit : (Expr → Bool) → ByPath Bool → Expr → Bool

@@ -11,8 +11,8 @@ use Rattle.expr.specs.Tree.{Expr}
 use Rattle.expr.specs.Tree.Expr.{variable, constant, conditionTrue, conditionFalse, effect, load, cast, binary, ternary}
 use Rattle.expr.specs.Scan.{hasEffect, sameTree}
 use Rattle.expr.proofs.Sameness.{sameTree-true, sameTree-refl}
-use Rattle.decide.specs.Parity.{Entry, Low, entered, place, numberIn, noted, atomLow, lowOf, parity}
-use Rattle.decide.specs.Parity.Entry.{adds, multiplies, joins, keeps, clears, atom}
+use Rattle.parity.specs.Parity.{Entry, Low, entered, place, numberIn, noted, atomLow, lowOf, parity}
+use Rattle.parity.specs.Parity.Entry.{adds, multiplies, joins, keeps, clears, atom}
 
 -- a list that has another one at its front
 pub record Extends (l F : List Expr) : Type 0 where

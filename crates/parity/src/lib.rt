@@ -1,0 +1,1 @@
+// The low bit of a part as a polynomial over the low bits of its atoms.
