@@ -4,3 +4,5 @@ pub mod Alike
 pub mod Kept
 -- runs of a node, by its substituted condition
 pub mod Runs
+-- the pass that substitutes, and what it leaves in the lent words
+pub mod Backward

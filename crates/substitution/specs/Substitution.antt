@@ -92,9 +92,13 @@ pub data Substituted : Type 0 where
   tooLong : Substituted
   into : (condition : Expr) → Substituted
 
--- Refusal 10: a substituted value or condition has more than 128 records. (N26)
+-- how many records a substituted expression may have (N26)
+abbrev pub mostRecords : ℕ
+mostRecords = 128
+
+-- Refusal 10: a substituted value or condition has more. (N26)
 abbrev pub long : Expr → Bool
-long e = ltb 128 (size e)
+long e = ltb mostRecords (size e)
 
 -- The condition c after these statements, where h is held before them. Each assigned value is substituted, held to its limit whether it is then held or
 -- not; a statement with map 0 ends all that is held; the condition comes last. (N1, N2, N26)

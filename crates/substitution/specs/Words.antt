@@ -1,0 +1,40 @@
+-- What is held, in lent words: 32 places of 256 words each, a variable's at 256 times its number, and the length of what is held there, 0 where nothing is.
+use mathlib.Core.Path.{_≡_}
+use mathlib.Core.Bool.{true, false, cond, _&&_}
+use mathlib.Core.List.{List}
+use Prim.Native.Nat.{ℕ, _+_, _*_, _-_, _≤_, _<_}
+use lib.Dec.{eqb}
+use lib.ListN.{length, getD, take, drop}
+use Rattle.expr.specs.Codes.{kindVariable, kindLoad}
+use Rattle.expr.specs.Tree.{Expr, Wf, flat, treeOf, kindOf, argumentOf, arityOf}
+use Rattle.substitution.specs.declared.Written.{Written}
+use Rattle.substitution.specs.declared.Written.the-variants.{From, TooLong}
+use Rattle.substitution.specs.Substitution.{free, held, Table, long}
+
+-- what is held for variable v, in words
+abbrev pub slot : List ℕ → List ℕ → ℕ → List ℕ
+slot table lengths v = take (getD lengths v 0) (drop (256 * v) table)
+
+-- what is held
+unfoldable pub tableOf : List ℕ → List ℕ → Table
+tableOf table lengths v = cond (eqb (getD lengths v 0) 0) free (held (treeOf (slot table lengths v)))
+
+-- Each place has nothing, or one tree of at most 128 records.
+pub record Slots (table lengths : List ℕ) : Type 0 where
+  pub room : length table ≡ 32 * 256
+  pub places : length lengths ≡ 32
+  pub few : (v : ℕ) → getD lengths v 0 ≤ 256
+  pub whole : (v : ℕ) → 0 < getD lengths v 0 → Wf (slot table lengths v)
+
+-- The words of an expression fill the end of a lent list, or are more than it may have. (N26)
+abbrev pub Made : Written → List ℕ → Expr → Type 0
+Made (From at) out e = (drop at out ≡ flat e) × (long e ≡ false)
+Made TooLong out e = long e ≡ true
+
+-- Going back over the records, with `left` trees still to come that stand under a load: how many words of a held value stand for this record, 0 for none
+unfoldable pub heldWords : List ℕ → ℕ → ℕ → ℕ
+heldWords lengths left tag = cond (eqb left 0 && eqb (kindOf tag) kindVariable) (getD lengths (argumentOf tag) 0) 0
+
+-- and how many trees under a load are still to come behind it
+unfoldable pub pendingAfter : ℕ → ℕ → ℕ
+pendingAfter left tag = cond (eqb left 0) (cond (eqb (kindOf tag) kindLoad) 1 0) (left - 1 + arityOf tag)
