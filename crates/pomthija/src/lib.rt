@@ -3,38 +3,19 @@ use evaluate_node::Evaluation;
 use sheet::Reading;
 use sheet::Sheet;
 use sheet_field::Place;
-use verdict_block::BlockVerdict;
+use verdict::Answer;
+use verdict::Verdict;
 ghost use mathlib.Core.Path.{_≡_};
 ghost use Prim.Native.Nat.{_<_};
 ghost use Rattle.sheet.specs.declared.Reading.the-variants.{Accepted};
 ghost use Rattle.sheet.specs.Sheet.{readingOf};
+ghost use Rattle.verdict.specs.Numbers.{answerNumbers};
 ghost use Rattle.verdict_block.specs.Verdict.{verdictOn};
 ghost use Rattle.pomthija.specs.Evaluation.{inNumbers, evaluatedNode, evaluationAnswer, Returned};
-ghost use Rattle.pomthija.specs.Block.{blockAnswer, answerFor, withVerdict};
-
-pub enum BlockAnswer {
-    // the block does not end in a conditional branch
-    NoBranch,
-    Undecided,
-    Always,
-    Never,
-    // the refusal's number and place
-    Refused(u64, usize),
-}
-
-fn answer(v: BlockVerdict) -> BlockAnswer
-    ensures { λ r. ⌜ r ≡ withVerdict v ⌝ }
-{
-    match v {
-        BlockVerdict::NoBranch => BlockAnswer::NoBranch,
-        BlockVerdict::Undecided => BlockAnswer::Undecided,
-        BlockVerdict::Always => BlockAnswer::Always,
-        BlockVerdict::Never => BlockAnswer::Never,
-    }
-}
+ghost use Rattle.pomthija.specs.Block.{blockAnswer};
 
 // The block of that number of an accepted sheet.
-fn judge_block(s: &[u8], sheet: Sheet, number: u64) -> BlockVerdict
+fn judge_block(s: &[u8], sheet: Sheet, number: u64) -> Verdict
     requires { ⌜ readingOf (now s) ≡ Accepted sheet ⌝ }
     requires { ⌜ number < sheet .blocks .count ⌝ }
     ensures { λ r. ⌜ r ≡ verdictOn (now (s .entry)) number ⌝ }
@@ -48,18 +29,18 @@ fn judge_block(s: &[u8], sheet: Sheet, number: u64) -> BlockVerdict
 }
 
 // The verdict on the block of that number, from 0.
-pub fn block_verdict(s: &[u8], number: u64) -> BlockAnswer
-    ensures { λ r. ⌜ answerFor r ≡ blockAnswer (now (s .entry)) number ⌝ }
+pub fn block_verdict(s: &[u8], number: u64) -> Answer
+    ensures { λ r. ⌜ answerNumbers r ≡ blockAnswer (now (s .entry)) number ⌝ }
 {
     let reading = sheet::read(s);
     match reading {
-        Reading::Refused(k, at) => BlockAnswer::Refused(k, at),
+        Reading::Refused(k, at) => Answer::Refused(k, at),
         Reading::Accepted(sheet) => {
             let section = sheet.blocks;
             if number < section.count {
-                return answer(judge_block(s, sheet, number));
+                return Answer::Given(judge_block(s, sheet, number));
             }
-            BlockAnswer::Refused(13, 0)
+            Answer::Refused(13, 0)
         }
     }
 }

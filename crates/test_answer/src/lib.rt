@@ -4,11 +4,13 @@
 // how many sets there are, and the sheet's length; then the sheet, and the sets: a value is its number of bytes (0 to 8)
 // and those bytes.
 use evaluate_node::Evaluation;
-use pomthija::BlockAnswer;
 use sheet::Reading;
 use sheet::Sheet;
 use test_io::Ending;
 use test_io::Next;
+use verdict::Answer;
+use verdict::Reason;
+use verdict::Verdict;
 
 fn refused(k: u64, at: usize) -> bool {
     test_io::word(b"refused")
@@ -40,32 +42,50 @@ fn say_reading(s: &[u8]) -> bool {
     }
 }
 
-// a1 always, v1 never, u undecided, n no branch.
-fn say_verdict(a: BlockAnswer) -> bool {
+fn say_reason(r: Reason) -> bool {
+    match r {
+        Reason::Flags => test_io::word(b"1"),
+        Reason::EqualSides => test_io::word(b"2"),
+        Reason::Truth => test_io::word(b"3"),
+        Reason::UnsignedZero => test_io::word(b"4"),
+        Reason::ExactSides => test_io::word(b"5"),
+        Reason::Parity => test_io::word(b"6"),
+        Reason::Halves => test_io::word(b"7"),
+    }
+}
+
+// a always and v never, each with the reason's number; u undecided, n no branch.
+fn say_verdict(v: Verdict) -> bool {
+    match v {
+        Verdict::NoBranch => test_io::word(b" n"),
+        Verdict::Undecided => test_io::word(b" u"),
+        Verdict::Always(r) => test_io::word(b" a") & say_reason(r),
+        Verdict::Never(r) => test_io::word(b" v") & say_reason(r),
+    }
+}
+
+fn say_answer(a: Answer) -> bool {
     match a {
-        BlockAnswer::NoBranch => test_io::word(b" n"),
-        BlockAnswer::Undecided => test_io::word(b" u"),
-        BlockAnswer::Always => test_io::word(b" a1"),
-        BlockAnswer::Never => test_io::word(b" v1"),
-        BlockAnswer::Refused(k, at) => test_io::word(b" ") & refused(k, at),
+        Answer::Given(v) => say_verdict(v),
+        Answer::Refused(k, at) => test_io::word(b" ") & refused(k, at),
     }
 }
 
 // Whether the number past the last block is refused as it should be; if not, its answer is one too many on the line.
-fn past_the_last(a: BlockAnswer) -> bool {
-    if let BlockAnswer::Refused(k, at) = a {
+fn past_the_last(a: Answer) -> bool {
+    if let Answer::Refused(k, at) = a {
         if (k == 13) & (at == 0) {
             return true;
         }
     }
-    say_verdict(a)
+    say_answer(a)
 }
 
 fn say_blocks(s: &[u8], n: u64) -> bool {
     let mut written = test_io::word(b"blocks");
     let mut i: u64 = 0;
     while i < n {
-        written = written & say_verdict(pomthija::block_verdict(s, i));
+        written = written & say_answer(pomthija::block_verdict(s, i));
         i += 1;
     }
     written & past_the_last(pomthija::block_verdict(s, n))

@@ -1,52 +1,54 @@
 -- Blocks, by the answers that the contract of the block verdict speaks of: whatever the bytes, a decision is what every run
 -- of the block does, and it is given exactly where what is known forces the branch.
 use Prim.Native.Nat.{ℕ}
-use mathlib.Core.Path.{_≡_, refl, ap, subst, _∙_}
-use mathlib.Core.List.{List, [], _∷_}
+use mathlib.Core.Path.{_≡_, refl, sym, ap, subst, _∙_}
+use mathlib.Core.List.{List}
 use mathlib.Core.Logic.{_↔_}
 use mathlib.Core.Bool.{Bool, true, false}
 use native.Mathlib.Omega.{arith}
 use lib.Dec.{ltb}
-use lib.ListN.{getD}
-use Rattle.isa.specs.declared.Instruction.{Instruction}
 use Rattle.machine.specs.declared.State.{State}
 use Rattle.machine.specs.Registers.{nothingKnown}
-use Rattle.machine.specs.Rules.{stepped}
 use Rattle.concrete.specs.Concrete.{Processor, Choice}
 use Rattle.concrete.proofs.Arithmetic.{byTest}
 use Rattle.sheet.specs.declared.Sheet.{Sheet}
 use Rattle.sheet.specs.declared.Reading.{Reading}
 use Rattle.sheet.specs.declared.Reading.the-variants as reading
-use Rattle.sheet.specs.Sheet.{sheetAt, readingOf}
-use Rattle.verdict_block.specs.declared.BlockVerdict.{BlockVerdict}
-use Rattle.verdict_block.specs.declared.BlockVerdict.the-variants as verdict
-use Rattle.verdict_block.specs.Verdict.{within, verdictFrom, verdictOn, noBlock}
-use Rattle.pomthija.specs.Block.{Answer, judged, onReading, blockAnswer}
-use Rattle.pomthija.specs.Block.Answer.{noBranch, undecided, decision, refused}
-use Rattle.theorems.specs.Runs.{Outcome, runOn, NotAgainst, endFrom, endOf, Forced}
+use Rattle.sheet.specs.Sheet.{readingOf}
+use Rattle.verdict.specs.declared.Verdict.{Verdict}
+use Rattle.verdict.specs.declared.Verdict.the-variants as verdict
+use Rattle.verdict.specs.declared.Answer.{Answer}
+use Rattle.verdict.specs.declared.Answer.the-variants.{Given, Refused}
+use Rattle.verdict.specs.Numbers.{Numbers, answerNumbers}
+use Rattle.verdict.specs.Numbers.Numbers.{noBranch, undecided, decision, refused}
+use Rattle.verdict.proofs.Apart.{answers-apart}
+use Rattle.verdict_block.specs.declared.End.{End}
+use Rattle.verdict_block.specs.declared.Jump.{Jump}
+use Rattle.verdict_block.specs.declared.Jump.the-variants.{Conditional, Nothing}
+use Rattle.verdict_block.specs.Verdict.{judged, endOn, verdictOn}
+use Rattle.pomthija.specs.Block.{onReading, blockAnswer}
+use Rattle.theorems.specs.Runs.{Outcome, runOn, NotAgainst, Forced}
 use Rattle.theorems.specs.Runs.Outcome.{jumped}
-use Rattle.theorems.specs.Runs.AtEnd.{branch}
 use Rattle.theorems.proofs.Sound.{blocks-right}
 use Rattle.theorems.proofs.Forced.{saying, blocks-forced}
 
 -- always is 1, never is 0; the reason of a flag verdict is 1
-abbrev pub said : Bool → Answer
+abbrev pub said : Bool → Numbers
 said true = decision 1 1
 said false = decision 0 1
 
-judged-said : (v : BlockVerdict) (b : Bool) → judged v ≡ said b → v ≡ saying b
-judged-said verdict.Always true e = refl
-judged-said verdict.Never false e = refl
-judged-said verdict.Always false e = cc
-judged-said verdict.Never true e = cc
-judged-said verdict.NoBranch true e = cc
-judged-said verdict.NoBranch false e = cc
-judged-said verdict.Undecided true e = cc
-judged-said verdict.Undecided false e = cc
+saying-said : (b : Bool) → answerNumbers (Given (saying b)) ≡ said b
+saying-said true = refl
+saying-said false = refl
 
-not-refused : {X : Type 0} (k at : ℕ) (b : Bool) → refused k at ≡ said b → X
-not-refused k at true e = let z : _≡_ {A = ℕ} 0 1 = cc in absurd (omega arith)
-not-refused k at false e = let z : _≡_ {A = ℕ} 0 1 = cc in absurd (omega arith)
+answer-is : (a : Answer) (b : Bool) → answerNumbers a ≡ said b → a ≡ Given (saying b)
+answer-is a b e = answers-apart a (Given (saying b)) (e ∙ sym (saying-said b))
+
+not-refused : {X : Type 0} {k at : ℕ} {v : Verdict} → Refused k at ≡ Given v → X
+not-refused e = let z : _≡_ {A = ℕ} 0 1 = cc in absurd (omega arith)
+
+same-verdict : {v w : Verdict} → Given v ≡ Given w → v ≡ w
+same-verdict e = cc
 
 -- a decision comes from an accepted sheet, and is the verdict on that block
 record Decision (s : List ℕ) (number : ℕ) (b : Bool) : Type 0 where
@@ -56,14 +58,14 @@ record Decision (s : List ℕ) (number : ℕ) (b : Bool) : Type 0 where
 
 decided-by : (s : List ℕ) (number : ℕ) (b : Bool) → blockAnswer s number ≡ said b → Decision s number b
 unfolding blockAnswer
-decided-by s number b e = go (readingOf s) refl e
+decided-by s number b e = go (readingOf s) refl (answer-is _ b e)
   where
-    go : (r : Reading) → readingOf s ≡ r → onReading r s number ≡ said b → Decision s number b
-    go (reading.Refused k at) q h = not-refused k at b h
+    go : (r : Reading) → readingOf s ≡ r → onReading r s number ≡ Given (saying b) → Decision s number b
+    go (reading.Refused k at) q h = not-refused h
     go (reading.Accepted sheet) q h =
         byTest (ltb number (sheet .blocks .count))
-        (λ t. record { sheet = sheet; read = q; is = judged-said (verdictOn s number) b (rw t at h) })
-        (λ t. not-refused 13 0 b (rw t at h))
+        (λ t. record { sheet = sheet; read = q; is = same-verdict (rw t at h) })
+        (λ t. not-refused (rw t at h))
 
 against : (b : Bool) (o : Outcome) → NotAgainst (saying b) o → o ≡ jumped b
 against true o h = h
@@ -75,75 +77,57 @@ pub answers-right : (s : List ℕ) (number : ℕ) (b : Bool) → blockAnswer s n
 answers-right s number b e start free last =
     let d = decided-by s number b e in
     against b (runOn s number start free last)
-    (subst (λ (v : BlockVerdict). NotAgainst v (runOn s number start free last)) (d .is)
+    (subst (λ (v : Verdict). NotAgainst v (runOn s number start free last)) (d .is)
     (blocks-right s (d .sheet) (d .read) number start free last))
 
 -- ---- forced
-
--- the instructions end in a conditional branch
-record Branch (s : State) (l : List Instruction) : Type 0 where
-  known : State
-  mnemonic : ℕ
-  ends : endFrom s l ≡ branch known mnemonic
-
-not-saying : {X : Type 0} (b : Bool) → verdict.NoBranch ≡ saying b → X
-not-saying true e = let z : _≡_ {A = ℕ} 0 1 = cc in absurd (omega arith)
-not-saying false e = let z : _≡_ {A = ℕ} 0 1 = cc in absurd (omega arith)
-
--- only a branch is decided
-decided-branch : (s : State) (l : List Instruction) (b : Bool) → verdictFrom s l ≡ saying b → Branch s l
-unfolding verdictFrom endFrom
-decided-branch s [] b e = not-saying b e
-decided-branch s (i ∷ []) b e =
-    byTest (i .branch)
-    (λ t. record { known = s; mnemonic = i .mnemonic; ends = rw t })
-    (λ t. not-saying b (rw t at e))
-decided-branch s (i ∷ j ∷ l) b e =
-    let r = decided-branch (stepped s i) (j ∷ l) b e in
-    record { known = r .known; mnemonic = r .mnemonic; ends = r .ends }
 
 -- the block of that number ends in a flag branch, and what is known there forces it one way
 pub record ForcedEnd (s : List ℕ) (number : ℕ) (b : Bool) : Type 0 where
   pub known : State
   pub mnemonic : ℕ
-  pub ends : endOf s number ≡ branch known mnemonic
+  pub ends : endOn s number nothingKnown ≡ record { known = known; jump = Conditional mnemonic }
   pub forces : Forced known mnemonic b
 
 -- the answer is no refusal
-abbrev pub Answered : Answer → Type 0
+abbrev pub Answered : Numbers → Type 0
 Answered noBranch = Unit {0}
 Answered undecided = Unit {0}
 Answered (decision value reason) = Unit {0}
 Answered (refused k at) = ⊥
 
+not-saying : {X : Type 0} (b : Bool) → verdict.NoBranch ≡ saying b → X
+not-saying true e = let z : _≡_ {A = ℕ} 0 1 = cc in absurd (omega arith)
+not-saying false e = let z : _≡_ {A = ℕ} 0 1 = cc in absurd (omega arith)
+
 -- an answer that is always (never) comes from a block that ends so
 pub answer-forces : (s : List ℕ) (number : ℕ) (b : Bool) → blockAnswer s number ≡ said b → ForcedEnd s number b
-unfolding verdictOn endOf
-answer-forces s number b e =
-    let d = decided-by s number b e in
-    let block = getD (sheetAt s .blocks .list) number noBlock in
-    let r = decided-branch nothingKnown (within (block .from) (block .to) (sheetAt s .instructions .list)) b (d .is) in
-    record {
-      known = r .known;
-      mnemonic = r .mnemonic;
-      ends = r .ends;
-      forces = blocks-forced s (d .sheet) (d .read) number (r .known) (r .mnemonic) (r .ends) b .0 (d .is);
-    }
-
-saying-said : (b : Bool) → judged (saying b) ≡ said b
-saying-said true = refl
-saying-said false = refl
+unfolding verdictOn
+answer-forces s number b e = let d = decided-by s number b e in go d (endOn s number nothingKnown .jump) refl (d .is)
+  where
+    go : Decision s number b → (j : Jump) → endOn s number nothingKnown .jump ≡ j
+        → judged (endOn s number nothingKnown .known) (endOn s number nothingKnown .jump) ≡ saying b → ForcedEnd s number b
+    go d (Conditional m) q is =
+        let ends : endOn s number nothingKnown ≡ record { known = endOn s number nothingKnown .known; jump = Conditional m } =
+        ap (λ (x : Jump). record { known = endOn s number nothingKnown .known; jump = x }) q in
+        record {
+          known = endOn s number nothingKnown .known;
+          mnemonic = m;
+          ends = ends;
+          forces = blocks-forced s (d .sheet) (d .read) number (endOn s number nothingKnown .known) m ends b .0 (d .is);
+        }
+    go d Nothing q is = not-saying b (rw q at is)
 
 -- and a block that ends so has that answer, if any
 pub forced-answer : (s : List ℕ) (number : ℕ) (b : Bool) → Answered (blockAnswer s number) → ForcedEnd s number b → blockAnswer s number ≡ said b
 unfolding blockAnswer
 forced-answer s number b there f = go (readingOf s) refl there
   where
-    go : (r : Reading) → readingOf s ≡ r → Answered (onReading r s number) → onReading r s number ≡ said b
+    go : (r : Reading) → readingOf s ≡ r → Answered (answerNumbers (onReading r s number)) → answerNumbers (onReading r s number) ≡ said b
     go (reading.Refused k at) q h = absurd h
     go (reading.Accepted sheet) q h =
         byTest (ltb number (sheet .blocks .count))
-        (λ t. rw t (ap judged (blocks-forced s sheet q number (f .known) (f .mnemonic) (f .ends) b .1 (f .forces)) ∙ saying-said b))
+        (λ t. rw (t, blocks-forced s sheet q number (f .known) (f .mnemonic) (f .ends) b .1 (f .forces)) (saying-said b))
         (λ t. absurd (rw t at h))
 
 -- The theorem: an answer that is no refusal is always (never) exactly where the block ends in a flag branch that what is known forces to jump (not

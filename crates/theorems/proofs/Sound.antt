@@ -15,11 +15,11 @@ use Rattle.machine.specs.declared.State.{State}
 use Rattle.machine.specs.declared.Decided.{Decided}
 use Rattle.machine.specs.declared.Decided.the-variants as decided
 use Rattle.machine.specs.Registers.{nothingKnown}
-use Rattle.machine.specs.Rules.{stepped}
+use Rattle.machine.specs.Rules.{steppedAll}
 use Rattle.machine.specs.Conditions.{decided as decidedOf}
-use Rattle.concrete.specs.Concrete.{Processor, Choice, executed, outcome}
+use Rattle.concrete.specs.Concrete.{Processor, Choice, executedAll, outcome}
 use Rattle.concrete.specs.Agreement.{Agrees, Accepted, AllAccepted, operandWellFormed}
-use Rattle.concrete.proofs.Sound.{nothing-known, step-sound}
+use Rattle.concrete.proofs.Sound.{nothing-known, steps-sound}
 use Rattle.concrete.proofs.Forced.{forced, verdict}
 use Rattle.sheet_instruction.specs.Instruction.{instructionAt}
 use Rattle.sheet_instruction.proofs.Accepted.{Well, instruction-on}
@@ -27,10 +27,10 @@ use Rattle.sheet.specs.declared.Sheet.{Sheet}
 use Rattle.sheet.specs.declared.Reading.the-variants as reading
 use Rattle.sheet.specs.Sheet.{instructionsFrom, sheetAt, readingOf}
 use Rattle.sheet.proofs.Accepted.{accepted}
-use Rattle.verdict_block.specs.declared.BlockVerdict.{BlockVerdict}
-use Rattle.verdict_block.specs.declared.BlockVerdict.the-variants as answer
-use Rattle.verdict_block.specs.Verdict.{within, judgedOf, lastOf, verdictFrom, verdictOn, noBlock}
-use Rattle.theorems.specs.Runs.{Outcome, runFrom, runOn, NotAgainst}
+use Rattle.verdict.specs.declared.Verdict.the-variants as answer
+use Rattle.verdict_block.specs.Verdict.{within, codeOf, Parts, preceded, apart, flagVerdict, judged, verdictAt, endAt, endFrom, endOn, verdictOn, jumpOf, noBlock}
+use Rattle.verdict_block.specs.Verdict.Parts.{none, ending}
+use Rattle.theorems.specs.Runs.{Outcome, runAt, runFrom, runOn, NotAgainst}
 use Rattle.theorems.specs.Runs.Outcome.{jumped, nothing}
 
 -- an instruction that reading took is one that the machine's theorems speak of
@@ -54,13 +54,13 @@ all-read s p (suc k) e =
     all-append (t .list) (i ∷ []) (all-read s p k (r .there))
     (record { first = well (i .first) (r .one); second = well (i .second) (r .two); sound = r .sound }, tt)
 
-pub all-of-sheet : (s : List ℕ) (sheet : Sheet) → readingOf s ≡ reading.Accepted sheet → AllAccepted (sheetAt s .instructions .list)
+all-of-sheet : (s : List ℕ) (sheet : Sheet) → readingOf s ≡ reading.Accepted sheet → AllAccepted (sheetAt s .instructions .list)
 all-of-sheet s sheet read =
     let acc = accepted s sheet read in
     rw (← acc .instructions)
     (all-read s (At (sheet .instructions .at)) (sheet .instructions .count) {a = acc .afterInstructions .0} (rw (acc .instructions) (acc .afterInstructions .1)))
 
-pub all-within : (from to : ℕ) (l : List Instruction) → AllAccepted l → AllAccepted (within from to l)
+all-within : (from to : ℕ) (l : List Instruction) → AllAccepted l → AllAccepted (within from to l)
 unfolding within
 all-within from to [] a = tt
 all-within from to (i ∷ l) a = kept (leb from (i .address) && ltb (i .address) to) (all-within from to l (a .1))
@@ -69,34 +69,52 @@ all-within from to (i ∷ l) a = kept (leb from (i .address) && ltb (i .address)
     kept true rest = (a .0, rest)
     kept false rest = rest
 
+-- the instructions of a block of an accepted sheet
+pub all-of-block : (s : List ℕ) (sheet : Sheet) → readingOf s ≡ reading.Accepted sheet → (number : ℕ) → AllAccepted (codeOf s number)
+unfolding codeOf
+all-of-block s sheet read number =
+    let block = getD (sheetAt s .blocks .list) number noBlock in
+    all-within (block .from) (block .to) (sheetAt s .instructions .list) (all-of-sheet s sheet read)
+
+-- those before the last
+abbrev pub Before : Parts → Type 0
+Before none = Unit {0}
+Before (ending before last) = AllAccepted before
+
+pub before-last : (l : List Instruction) → AllAccepted l → Before (apart l)
+unfolding apart
+before-last [] a = tt
+before-last (i ∷ l) a = go (apart l) (before-last l (a .1))
+  where
+    go : (parts : Parts) → Before parts → Before (preceded i parts)
+    go none rest = tt
+    go (ending before last) rest = (a .0, rest)
+
 -- a branch: what is decided of it is forced
 branch-right : (s : State) (p : Processor) (m : ℕ) (last : Bool) → Agrees s p → (d : Decided) → decidedOf s m ≡ d
-    → NotAgainst (judgedOf d) (jumped (outcome m p last))
+    → NotAgainst (flagVerdict d) (jumped (outcome m p last))
 branch-right s p m last agrees decided.Holds e = ap jumped (forced s p agrees m true .0 e p last agrees)
 branch-right s p m last agrees decided.Fails e = ap jumped (forced s p agrees m false .0 e p last agrees)
 branch-right s p m last agrees decided.Undecided e = tt
 
 last-right : (s : State) (p : Processor) (i : Instruction) (last : Bool) → Agrees s p
-    → NotAgainst (lastOf s i) (cond (i .branch) (jumped (outcome (i .mnemonic) p last)) nothing)
-last-right s p i last agrees = go (i .branch)
+    → NotAgainst (judged s (jumpOf i)) (cond (i .branch) (jumped (outcome (i .mnemonic) p last)) nothing)
+last-right s p i last agrees = go (i .branch) refl
   where
-    go : (b : Bool) → NotAgainst (cond b (judgedOf (decidedOf s (i .mnemonic))) answer.NoBranch) (cond b (jumped (outcome (i .mnemonic) p last)) nothing)
-    go true = branch-right s p (i .mnemonic) last agrees (decidedOf s (i .mnemonic)) refl
-    go false = tt
+    go : (b : Bool) → i .branch ≡ b → NotAgainst (judged s (jumpOf i)) (cond b (jumped (outcome (i .mnemonic) p last)) nothing)
+    go true e = rw e (branch-right s p (i .mnemonic) last agrees (decidedOf s (i .mnemonic)) refl)
+    go false e = rw e tt
 
-from-right : (s : State) (p : Processor) (l : List Instruction) (free : ℕ → Choice) (last : Bool) → AllAccepted l → Agrees s p
-    → NotAgainst (verdictFrom s l) (runFrom p l free last)
-unfolding verdictFrom runFrom
-from-right s p [] free last a agrees = tt
-from-right s p (i ∷ []) free last a agrees = last-right s p i last agrees
-from-right s p (i ∷ j ∷ l) free last a agrees =
-    from-right (stepped s i) (executed p i (free 0)) (j ∷ l) (λ k. free (suc k)) last (a .1) (step-sound s p i (free 0) (a .0) agrees)
+end-right : (s : State) (p : Processor) (parts : Parts) (free : ℕ → Choice) (last : Bool) → Before parts → Agrees s p
+    → NotAgainst (verdictAt (endAt s parts)) (runAt p free last parts)
+end-right s p none free last a agrees = tt
+end-right s p (ending before i) free last a agrees =
+    last-right (steppedAll s before) (executedAll p before free) i last (steps-sound s p before free a agrees)
 
 -- The theorem: for every accepted sheet and every block of it, whatever the start state and whatever is free.
 pub blocks-right : (s : List ℕ) (sheet : Sheet) → readingOf s ≡ reading.Accepted sheet → (number : ℕ)
     → (start : Processor) (free : ℕ → Choice) (last : Bool) → NotAgainst (verdictOn s number) (runOn s number start free last)
-unfolding verdictOn runOn
+unfolding verdictOn endOn endFrom runOn runFrom
 blocks-right s sheet read number start free last =
-    let block = getD (sheetAt s .blocks .list) number noBlock in
-    from-right nothingKnown start (within (block .from) (block .to) (sheetAt s .instructions .list)) free last
-    (all-within (block .from) (block .to) (sheetAt s .instructions .list) (all-of-sheet s sheet read)) (nothing-known start)
+    end-right nothingKnown start (apart (codeOf s number)) free last
+    (before-last (codeOf s number) (all-of-block s sheet read number)) (nothing-known start)

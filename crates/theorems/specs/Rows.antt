@@ -8,9 +8,9 @@ use Rattle.isa.specs.declared.Operand.{Operand}
 use Rattle.isa.specs.declared.Operand.the-variants.{Absent, Reg, Imm}
 use Rattle.isa.specs.declared.Instruction.{Instruction}
 use Rattle.machine.specs.Registers.{nothingKnown}
-use Rattle.verdict_block.specs.Verdict.{verdictFrom}
-use Rattle.pomthija.specs.Block.{Answer, judged}
-use Rattle.pomthija.specs.Block.Answer.{undecided, decision}
+use Rattle.verdict.specs.Numbers.{Numbers, verdictNumbers}
+use Rattle.verdict.specs.Numbers.Numbers.{undecided, decision}
+use Rattle.verdict_block.specs.Verdict.{verdictAt, endFrom}
 
 -- a register of class 1: its index and its size, at offset 0
 abbrev part : ℕ → ℕ → Operand
@@ -47,12 +47,12 @@ jump mnemonic = record {
 -- A row: a block's instructions, and the answer.
 pub record Row : Type 0 where
   pub code : List Instruction
-  pub answer : Answer
+  pub answer : Numbers
 
 -- Each row of the table is what the definitions yield.
 abbrev pub Yields : List Row → Type 0
 Yields [] = Unit {0}
-Yields (r ∷ rows) = (judged (verdictFrom nothingKnown (r .code)) ≡ r .answer) × Yields rows
+Yields (r ∷ rows) = (verdictNumbers (verdictAt (endFrom nothingKnown (r .code))) ≡ r .answer) × Yields rows
 
 pub rows : List Row
 -- xor eax,eax; je
@@ -72,5 +72,5 @@ rows =
 
 -- The marked rows hold (T1, T2, T3, T4, T5, T6).
 pub marked : Yields rows
-unfolding rows verdictFrom Rattle.machine.specs.Conditions.decided Rattle.machine.specs.Rules.finished Rattle.machine.specs.Rules.arithStep Rattle.machine.specs.Rules.unaryUnknown Rattle.machine.specs.Rules.unaryStep Rattle.machine.specs.Rules.registerStep Rattle.machine.specs.Rules.modelledStep Rattle.machine.specs.Rules.stepped Rattle.machine.specs.Registers.nothingKnown Rattle.machine.specs.Registers.wholeOf Rattle.machine.specs.Registers.replaced Rattle.machine.specs.Registers.readOf Rattle.machine.specs.Registers.written Rattle.machine.specs.Registers.operandOf Rattle.machine.specs.Registers.forgetRegisters Rattle.machine.specs.Registers.forgotten Rattle.known.specs.Operations.carryRule Rattle.known.specs.Operations.operationOf Rattle.known.specs.Operations.settled Rattle.known.specs.Operations.unsettled Rattle.known.specs.Operations.performed Rattle.known.specs.Operations.arithEffect Rattle.known.specs.Operations.unaryOutcome Rattle.known.specs.Operations.keptCarry Rattle.known.specs.Operations.unaryEffect Rattle.known.specs.Operations.forgetFlags Rattle.known.specs.Conditions.tested Rattle.known.specs.Conditions.flagCondition Rattle.known.specs.Values.extracted Rattle.known.specs.Values.inserted Rattle.known.specs.Values.merged Rattle.alu.specs.Arithmetic.result Rattle.alu.specs.Arithmetic.carry Rattle.alu.specs.Arithmetic.overflow Rattle.alu.specs.Arithmetic.resultFlags Rattle.alu.specs.Arithmetic.outcome
+unfolding rows endFrom Rattle.verdict_block.specs.Verdict.apart Rattle.machine.specs.Rules.steppedAll Rattle.machine.specs.Conditions.decided Rattle.machine.specs.Rules.finished Rattle.machine.specs.Rules.arithStep Rattle.machine.specs.Rules.unaryUnknown Rattle.machine.specs.Rules.unaryStep Rattle.machine.specs.Rules.registerStep Rattle.machine.specs.Rules.modelledStep Rattle.machine.specs.Rules.stepped Rattle.machine.specs.Registers.nothingKnown Rattle.machine.specs.Registers.wholeOf Rattle.machine.specs.Registers.replaced Rattle.machine.specs.Registers.readOf Rattle.machine.specs.Registers.written Rattle.machine.specs.Registers.operandOf Rattle.machine.specs.Registers.forgetRegisters Rattle.machine.specs.Registers.forgotten Rattle.known.specs.Operations.carryRule Rattle.known.specs.Operations.operationOf Rattle.known.specs.Operations.settled Rattle.known.specs.Operations.unsettled Rattle.known.specs.Operations.performed Rattle.known.specs.Operations.arithEffect Rattle.known.specs.Operations.unaryOutcome Rattle.known.specs.Operations.keptCarry Rattle.known.specs.Operations.unaryEffect Rattle.known.specs.Operations.forgetFlags Rattle.known.specs.Conditions.tested Rattle.known.specs.Conditions.flagCondition Rattle.known.specs.Values.extracted Rattle.known.specs.Values.inserted Rattle.known.specs.Values.merged Rattle.alu.specs.Arithmetic.result Rattle.alu.specs.Arithmetic.carry Rattle.alu.specs.Arithmetic.overflow Rattle.alu.specs.Arithmetic.resultFlags Rattle.alu.specs.Arithmetic.outcome
 marked = (refl, (refl, (refl, (refl, (refl, (refl, tt))))))

@@ -8,7 +8,8 @@ use Rattle.verdict.specs.declared.Answer.{Answer}
 use Rattle.verdict.specs.declared.Answer.the-variants.{Given, Refused}
 
 -- The reasons: what is known of flags is 1; for nodes 2 is equal sides, 3 a condition that is true or false itself, 4 an
--- unsigned cast compared with 0, 5 sides whose low bits are exact, 6 sides of different parity, 7 two halves together (L2, D18).
+-- unsigned cast compared with 0, 5 sides whose low bits are exact, 6 sides of different parity, 7 two halves together
+-- (L2, D18, F12).
 abbrev pub reasonNumber : Reason → ℕ
 reasonNumber Flags = 1
 reasonNumber EqualSides = 2

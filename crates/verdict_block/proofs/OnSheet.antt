@@ -6,7 +6,7 @@ use native.Mathlib.Omega.{arith}
 use lib.ListN.{length, getD}
 use lib.Seq.{slice}
 use Rattle.sheet_field.specs.declared.Place.the-variants.{At}
-use Rattle.machine.specs.Registers.{nothingKnown}
+use Rattle.machine.specs.declared.State.{State}
 use Rattle.search.specs.Ascending.{Ascending, countBelow}
 use Rattle.search.proofs.Laws.{count-splits}
 use Rattle.sheet.specs.declared.Sheet.{Sheet}
@@ -18,8 +18,8 @@ use Rattle.index.specs.Index.{addressesOf}
 use Rattle.index.proofs.Filling.{addresses-length, places-length}
 use Rattle.index.proofs.Rising.{rising}
 use Rattle.index.proofs.Again.{again}
-use Rattle.verdict_block.specs.declared.BlockVerdict.{BlockVerdict}
-use Rattle.verdict_block.specs.Verdict.{within, verdictFrom, verdictOn, noBlock, instructionsOf}
+use Rattle.verdict_block.specs.declared.End.{End}
+use Rattle.verdict_block.specs.Verdict.{codeOf, endFrom, endOn, noBlock, instructionsOf}
 use Rattle.verdict_block.proofs.Ranges.{range-is}
 
 module _ (s : List ℕ) (sheet : Sheet) (read : readingOf s ≡ Accepted sheet) where
@@ -50,15 +50,15 @@ module _ (s : List ℕ) (sheet : Sheet) (read : readingOf s ≡ Accepted sheet) 
       rw (← acc .blocks)
       (block-at s (sheet .blocks .at) (sheet .blocks .count) number noBlock {a = acc .afterBlocks .0} (rw (acc .blocks) (acc .afterBlocks .1)) below)
 
-  -- the verdict from the parts
-  pub verdict-is : (number : ℕ) {addresses places : List ℕ} {block : BlockField} {first end : ℕ} {r : BlockVerdict}
+  -- the end of a block from the parts
+  pub end-is : (number : ℕ) {addresses places : List ℕ} {block : BlockField} {first end : ℕ} (start : State) {r : End}
       → number < sheet .blocks .count → addresses ≡ addressesOf (sheetAt s .instructions .list) → places ≡ sheetAt s .instructions .places
       → block ≡ blockAt s (At (sheet .blocks .at + 16 * number))
       → first ≡ countBelow addresses (block .from) → end ≡ countBelow addresses (block .to)
-      → r ≡ verdictFrom nothingKnown (slice first end (instructionsOf s places)) → r ≡ verdictOn s number
-  unfolding verdictOn
-  verdict-is number below addresses-are places-are block-is first-is end-is r-is =
-      rw (block-here number below, ← block-is, range-is _ _ _ addresses-rise, ← addresses-are, ← first-is, ← end-is, ← instructions-again, ← places-are)
+      → r ≡ endFrom start (slice first end (instructionsOf s places)) → r ≡ endOn s number start
+  unfolding endOn codeOf
+  end-is number start below addresses-are places-are block-is first-is to-is r-is =
+      rw (block-here number below, ← block-is, range-is _ _ _ addresses-rise, ← addresses-are, ← first-is, ← to-is, ← instructions-again, ← places-are)
       r-is
 
   -- where the index ends a range is within the list of places

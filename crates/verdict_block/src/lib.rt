@@ -1,10 +1,12 @@
-// The verdict on a block of an accepted sheet: its instructions are found in the index, stepped over once from nothing
-// known, and the conditional branch at its end is judged by what is known then.
+// The verdict on a block of an accepted sheet: its instructions are found in the index and stepped over once from what is
+// known where it starts; what is known at its end judges its last instruction, where that is a conditional branch.
 use isa::Instruction;
 use machine::Decided;
 use machine::State;
 use sheet::Sheet;
 use sheet_field::Place;
+use verdict::Reason;
+use verdict::Verdict;
 ghost use mathlib.Core.Path.{_≡_};
 ghost use mathlib.Core.Bool.{true};
 ghost use Prim.Native.Nat.{_≤_, _<_};
@@ -12,17 +14,22 @@ ghost use lib.ListN.{length};
 ghost use lib.Seq.{slice};
 ghost use Rattle.sheet_field.specs.declared.Place.the-variants.{At};
 ghost use Rattle.sheet_instruction.specs.Instruction.{instructionAt};
-ghost use Rattle.machine.specs.Registers.{nothingKnown};
+ghost use Rattle.machine.specs.Rules.{steppedAll};
 ghost use Rattle.sheet.specs.declared.Reading.the-variants.{Accepted};
 ghost use Rattle.sheet.specs.Sheet.{sheetAt, readingOf};
 ghost use Rattle.index.specs.Index.{addressesOf};
-ghost use Rattle.verdict_block.specs.Verdict.{instructionsOf, judgedOf, verdictFrom, verdictOn};
+ghost use Rattle.verdict_block.specs.Verdict.{instructionsOf, jumpOf, flagVerdict, verdictAt, endFrom, endOn, verdictOn};
 
-pub enum BlockVerdict {
-    NoBranch,
-    Undecided,
-    Always,
-    Never,
+// A block's last instruction, as far as a verdict asks for it: a conditional branch of a mnemonic, or nothing to judge.
+pub enum Jump {
+    Conditional(u64),
+    Nothing,
+}
+
+// A block's end: what is known at its last instruction, and that instruction.
+pub struct End {
+    pub known: State,
+    pub jump: Jump,
 }
 
 // The instruction whose record stands at a place.
@@ -33,57 +40,103 @@ fn instruction_at(s: &[u8], place: u64) -> Instruction
     r.instruction
 }
 
-fn decision(d: Decided) -> BlockVerdict
-    ensures { λ r. ⌜ r ≡ judgedOf d ⌝ }
+fn jump_of(i: Instruction) -> Jump
+    ensures { λ r. ⌜ r ≡ jumpOf i ⌝ }
 {
-    match d {
-        Decided::Holds => BlockVerdict::Always,
-        Decided::Fails => BlockVerdict::Never,
-        Decided::Undecided => BlockVerdict::Undecided,
+    if i.branch {
+        Jump::Conditional(i.mnemonic)
+    } else {
+        Jump::Nothing
     }
 }
 
-// The instructions whose places stand from `first` up to `end` in the list.
-fn verdict_between(s: &[u8], places: &[u64], first: usize, end: usize) -> BlockVerdict
+// What is known after the instructions whose places stand from `first` up to `end` in the list.
+fn step_over(s: &[u8], places: &[u64], first: usize, end: usize, start: State) -> State
     requires { ⌜ end ≤ length (now places) ⌝ }
-    ensures { λ r. ⌜ r ≡ verdictFrom nothingKnown (slice first end (instructionsOf (now (s .entry)) (now (places .entry)))) ⌝ }
+    ensures { λ r. ⌜ r ≡ steppedAll start (slice first end (instructionsOf (now (s .entry)) (now (places .entry)))) ⌝ }
 {
-    if end <= first {
-        return BlockVerdict::NoBranch;
-    }
-    let last = end - 1;
-    let mut state = State::unknown();
+    let mut state = start;
     let mut i = first;
-    while i < last {
+    while i < end {
         let it = instruction_at(s, places[i]);
         state = machine::step(state, it);
         i += 1;
     }
-    let branch = instruction_at(s, places[last]);
-    if branch.branch {
-        decision(machine::condition(state, branch.mnemonic))
-    } else {
-        BlockVerdict::NoBranch
+    state
+}
+
+// The end of the instructions whose places stand from `first` up to `end` in the list.
+fn end_between(s: &[u8], places: &[u64], first: usize, end: usize, start: State) -> End
+    requires { ⌜ end ≤ length (now places) ⌝ }
+    ensures { λ r. ⌜ r ≡ endFrom start (slice first end (instructionsOf (now (s .entry)) (now (places .entry)))) ⌝ }
+{
+    if end <= first {
+        return End {
+            known: start,
+            jump: Jump::Nothing,
+        };
+    }
+    let last = end - 1;
+    let known = step_over(s, places, first, last, start);
+    let it = instruction_at(s, places[last]);
+    End {
+        known,
+        jump: jump_of(it),
     }
 }
 
-// The block of that number, of an accepted sheet with its index.
-pub fn verdict_on(
+// The end of the block of that number, of an accepted sheet with its index, where `start` is known at its start.
+pub fn end_on(
     s: &[u8],
     sheet: Sheet,
     addresses: &[u64],
     places: &[u64],
     number: u64,
-) -> BlockVerdict
+    start: State,
+) -> End
+    requires { ⌜ readingOf (now s) ≡ Accepted sheet ⌝ }
+    requires { ⌜ number < sheet .blocks .count ⌝ }
+    requires { ⌜ now addresses ≡ addressesOf (sheetAt (now s) .instructions .list) ⌝ }
+    requires { ⌜ now places ≡ sheetAt (now s) .instructions .places ⌝ }
+    ensures { λ r. ⌜ r ≡ endOn (now (s .entry)) number start ⌝ }
+{
+    let section = sheet.blocks;
+    let block = sheet::take_block(s, Place::At(section.at + 16 * (number as usize)));
+    let first = search::first_at_or_above(addresses, block.from);
+    let end = search::first_at_or_above(addresses, block.to);
+    end_between(s, places, first, end, start)
+}
+
+fn flag_verdict(d: Decided) -> Verdict
+    ensures { λ r. ⌜ r ≡ flagVerdict d ⌝ }
+{
+    match d {
+        Decided::Holds => Verdict::Always(Reason::Flags),
+        Decided::Fails => Verdict::Never(Reason::Flags),
+        Decided::Undecided => Verdict::Undecided,
+    }
+}
+
+// The verdict at a block's end.
+pub fn verdict_at(end: End) -> Verdict
+    ensures { λ r. ⌜ r ≡ verdictAt end ⌝ }
+{
+    let known = end.known;
+    let jump = end.jump;
+    match jump {
+        Jump::Conditional(mnemonic) => flag_verdict(machine::condition(known, mnemonic)),
+        Jump::Nothing => Verdict::NoBranch,
+    }
+}
+
+// The verdict on the block of that number, of an accepted sheet with its index.
+pub fn verdict_on(s: &[u8], sheet: Sheet, addresses: &[u64], places: &[u64], number: u64) -> Verdict
     requires { ⌜ readingOf (now s) ≡ Accepted sheet ⌝ }
     requires { ⌜ number < sheet .blocks .count ⌝ }
     requires { ⌜ now addresses ≡ addressesOf (sheetAt (now s) .instructions .list) ⌝ }
     requires { ⌜ now places ≡ sheetAt (now s) .instructions .places ⌝ }
     ensures { λ r. ⌜ r ≡ verdictOn (now (s .entry)) number ⌝ }
 {
-    let section = sheet.blocks;
-    let block = sheet::take_block(s, Place::At(section.at + 16 * (number as usize)));
-    let first = search::first_at_or_above(addresses, block.from);
-    let end = search::first_at_or_above(addresses, block.to);
-    verdict_between(s, places, first, end)
+    let start = State::unknown();
+    verdict_at(end_on(s, sheet, addresses, places, number, start))
 }

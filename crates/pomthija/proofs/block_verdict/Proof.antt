@@ -1,13 +1,12 @@
-use Rattle.pomthija.proofs.Answers.{block-refused, block-missing, block-judged}
 use mathlib.Core.Path.{sym, _∙_}
+use Rattle.pomthija.proofs.Answers.{block-refused, block-missing, block-judged}
 use borrow.Author.Needs.{needs}
 use Rattle.pomthija.proofs.block_verdict.Statement.{statement}
 use Rattle.pomthija.proofs.block_verdict.Tie as tie
 use Rattle.pomthija.proofs.block_verdict.Reads as reads
 use Rattle.pomthija.proofs.block_verdict.Lts as lts
-use Rattle.sheet.proofs.read.Reads as read-reads
-use Rattle.pomthija.proofs.answer.Reads as answer-reads
 use Rattle.pomthija.proofs.judge_block.Reads as judge-block-reads
+use Rattle.sheet.proofs.read.Reads as read-reads
 
 read-requires : tie.Need-read-requires
 read-requires c κs = search needs
@@ -21,11 +20,8 @@ enum-known-reading-2 c = search needs
 judge-block-requires : tie.Need-judge-block-requires
 judge-block-requires c κs = (sym (c .before .before .before .before .before .before .read .ensures) ∙ c .before .before .before .before .reading2 .given .1, c .if1 .taken)
 
-answer-requires : tie.Need-answer-requires
-answer-requires c κs = search needs
-
 returns : tie.Need-returns
-returns c = block-judged _ _ (c .before .before .before .before .before .before .before .before .read .ensures) (c .before .before .before .before .before .before .reading2 .given .1) (c .before .before .if1 .taken) (c .before .judge-block .ensures) (c .answer .ensures)
+returns c = block-judged _ _ (c .before .before .before .before .before .before .before .read .ensures) (c .before .before .before .before .before .reading2 .given .1) (c .before .if1 .taken) (c .judge-block .ensures)
 
 returns-2 : tie.Need-returns-2
 returns-2 c = block-refused _ _ (c .before .before .before .read .ensures) (c .before .reading .given .1)
@@ -41,7 +37,6 @@ block-verdict-spec =
     enum-known-reading
     enum-known-reading-2
     judge-block-requires
-    answer-requires
     returns
     returns-2
     returns-3)

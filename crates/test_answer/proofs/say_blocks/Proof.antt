@@ -21,8 +21,8 @@ loop-holds c = search needs
 block-verdict-requires : tie.Need-block-verdict-requires Inv-loop μ-loop
 block-verdict-requires c κs = search needs
 
-say-verdict-requires : tie.Need-say-verdict-requires Inv-loop μ-loop
-say-verdict-requires c κs = search needs
+say-answer-requires : tie.Need-say-answer-requires Inv-loop μ-loop
+say-answer-requires c κs = search needs
 
 add-i : tie.Need-add-i Inv-loop μ-loop
 add-i c = search needs
@@ -52,7 +52,7 @@ say-blocks-spec =
     word-requires
     loop-holds
     block-verdict-requires
-    say-verdict-requires
+    say-answer-requires
     add-i
     loop-less
     loop-again
