@@ -129,7 +129,7 @@ byOperator o a b left right =
     (cond (eqb o opLogicalAnd) (both left right)
     (cond (eqb o opLogicalOr) (either left right) Undecided))))
 
--- The verdict on a condition (N3 to N10).
+-- The verdict on a condition (N3, N4, N5, N6, N7, N8, N9, N10, N15).
 unfoldable pub decide : Expr → Verdict
 decide (variable n) = Undecided
 decide (constant w x) = Undecided
@@ -142,7 +142,7 @@ decide (binary o a b) = orElse (equalSides o a b) (byOperator o a b (decide a) (
 decide (ternary c a b) = Undecided
 
 -- An equality is within the limits: every part that `parity` enters from a side, every one that the exact step asks, and the sum
--- of the sides (N28 to N31).
+-- of the sides (N28, N29, N30, N31).
 abbrev pub equalityFits : Expr → Expr → Bool
 equalityFits a b =
     parity [] a .fits && (rightLow a b .fits && (few (difference a b) && (exactFits a && exactFits b)))

@@ -115,6 +115,6 @@ compared none y writtenBoth = none
 compared (some v) none writtenBoth = none
 compared (some v) (some u) writtenBoth = cond writtenBoth none (some (eqb v u))
 
--- (N5)
+-- the two sides of an equality (N5)
 abbrev pub exactSides : Expr → Expr → Option Bool
 exactSides a b = compared (exact a) (exact b) (written a && written b)
