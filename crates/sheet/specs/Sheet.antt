@@ -1,4 +1,18 @@
 -- The sheet: its three sections one after the other, and what reading any bytes answers.
+--
+-- Each check of reading: its number, what has to be, at which byte it is made, where its refusal is placed, and the definition that has it.
+--  1 | a field is whole | the sheet's end | the field's first byte | fieldAt
+--  1 | nothing follows the last record | the first byte that follows | that byte | ended
+--  2 | a map, a code, a variable's number is in its table | its byte | its byte | mapAt (two of them), codeAt, argumentAt
+--  3 | a count is within its limits | its second byte | its first byte | countAt
+--  4 | an instruction's address is above the one before | its last byte | its first byte | addressAt
+--  5 | a register of class 1 is well formed | its offset byte | its class byte | registerAt
+--  6 | a modelled instruction is not at fault | its last byte | its map byte | instructionAt
+--  7 | a record lacks no child | its last byte | its kind byte | recordAt
+--  7 | an expression is one tree | its last byte | the byte after it | recordAt
+--  8 | a constant fits its width | its value's last byte | its value's first byte | recordAt
+--  9 | an assigned value has its variable's type | the statement's last byte | its map byte | typedAt
+-- The first check that fails gives the refusal; of two at one byte, the one with the lower number (R2, R3, R4).
 use Prim.Native.Nat.{ℕ, zero, suc, _+_, _*_}
 use mathlib.Core.Path.{_≡_}
 use mathlib.Core.List.{List, [], _∷_, _++_}
