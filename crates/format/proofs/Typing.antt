@@ -24,7 +24,7 @@ use Rattle.format.specs.Types.Common.{left, right, tie}
 use Rattle.format.specs.Types.HasType.{ofVariable, ofConstant, ofTrue, ofFalse, ofEffect, ofLoad, ofCast, ofArithmetic, ofShift, ofTest, ofTernary}
 use Rattle.format.specs.Sheet.{ValidAssignment, ValidStatement}
 use Rattle.format.proofs.Tests.{never, table, same-table}
-use Rattle.format.proofs.Statements.{TypedAssignment, TypedStatement}
+use Rattle.format.proofs.Statements.{TypedAssignment, TypedStatement, default}
 
 -- promotion and the common type as functions
 unfoldable promote : StaticType → Integer
@@ -262,6 +262,13 @@ variable-valid : (n v : ℕ) → v < n → ValidTree n (variable v)
 unfolding ValidTree
 variable-valid n v lt = lt
 
+variable-type : (types : List ℕ) (v : ℕ) → v < length types → (d : ℕ) → getD types v d ≡ typeOf types (variable v)
+unfolding typeOf
+variable-type types v lt d = default types v d _ lt
+
+typed-variable : (types : List ℕ) (v t : ℕ) → v < length types → ((d : ℕ) → sameType t (getD types v d) ≡ true) → sameType t (typeOf types (variable v)) ≡ true
+typed-variable types v t lt h = rw (← variable-type types v lt 0) (h 0)
+
 -- an assignment's value has its variable's type where reading's test says so
 typed-assignment : (types : List ℕ) → All (λ t. t ≤ 9) types → (v : ℕ) (e : Expr) → ValidAssignment types v e → TypedAssignment types v e
 typed-assignment types few v e h =
@@ -271,13 +278,14 @@ typed-assignment types few v e h =
     let one = typed-once types few (h .ofValue) (h .value .tree) in
     let two = typed-once types few (h .ofVariable) there in
     let same = same-code (typeOf types e) (typeOf types (variable v)) (t .below) (u .below) in
-    record { declared = h .declared; value = h .value; typed = same ∙ rw (← one, ← two) (alike-self (h .type)) }
+    let is = variable-type types v (h .declared) in
+    record { declared = h .declared; value = h .value; typed = λ d. rw (is d) (same ∙ rw (← one, ← two) (alike-self (h .type))) }
 
 valid-assignment : (types : List ℕ) → All (λ t. t ≤ 9) types → (v : ℕ) (e : Expr) → TypedAssignment types v e → ValidAssignment types v e
 valid-assignment types few v e h =
     let t = typed types few e (h .value .tree) in
     let u = typed types few (variable v) (variable-valid (length types) v (h .declared)) in
-    let same = alike-same (ofCode (typeOf types e)) (ofCode (typeOf types (variable v))) (sym (same-code (typeOf types e) (typeOf types (variable v)) (t .below) (u .below)) ∙ h .typed) in
+    let same = alike-same (ofCode (typeOf types e)) (ofCode (typeOf types (variable v))) (sym (same-code (typeOf types e) (typeOf types (variable v)) (t .below) (u .below)) ∙ typed-variable types v (typeOf types e) (h .declared) (h .typed)) in
     record { declared = h .declared; value = h .value; type = ofCode (typeOf types (variable v)); ofValue = has-as types few same (t .has); ofVariable = u .has }
 
 typed-statement : (types : List ℕ) → All (λ t. t ≤ 9) types → (x : Statement) → ValidStatement types x → TypedStatement types x
