@@ -42,16 +42,8 @@ fn say_reading(s: &[u8]) -> bool {
     }
 }
 
-fn say_reason(r: Reason) -> bool {
-    match r {
-        Reason::Flags => test_io::word(b"1"),
-        Reason::EqualSides => test_io::word(b"2"),
-        Reason::Truth => test_io::word(b"3"),
-        Reason::UnsignedZero => test_io::word(b"4"),
-        Reason::ExactSides => test_io::word(b"5"),
-        Reason::Parity => test_io::word(b"6"),
-        Reason::Halves => test_io::word(b"7"),
-    }
+fn say_decided(way: &[u8], r: Reason) -> bool {
+    test_io::word(way) & test_io::digits(verdict::reason_number(r) as u64)
 }
 
 // a always and v never, each with the reason's number; u undecided, n no branch.
@@ -59,8 +51,8 @@ fn say_verdict(v: Verdict) -> bool {
     match v {
         Verdict::NoBranch => test_io::word(b" n"),
         Verdict::Undecided => test_io::word(b" u"),
-        Verdict::Always(r) => test_io::word(b" a") & say_reason(r),
-        Verdict::Never(r) => test_io::word(b" v") & say_reason(r),
+        Verdict::Always(r) => say_decided(b" a", r),
+        Verdict::Never(r) => say_decided(b" v", r),
     }
 }
 

@@ -34,9 +34,13 @@ pub fn word(text: &[u8]) -> bool {
     io::write_all(STDOUT_FILENO, text)
 }
 
+pub fn digits(n: u64) -> bool {
+    io::print_decimal(STDOUT_FILENO, n)
+}
+
 // A space and the number.
 pub fn number(n: u64) -> bool {
-    word(b" ") & io::print_decimal(STDOUT_FILENO, n)
+    word(b" ") & digits(n)
 }
 
 fn complain(text: &[u8]) {

@@ -10,7 +10,7 @@ use crate::judges::c_compiler::{self, Outcome};
 use crate::judges::evaluator::{evaluation, lent_bits, line, place_of_node, COMMA};
 use crate::judges::reader::{read, Refusal};
 use crate::sheets::encode::encode;
-use crate::sheets::names::{operator, value_type};
+use crate::sheets::names::{operator, refusal, value_type};
 use crate::sheets::syntax::*;
 use crate::sheets::to_text;
 use std::collections::BTreeMap;
@@ -127,7 +127,7 @@ fn c_line(outcome: Outcome, place: usize) -> String {
     match outcome {
         Outcome::Holds => line(&Ok(true)),
         Outcome::Fails => line(&Ok(false)),
-        Outcome::DivisionByZero => line(&Err(Refusal { number: 14, place })),
+        Outcome::DivisionByZero => line(&Err(Refusal { number: refusal::DIVISION, place })),
         Outcome::OtherType => "another type than by the value rules".to_string(),
     }
 }

@@ -6,6 +6,7 @@
 use crate::judges::reader::{read, Refusal};
 use crate::sheets::encode::encode;
 use crate::sheets::names::operator::*;
+use crate::sheets::names::refusal;
 use crate::sheets::names::value_type::BOOL;
 use crate::sheets::syntax::*;
 use crate::sheets::types;
@@ -184,18 +185,18 @@ pub fn evaluation(sheet: &[u8], number: u32, values: &[u64]) -> Answer {
     let sheet = read(sheet)?.sheet;
     let refused = |number: u8, place: usize| Err(Refusal { number, place });
     let Some(node) = sheet.nodes.get(number as usize) else {
-        return refused(13, 0);
+        return refused(refusal::NUMBER, 0);
     };
     let place = || place_of_node(&sheet, number as usize);
     if needs_more(node) {
-        return refused(15, place());
+        return refused(refusal::NOT_PLAIN, place());
     }
     if let Some(variable) = lacking(node, values) {
-        return refused(16, variable);
+        return refused(refusal::VALUE, variable);
     }
     match run(node, values) {
         Ok(value) => Ok(value != 0),
-        Err(DivisionByZero) => refused(14, place()),
+        Err(DivisionByZero) => refused(refusal::DIVISION, place()),
     }
 }
 

@@ -3,6 +3,7 @@
 
 use crate::judges::substitution::{substitute, Rule};
 use crate::sheets::names::operator::*;
+use crate::sheets::names::refusal;
 use crate::sheets::names::value_type::BOOL;
 use crate::sheets::syntax::{Node, Record};
 use std::collections::BTreeSet;
@@ -17,8 +18,8 @@ const MOST_PRODUCT: usize = 4_096;
 /// The number that the node verdict is refused with, if it is.
 pub fn refusal(node: &Node) -> Option<u8> {
     match substitute(node, Rule::Ours, MOST_RECORDS) {
-        None => Some(10),
-        Some(found) if passes(&found.condition) => Some(11),
+        None => Some(refusal::RECORDS),
+        Some(found) if passes(&found.condition) => Some(refusal::TERMS),
         Some(_) => None,
     }
 }

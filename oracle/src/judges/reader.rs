@@ -6,7 +6,9 @@
 //! those of one byte the one with the smallest number.
 
 use crate::sheets::names::mnemonic::*;
-use crate::sheets::names::{flag, kind, mnemonic, operand, operator, statement, value_type};
+use crate::sheets::names::{
+    flag, kind, mnemonic, operand, operator, refusal, statement, value_type,
+};
 use crate::sheets::syntax::*;
 use crate::sheets::types;
 use std::fmt;
@@ -54,16 +56,6 @@ pub fn line(answer: &Answer) -> String {
     }
 }
 
-const ENDED: u8 = 1;
-const CODE: u8 = 2;
-const COUNT: u8 = 3;
-const ADDRESS: u8 = 4;
-const REGISTER: u8 = 5;
-const MODELLED: u8 = 6;
-const TREE: u8 = 7;
-const CONSTANT: u8 = 8;
-const TYPE: u8 = 9;
-
 pub fn read(bytes: &[u8]) -> Answer {
     let mut layout = Layout { bytes, at: 0, faults: Vec::new() };
     let accepted = layout.sheet();
@@ -100,7 +92,7 @@ impl Layout<'_> {
     /// One elementary field of `N` bytes.
     fn field<const N: usize>(&mut self) -> Option<[u8; N]> {
         let Some(bytes) = self.bytes[self.at..].first_chunk() else {
-            self.fault(self.bytes.len(), ENDED, self.at);
+            self.fault(self.bytes.len(), refusal::ENDED, self.at);
             return None;
         };
         self.at += N;
@@ -120,7 +112,7 @@ impl Layout<'_> {
         let place = self.at;
         let value = self.byte()?;
         if !in_table(value) {
-            self.fault_of_unit(CODE, place);
+            self.fault_of_unit(refusal::CODE, place);
         }
         Some(value)
     }
@@ -129,7 +121,7 @@ impl Layout<'_> {
         let place = self.at;
         let value = self.field().map(u16::from_le_bytes)?;
         if value < least || value > most {
-            self.fault_of_unit(COUNT, place);
+            self.fault_of_unit(refusal::COUNT, place);
         }
         Some(value)
     }
@@ -154,7 +146,7 @@ impl Layout<'_> {
             sheet.nodes.push(self.node()?);
         }
         if self.at < self.bytes.len() {
-            self.fault(self.at, ENDED, self.at);
+            self.fault(self.at, refusal::ENDED, self.at);
         }
         Some(Accepted { sheet, starts })
     }
@@ -178,7 +170,7 @@ impl Layout<'_> {
             },
         };
         if modelled(&insn) && !model_fits(&insn) {
-            self.fault_of_unit(MODELLED, start);
+            self.fault_of_unit(refusal::MODELLED, start);
         }
         Some(insn)
     }
@@ -187,7 +179,7 @@ impl Layout<'_> {
         let place = self.at;
         let address = self.eight()?;
         if last.is_some_and(|last| address <= last) {
-            self.fault_of_unit(ADDRESS, place);
+            self.fault_of_unit(refusal::ADDRESS, place);
         }
         Some(address)
     }
@@ -210,7 +202,7 @@ impl Layout<'_> {
             offset: self.byte()?,
         };
         if register.class == GENERAL_CLASS && !well_formed(register) {
-            self.fault_of_unit(REGISTER, place);
+            self.fault_of_unit(refusal::REGISTER, place);
         }
         Some(register)
     }
@@ -243,7 +235,7 @@ impl Layout<'_> {
                 let declared = variables.get(variable as usize);
                 if let (Some(a), Some(b)) = (found, declared) {
                     if types::plain(a) != types::plain(*b) {
-                        self.fault_of_unit(TYPE, start);
+                        self.fault_of_unit(refusal::TYPE, start);
                     }
                 }
                 Some(Statement::Assign { variable, value })
@@ -265,14 +257,14 @@ impl Layout<'_> {
             let place = self.at;
             let record = self.record(variables)?;
             if record.children() > trees {
-                self.fault_of_unit(TREE, place);
+                self.fault_of_unit(refusal::TREE, place);
                 lacking = true;
             }
             trees = trees.saturating_sub(record.children()) + 1;
             records.push(record);
         }
         if trees != 1 && !lacking {
-            self.fault_of_unit(TREE, self.at);
+            self.fault_of_unit(refusal::TREE, self.at);
         }
         Some(records)
     }
@@ -297,7 +289,7 @@ impl Layout<'_> {
         let place = self.at;
         let value = self.eight()?;
         if width < 8 && value >> (8 * u32::from(width)) != 0 {
-            self.fault_of_unit(CONSTANT, place);
+            self.fault_of_unit(refusal::CONSTANT, place);
         }
         Some(Record::Constant { width, value })
     }

@@ -142,6 +142,26 @@ pub mod flag {
     pub const NAMES: &[&str] = &["cf", "pf", "zf", "sf", "of"];
 }
 
+/// Numbers of refusals: 1 to 9 by reading, 10 and 11 by the verdict on a node, 13
+/// to 16 by the operations on a number.
+pub mod refusal {
+    pub const ENDED: u8 = 1;
+    pub const CODE: u8 = 2;
+    pub const COUNT: u8 = 3;
+    pub const ADDRESS: u8 = 4;
+    pub const REGISTER: u8 = 5;
+    pub const MODELLED: u8 = 6;
+    pub const TREE: u8 = 7;
+    pub const CONSTANT: u8 = 8;
+    pub const TYPE: u8 = 9;
+    pub const RECORDS: u8 = 10;
+    pub const TERMS: u8 = 11;
+    pub const NUMBER: u8 = 13;
+    pub const DIVISION: u8 = 14;
+    pub const NOT_PLAIN: u8 = 15;
+    pub const VALUE: u8 = 16;
+}
+
 /// The number of `name` in a table of names.
 pub fn number_of(table: &[&str], name: &str) -> Option<u8> {
     table.iter().position(|n| *n == name).map(|i| i as u8)

@@ -2,7 +2,7 @@
 //! bytes around its place.
 
 use crate::judges::reader::{read, Refusal};
-use crate::sheets::names::{flag, mnemonic, operator, value_type};
+use crate::sheets::names::{flag, mnemonic, operator, refusal, value_type};
 use crate::sheets::syntax::*;
 use std::fmt::Write;
 
@@ -119,21 +119,25 @@ fn expression(records: &[Record]) -> String {
 /// What a refusal's number means, for a person who writes sheets.
 pub fn meaning(number: u8) -> &'static str {
     match number {
-        1 => "the sheet ends inside the field at this place, or bytes are left over from here on",
-        2 => "the code, map byte or variable number at this place is not in its table",
-        3 => "the count at this place is outside its limits",
-        4 => "the address at this place is not above that of the instruction before",
-        5 => "the class 1 register at this place has an index, size or offset that does not exist",
-        6 => {
+        refusal::ENDED => {
+            "the sheet ends inside the field at this place, or bytes are left over from here on"
+        }
+        refusal::CODE => "the code, map byte or variable number at this place is not in its table",
+        refusal::COUNT => "the count at this place is outside its limits",
+        refusal::ADDRESS => "the address at this place is not above that of the instruction before",
+        refusal::REGISTER => {
+            "the class 1 register at this place has an index, size or offset that does not exist"
+        }
+        refusal::MODELLED => {
             "the instruction at this place is modelled, and its registers' sizes or classes or its \
               declared flags do not fit its mnemonic"
         }
-        7 => {
+        refusal::TREE => {
             "the records are not one tree: the one at this place lacks a child, or the expression \
               that ends before it is not exactly one tree"
         }
-        8 => "the constant at this place does not fit its width",
-        9 => "the assignment at this place gives its variable a value of another type",
+        refusal::CONSTANT => "the constant at this place does not fit its width",
+        refusal::TYPE => "the assignment at this place gives its variable a value of another type",
         _ => "a number that reading does not give",
     }
 }

@@ -3,7 +3,7 @@
 use crate::comparisons::frames::ask_evaluation;
 use crate::judges::evaluator::{evaluation, joined, line, wrapped, Answer};
 use crate::judges::reader::Refusal;
-use crate::sheets::names::{number_of, value_type};
+use crate::sheets::names::{number_of, refusal, value_type};
 use crate::sheets::words::parse_number;
 use crate::stored::text::{sheet_of, sources, Source};
 use crate::stored::List;
@@ -158,7 +158,7 @@ fn result_cases(sheet: &[u8], values: &[u64], result: &str) -> Result<Vec<Run>, 
         expected,
     };
     if result == "none" {
-        return Ok(vec![run(0, 0, Err(Refusal { number: 14, place: FIRST_NODE }))]);
+        return Ok(vec![run(0, 0, Err(Refusal { number: refusal::DIVISION, place: FIRST_NODE }))]);
     }
     let result = whole(result)?;
     let (value, negative) = (result as u64, u64::from(result < 0));
