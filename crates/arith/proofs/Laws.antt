@@ -91,6 +91,14 @@ half-test m x h = by (leb m (2 * x)) refl
     by true e = let g : m ≤ 2 * x = leb-true m (2 * x) e in lt-ltb ((m - 1) / 2) x (omega arith) ∙ sym e
     by false e = let g : 2 * x < m = leb-false m (2 * x) e in le-ltb ((m - 1) / 2) x (omega arith) ∙ sym e
 
+-- at most the largest pattern is below all of them
+pub below-full : (m x : ℕ) → 0 < m → leb x (m - 1) ≡ ltb x m
+below-full m x h = by (ltb x m) refl
+  where
+    by : (b : Bool) → ltb x m ≡ b → leb x (m - 1) ≡ b
+    by true e = let l : x < m = ltb-true x m e in le-leb x (m - 1) (omega arith)
+    by false e = let l : m ≤ x = ltb-false x m e in lt-leb x (m - 1) (omega arith)
+
 pub and-left : (a b : Bool) → (a && b) ≡ true → a ≡ true
 and-left true b e = refl
 and-left false b e = e

@@ -1,19 +1,16 @@
--- What the bit pattern of a type stands for, and how whole numbers become patterns again. A type is its number, 0 to 9.
+-- What the bit pattern of a type stands for, and how whole numbers become patterns again. A type is its number.
 use mathlib.Core.Bool.{Bool, cond, _&&_}
-use mathlib.Core.List.{[], _∷_}
 use Prim.Native.Nat.{ℕ, suc, _+_, _*_, _-_, _%_, _^_}
 use lib.Dec.{eqb, leb, ltb}
-use lib.ListN.{getD}
+unfoldable pub use Rattle.expr.specs.Types.{bits}
+pub use Rattle.expr.specs.Types.{signed}
+use Rattle.expr.specs.Codes.{bool}
 use lib.IntN.{ℤ, pos, negsuc}
 use lib.Signed.{quotZ, remZ, shrZ, ltZ, leZ}
 
--- How many bits a value of the type has: four signed types, the same four unsigned, pointer, and bool, which is 0 or 1 (S45).
-unfoldable pub bits : ℕ → ℕ
-bits t = getD (8 ∷ 16 ∷ 32 ∷ 64 ∷ 8 ∷ 16 ∷ 32 ∷ 64 ∷ 64 ∷ 1 ∷ []) t 64
-
--- The types with a sign are 0 to 3 (S45).
-abbrev pub signed : ℕ → Bool
-signed t = ltb t 4
+-- x is a pattern of type t: it has no bit above the type's width, and a bool is 0 or 1 (E5, E6).
+abbrev pub fits : ℕ → ℕ → Bool
+fits t x = ltb x (2 ^ bits t)
 
 -- a pattern of a signed type whose top bit is set
 unfoldable pub negative : ℕ → ℕ → Bool
@@ -35,7 +32,7 @@ wrap t z = residue (2 ^ bits t) z
 -- A cast, and the conversion to a promoted or common type: the pattern of type t for the number that x of type s stands for; to bool it is 1
 -- where x is not zero (V14, V15).
 unfoldable pub convert : ℕ → ℕ → ℕ → ℕ
-convert s t x = cond (eqb t 9) (cond (eqb x 0) 0 1) (wrap t (number s x))
+convert s t x = cond (eqb t bool) (cond (eqb x 0) 0 1) (wrap t (number s x))
 
 -- Sum, difference and product of two patterns of type t, wrapped. A pattern and its number leave the same modulo 2 ^ bits, so the sign plays no
 -- part (V6).

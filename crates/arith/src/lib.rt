@@ -1,28 +1,15 @@
-// Arithmetic on the bit patterns of a type's values: each operation wraps at the type's width. A type is its number: 0 to 3 signed 8, 16, 32, 64;
-// 4 to 7 unsigned; 8 pointer; 9 bool.
+// Arithmetic on the bit patterns of a type's values: each operation wraps at the type's width.
 ghost use mathlib.Core.Path.{_≡_};
 ghost use Prim.Native.Nat.{_*_, _-_, _%_, _^_, _<_};
 ghost use lib.IntN.{pos, negℤ};
 ghost use mathlib.Core.Bool.{cond};
-ghost use Rattle.arith.specs.Numbers.{bits, negative, number, residue, wrap, convert, sum as sumOf, difference as differenceOf, product as productOf, quotient, remainder, shiftLeft, shiftRight, count as countOf, below as belowOf};
-
-const BITS: [u64; 10] = [8, 16, 32, 64, 8, 16, 32, 64, 64, 1];
-
-// How many bits a value of the type has.
-fn width(t: u64) -> u64
-    ensures { λ r. ⌜ r ≡ bits t ⌝ }
-{
-    if t < expr::TYPES {
-        return BITS[t as usize];
-    }
-    64
-}
+ghost use Rattle.arith.specs.Numbers.{bits, fits as fitsType, negative, number, residue, wrap, convert, sum as sumOf, difference as differenceOf, product as productOf, quotient, remainder, shiftLeft, shiftRight, count as countOf, below as belowOf};
 
 // The largest pattern of the type: all its bits set.
 fn mask(t: u64) -> u64
     ensures { λ r. ⌜ r ≡ 2 ^ bits t - 1 ⌝ }
 {
-    0xffff_ffff_ffff_ffff >> (64 - width(t))
+    0xffff_ffff_ffff_ffff >> (64 - expr::width(t))
 }
 
 // The low bits that the type has.
@@ -30,6 +17,13 @@ pub fn cut(t: u64, x: u64) -> u64
     ensures { λ r. ⌜ r ≡ x % 2 ^ bits t ⌝ }
 {
     x & mask(t)
+}
+
+// Whether x is a pattern of the type: no bit above its width.
+pub fn fits(t: u64, x: u64) -> bool
+    ensures { λ r. ⌜ r ≡ fitsType t x ⌝ }
+{
+    x <= mask(t)
 }
 
 // Whether a pattern stands for a negative number.
@@ -154,7 +148,7 @@ pub fn count(t: u64, s: u64, x: u64) -> u64
     requires { ⌜ x < 2 ^ bits s ⌝ }
     ensures { λ r. ⌜ r ≡ countOf t s x ⌝ }
 {
-    x % width(t)
+    x % expr::width(t)
 }
 
 // Whether a's number is below b's: a negative one is below one that is not, and two of one sign are in their patterns' order.

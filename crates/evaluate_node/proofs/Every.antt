@@ -9,6 +9,7 @@ use lib.Dec.{eqb}
 use lib.ListN.{length, getD, take, drop, replicate, List·getD-append}
 use lib.Seq.{length-take-le, getD-take}
 use Rattle.expr.specs.Tree.{Expr}
+use Rattle.expr.specs.Scan.{plainExpr}
 use Rattle.expr.specs.Statement.{Statement}
 use Rattle.expr.specs.Statement.Statement.{assignment, other}
 use Rattle.sheet_node.specs.Node.{Node}
@@ -26,7 +27,7 @@ use Rattle.evaluate_node.specs.declared.Evaluation.{Evaluation}
 use Rattle.evaluate_node.specs.declared.Evaluation.the-variants.{Holds, Fails, Refused}
 use Rattle.evaluate_node.specs.declared.Fit.{Fit}
 use Rattle.evaluate_node.specs.declared.Fit.the-variants.{AllFit, Unfit}
-use Rattle.evaluate_node.specs.Evaluate.{plainExpr, plainAll, unfitFrom, startValues, onValues, onFit, onTruth, evaluationOf, StartsFrom, Gives, FromRun}
+use Rattle.evaluate_node.specs.Evaluate.{plainAll, unfitFrom, startValues, onValues, onFit, onTruth, evaluationOf, StartsFrom, Gives, FromRun}
 use Rattle.evaluate_node.proofs.Laws.{both-left, both-right}
 use Rattle.evaluate_node.proofs.Runs.{is-plain}
 use Rattle.evaluate_node.proofs.Whole.{fit-enough}

@@ -15,6 +15,8 @@ use Rattle.sheet_field.specs.Field.{WentOn}
 use Rattle.sheet_field.specs.declared.Place.{Place}
 use Rattle.sheet_field.specs.declared.Place.the-variants.{At}
 use Rattle.expr.specs.Tree.{Wf, treeOf}
+use Rattle.expr.specs.Scan.{plainExpr}
+use Rattle.arith.specs.Numbers.{fits}
 use Rattle.expr.specs.Statement.{Statement}
 use Rattle.expr.specs.Statement.Statement.{assignment, other}
 use Rattle.sheet_node.specs.declared.StatementField.{StatementField}
@@ -22,12 +24,13 @@ use Rattle.sheet_node.specs.Node.{statementAt, statementOf, statementsFrom, Sta
 use Rattle.sheet_node.proofs.Accepted.{statements-back, statements-nth, statements-length, assigned}
 use Rattle.evaluate_node.specs.declared.Fit.{Fit}
 use Rattle.evaluate_node.specs.declared.Fit.the-variants.{AllFit, Unfit}
-use Rattle.evaluate_node.specs.Evaluate.{plainExpr, plainStatement, plainAll, fitsType, unfitFrom, After, goOn, assignedAll, Ran, Valued}
+use Rattle.evaluate_node.specs.Evaluate.{plainStatement, plainAll, unfitFrom, After, goOn, assignedAll, Ran, Valued}
 use Rattle.evaluate_node.specs.Evaluate.After.{went, stopped}
 use Rattle.evaluate_node.specs.declared.ValueField.{ValueField}
 use Rattle.value.specs.declared.Value.{Value}
 use Rattle.value.specs.declared.Value.the-variants.{Of, NoValue}
 use Rattle.value.specs.Evaluation.{evaluated, settled}
+use Rattle.value.specs.Contracts.{Ready}
 
 -- ---- values
 
@@ -36,18 +39,18 @@ module _ (types values : List ℕ) (v : ℕ) (kept : unfitFrom 0 types values �
   unfolding unfitFrom
   unfit-missing there out = sym (kept ∙ rw (drop-cons types v 0 there, drop-of-length-le values out))
 
-  pub unfit-here : {ok : Bool} {t : ℕ} → v < length types → v < length values → t ≡ getD types v 0 → ok ≡ fitsType t (getD values v 0)
+  pub unfit-here : {ok : Bool} {t : ℕ} → v < length types → v < length values → t ≡ getD types v 0 → ok ≡ fits t (getD values v 0)
       → ok ≡ false → Unfit v ≡ unfitFrom 0 types values
   unfolding unfitFrom
   unfit-here there here t-is ok-is fails =
-      let out : fitsType (getD types v 0) (getD values v 0) ≡ false = rw (← t-is, ← ok-is) fails in
+      let out : fits (getD types v 0) (getD values v 0) ≡ false = rw (← t-is, ← ok-is) fails in
       sym (kept ∙ rw (drop-cons types v 0 there, drop-cons values v 0 here, out))
 
-  pub unfit-next : {ok : Bool} {t : ℕ} → v < length types → v < length values → t ≡ getD types v 0 → ok ≡ fitsType t (getD values v 0)
+  pub unfit-next : {ok : Bool} {t : ℕ} → v < length types → v < length values → t ≡ getD types v 0 → ok ≡ fits t (getD values v 0)
       → ok ≡ true → unfitFrom 0 types values ≡ unfitFrom (v + 1) (drop (v + 1) types) (drop (v + 1) values)
   unfolding unfitFrom
   unfit-next there here t-is ok-is holds =
-      let fit : fitsType (getD types v 0) (getD values v 0) ≡ true = rw (← t-is, ← ok-is) holds in
+      let fit : fits (getD types v 0) (getD values v 0) ≡ true = rw (← t-is, ← ok-is) holds in
       kept ∙ rw (drop-cons types v 0 there, drop-cons values v 0 here, fit, add-one v)
 
   pub unfit-none : length types ≤ v → AllFit ≡ unfitFrom 0 types values
@@ -123,12 +126,16 @@ module _ (types s : List ℕ) (p : Place) {f : StatementField} {before after : L
 -- ---- the run
 
 -- a plain statement is an assignment
-plain-assigned : (r : StatementRead) → plainStatement (statementOf r) ≡ true → r .assigned ≡ true
+pub plain-assigned : (r : StatementRead) → plainStatement (statementOf r) ≡ true → r .assigned ≡ true
 plain-assigned r h = go (r .assigned) refl
   where
     go : (b : Bool) → r .assigned ≡ b → r .assigned ≡ true
     go true q = q
     go false q = let z : false ≡ true = rw q at h in absurd (false≢true z)
+
+-- and its value is plain
+pub plain-words : (r : StatementRead) → plainStatement (statementOf r) ≡ true → plainExpr (treeOf (r .words)) ≡ true
+plain-words r h = rw (plain-assigned r h) at h
 
 plain-nth : (l : List Statement) (i : ℕ) → plainAll l ≡ true → i < length l → plainStatement (getD l i other) ≡ true
 unfolding plainAll
@@ -141,9 +148,11 @@ module _ (types s : List ℕ) (p : Place) (n i : ℕ) (below : i < n) (plain : p
   nth : getD (statementsFrom types s p n .list) i other ≡ statementOf (statementAt types s next)
   nth = rw next-is (statements-nth types s p n i other below)
 
-  pub is-assigned : statementAt types s next .assigned ≡ true
-  is-assigned =
-      plain-assigned (statementAt types s next) (rw (← nth) (plain-nth (statementsFrom types s p n .list) i plain (rw (statements-length types s p n) below)))
+  pub this-plain : plainStatement (statementOf (statementAt types s next)) ≡ true
+  this-plain = rw (← nth) (plain-nth (statementsFrom types s p n .list) i plain (rw (statements-length types s p n) below))
+
+  is-assigned : statementAt types s next .assigned ≡ true
+  is-assigned = plain-assigned (statementAt types s next) this-plain
 
   -- the assignments from here on: this one, and the rest
   here : drop i (statementsFrom types s p n .list)
@@ -186,12 +195,19 @@ module _ (variables : ℕ) (s : List ℕ) (p : Place) {e : Expression} {before a
   pub condition-tree : Wf (take (2 * e .records) after)
   condition-tree = rw (took-front took) (one-tree variables s p (on .1) .tree)
 
-  pub condition-short : length (take (2 * e .records) after) ≤ 256
-  condition-short = rw (took-front took) (one-tree variables s p (on .1) .short)
+  pub condition-ready : plainExpr (treeOf (expressionAt variables s p .words)) ≡ true → Ready (take (2 * e .records) after)
+  condition-ready plain =
+      record { wf = condition-tree; few = rw (took-front took) (one-tree variables s p (on .1) .short); plain = rw (took-front took) plain }
 
 module _ (types s : List ℕ) (p : Place) {f : StatementField} {before after : List ℕ} (took : TookStatement f before after (statementAt types s p)) where
-  pub taken-short : WentOn (statementAt types s p .next) → statementAt types s p .assigned ≡ true → length (take (2 * f .records) after) ≤ 256
-  taken-short on is = rw (took-words took) (assigned types s p (on .1) is .short)
+  pub taken-ready : WentOn (statementAt types s p .next) → plainStatement (statementOf (statementAt types s p)) ≡ true → Ready (take (2 * f .records) after)
+  taken-ready on plain =
+      let is = plain-assigned (statementAt types s p) plain in
+      record {
+        wf = taken-tree types s p took on (took .assigned ∙ is);
+        few = rw (took-words took) (assigned types s p (on .1) is .short);
+        plain = rw (took-words took) (plain-words (statementAt types s p) plain);
+      }
 
 -- ---- copies
 

@@ -5,12 +5,12 @@ use mathlib.Core.List.{List, [], _∷_, _++_}
 use mathlib.Core.Bool.{Bool, true, false, not, _&&_, _||_}
 use native.Mathlib.Omega.{arith}
 use lib.ListN.{length, getD, set, take, drop, replicate, length-set, length-append, length-drop, length-take, length-replicate}
-use borrow.Author.Tests.{not-true}
 use Rattle.sheet_field.specs.Field.{WentOn}
 use Rattle.sheet_field.specs.declared.Place.{Place}
 use Rattle.sheet_field.specs.declared.Place.the-variants.{At}
 use Rattle.expr.specs.Tree.{Expr, treeOf}
-use Rattle.expr.specs.Scan.{hasEffect, hasLoad}
+use Rattle.expr.specs.Scan.{plainExpr}
+use Rattle.expr.proofs.Plainness.{plain-parts}
 use Rattle.expr.specs.Statement.{Statement}
 use Rattle.expr.specs.Statement.Statement.{assignment, other}
 use Rattle.sheet_expression.specs.Expression.{expressionAt}
@@ -26,22 +26,14 @@ use Rattle.value.specs.Run.{Choices, runFrom, run}
 use Rattle.value.proofs.Steps.{Plain, lent, assigns, stops, ends}
 use Rattle.evaluate_node.specs.declared.Evaluation.{Evaluation}
 use Rattle.evaluate_node.specs.declared.Evaluation.the-variants.{Refused}
-use Rattle.evaluate_node.specs.Evaluate.{plainExpr, plainStatement, plainAll, After, assignedAll, Ran, startValues, onValues, onTruth, Running}
+use Rattle.evaluate_node.specs.Evaluate.{plainStatement, plainAll, After, assignedAll, Ran, startValues, onValues, onTruth, Running}
 use Rattle.evaluate_node.specs.Evaluate.After.{went, stopped}
 use Rattle.evaluate_node.proofs.Laws.{both-left, both-right}
 
-or-false-left : (a b : Bool) → (a || b) ≡ false → a ≡ false
-or-false-left true b h = h
-or-false-left false b h = refl
-
-or-false-right : (a b : Bool) → (a || b) ≡ false → b ≡ false
-or-false-right true b h = cc
-or-false-right false b h = h
-
 pub is-plain : (e : Expr) → plainExpr e ≡ true → Plain e
 is-plain e h =
-    let none = not-true _ h in
-    record { noLoad = or-false-right (hasEffect e) (hasLoad e) none; noEffect = or-false-left (hasEffect e) (hasLoad e) none }
+    let p = plain-parts e h in
+    record { noLoad = p .1; noEffect = p .0 }
 
 -- every assignment's variable is below n
 Declared : ℕ → List Statement → Type 0

@@ -10,6 +10,8 @@ use Rattle.sheet_field.specs.declared.Place.{Place}
 use Rattle.sheet_field.specs.declared.Place.the-variants.{At}
 use Rattle.sheet_field.specs.Field.{startOf, WentOn}
 use Rattle.expr.specs.Tree.{Expr, treeOf}
+use Rattle.expr.specs.Scan.{plainExpr}
+use Rattle.arith.specs.Numbers.{fits}
 use Rattle.sheet_expression.specs.Expression.{expressionAt}
 use Rattle.sheet_node.specs.declared.NodeField.{NodeField}
 use Rattle.sheet_node.specs.Node.{statementsFrom, nodeAt, nodeOf}
@@ -19,7 +21,7 @@ use Rattle.evaluate_node.specs.declared.Fit.{Fit}
 use Rattle.evaluate_node.specs.declared.Fit.the-variants.{AllFit, Unfit}
 use Rattle.evaluate_node.specs.declared.Evaluation.{Evaluation}
 use Rattle.evaluate_node.specs.declared.Evaluation.the-variants.{Refused}
-use Rattle.evaluate_node.specs.Evaluate.{plainExpr, plainAll, fitsType, unfitFrom, onValues, onFit, onTruth, Running, ReadNode, evaluationOf}
+use Rattle.evaluate_node.specs.Evaluate.{plainAll, unfitFrom, onValues, onFit, onTruth, Running, ReadNode, evaluationOf}
 use Rattle.evaluate_node.proofs.Laws.{both-left, both-right}
 
 not-both : {v : ℕ} → Unfit v ≡ AllFit → ⊥
@@ -29,9 +31,9 @@ pub fit-enough : (v : ℕ) (types values : List ℕ) → unfitFrom v types value
 unfolding unfitFrom
 fit-enough v [] values e = omega arith
 fit-enough v (t ∷ types) [] e = absurd (not-both e)
-fit-enough v (t ∷ types) (x ∷ values) e = go (fitsType t x) refl (λ h. fit-enough (suc v) types values h)
+fit-enough v (t ∷ types) (x ∷ values) e = go (fits t x) refl (λ h. fit-enough (suc v) types values h)
   where
-    go : (b : Bool) → fitsType t x ≡ b → (unfitFrom (suc v) types values ≡ AllFit → length types ≤ length values)
+    go : (b : Bool) → fits t x ≡ b → (unfitFrom (suc v) types values ≡ AllFit → length types ≤ length values)
         → length (t ∷ types) ≤ length (x ∷ values)
     go true q rest = let h = rest (rw q at e) in omega arith
     go false q rest = absurd (not-both (rw q at e))

@@ -1,13 +1,13 @@
 -- Evaluation: a node run on lent values.
-use Prim.Native.Nat.{ℕ, zero, suc, _^_}
+use Prim.Native.Nat.{ℕ, suc}
 use mathlib.Core.List.{List, [], _∷_, _++_}
-use mathlib.Core.Bool.{Bool, true, false, cond, not, _&&_, _||_}
-use lib.Dec.{ltb, eqb}
+use mathlib.Core.Bool.{Bool, true, false, cond, _&&_}
 use lib.ListN.{length, getD, set, take, drop, replicate}
 use Rattle.expr.specs.Tree.{Expr}
 use Rattle.expr.specs.Statement.{Statement}
 use Rattle.expr.specs.Statement.Statement.{assignment, other}
-use Rattle.expr.specs.Scan.{hasEffect, hasLoad}
+use Rattle.expr.specs.Scan.{plainExpr}
+use Rattle.arith.specs.Numbers.{fits}
 use mathlib.Core.Path.{_≡_}
 use Rattle.expr.specs.Tree.{treeOf}
 use Prim.Native.Nat.{_≤_, _<_}
@@ -28,10 +28,7 @@ use Rattle.evaluate_node.specs.declared.ValueField.{ValueField}
 use Rattle.evaluate_node.specs.declared.Fit.{Fit}
 use Rattle.evaluate_node.specs.declared.Fit.the-variants.{AllFit, Unfit}
 
--- Turned back, 15: an expression with an effect or a load in it, whether or not it would be evaluated, and a 0-statement.
-abbrev pub plainExpr : Expr → Bool
-plainExpr e = not (hasEffect e || hasLoad e)
-
+-- Refusal 15: an effect or a load, whether or not it would be evaluated, or a 0-statement (E4).
 abbrev pub plainStatement : Statement → Bool
 plainStatement (assignment v e) = plainExpr e
 plainStatement other = false
@@ -40,21 +37,12 @@ unfoldable pub plainAll : List Statement → Bool
 plainAll [] = true
 plainAll (x ∷ l) = plainStatement x && plainAll l
 
--- Turned back, 16: a value of a type has no bits above its width (8, 16, 32, 64; a pointer has 64), and a bool is 0 or 1.
-abbrev pub fitsType : ℕ → ℕ → Bool
-fitsType t x =
-    ((eqb t 0 || eqb t 4) && ltb x (2 ^ 8))
-    || ((eqb t 1 || eqb t 5) && ltb x (2 ^ 16))
-    || ((eqb t 2 || eqb t 6) && ltb x (2 ^ 32))
-    || (eqb t 3 || eqb t 7 || eqb t 8)
-    || (eqb t 9 && ltb x 2)
-
 -- Turned back, 16: the lowest number of a declared variable whose value is missing or does not fit, from number v on;
 -- values beyond the variables are unread.
 unfoldable pub unfitFrom : ℕ → List ℕ → List ℕ → Fit
 unfitFrom v [] values = AllFit
 unfitFrom v (t ∷ types) [] = Unfit v
-unfitFrom v (t ∷ types) (x ∷ values) = cond (fitsType t x) (unfitFrom (suc v) types values) (Unfit v)
+unfitFrom v (t ∷ types) (x ∷ values) = cond (fits t x) (unfitFrom (suc v) types values) (Unfit v)
 
 -- the values after assignments, or those at which one had no value
 pub data After : Type 0 where

@@ -11,8 +11,9 @@ ghost use lib.ListN.{length, take, drop};
 ghost use Rattle.sheet_field.specs.Field.{WentOn};
 ghost use Rattle.sheet_field.specs.declared.Place.the-variants.{At};
 ghost use Rattle.sheet_node.specs.Node.{statementAt, statementOf, statementsFrom, nodeOf};
-ghost use Rattle.expr.specs.Tree.{Wf, treeOf};
-ghost use Rattle.evaluate_node.specs.Evaluate.{plainExpr, plainStatement, plainAll, fitsType, unfitFrom, assignedAll, Ran, Valued, onValues, onTruth, Running, ReadNode, evaluationOf};
+ghost use Rattle.expr.specs.Tree.{treeOf};
+ghost use Rattle.expr.specs.Scan.{plainExpr};
+ghost use Rattle.evaluate_node.specs.Evaluate.{plainStatement, plainAll, unfitFrom, assignedAll, Ran, Valued, onValues, onTruth, Running, ReadNode, evaluationOf};
 ghost use Rattle.sheet_expression.specs.Expression.{expressionAt};
 ghost use Rattle.value.specs.Evaluation.{evaluated, settled};
 ghost use Rattle.value.specs.Run.{run};
@@ -36,17 +37,6 @@ pub struct PlainField {
     pub next: Place,
 }
 
-// Whether x is a value of the type t: no bit above its width, and 0 or 1 for bool.
-fn fits(t: u64, x: u64) -> bool
-    ensures { λ r. ⌜ r ≡ fitsType t x ⌝ }
-{
-    (((t == 0) | (t == 4)) & (x < 256))
-        | (((t == 1) | (t == 5)) & (x < 65536))
-        | (((t == 2) | (t == 6)) & (x < 4294967296))
-        | ((t == 3) | (t == 7) | (t == 8))
-        | ((t == 9) & (x < 2))
-}
-
 fn wide(byte: u8) -> u64
     ensures { λ r. ⌜ r ≡ byte ⌝ }
 {
@@ -62,20 +52,12 @@ pub fn first_unfit(types: &[u8], values: &[u64]) -> Fit
         if values.len() <= v {
             return Fit::Unfit(v);
         }
-        if !fits(wide(types[v]), values[v]) {
+        if !arith::fits(wide(types[v]), values[v]) {
             return Fit::Unfit(v);
         }
         v += 1;
     }
     Fit::AllFit
-}
-
-// Whether an expression that was read whole has neither effect nor load.
-fn is_plain(words: &[u64]) -> bool
-    requires { ⌜ Wf (now words) ⌝ }
-    ensures { λ r. ⌜ r ≡ plainExpr (treeOf (now (words .entry))) ⌝ }
-{
-    !(expr::has_effect(words) | expr::has_load(words))
 }
 
 // The statement at a place, which was read whole.
@@ -92,7 +74,7 @@ fn plain_statement(s: &[u8], p: Place, types: &[u8]) -> PlainField
     }
     let n = 2 * (r.records as usize);
     PlainField {
-        plain: is_plain(&words[..n]),
+        plain: expr::is_plain(&words[..n]),
         next,
     }
 }
@@ -126,15 +108,17 @@ pub struct ValueField {
 fn statement_value(s: &[u8], p: Place, types: &[u8], values: &[u64]) -> ValueField
     requires { ⌜ length (now types) ≤ 32 ⌝ }
     requires { ⌜ WentOn (statementAt (now types) (now s) p .next) ⌝ }
-    requires { ⌜ statementAt (now types) (now s) p .assigned ≡ true ⌝ }
+    requires { ⌜ plainStatement (statementOf (statementAt (now types) (now s) p)) ≡ true ⌝ }
     ensures { λ r. ⌜ Valued r (now (types .entry)) (now (values .entry)) (statementAt (now (types .entry)) (now (s .entry)) p) ⌝ }
 {
     let mut words = [0u64; 256];
     let r = sheet_node::take_statement(s, p, types, &mut words);
     let next = r.next;
     let n = 2 * (r.records as usize);
+    let x = value::integer(&words[..n], types, values);
+    let v = x.value;
     ValueField {
-        value: value::integer(&words[..n], types, values),
+        value: v,
         variable: r.variable,
         next,
     }
@@ -174,13 +158,14 @@ pub fn plain_condition(s: &[u8], p: Place, variables: u64) -> bool
     let mut words = [0u64; 256];
     let r = sheet_expression::take_expression(s, p, variables, &mut words);
     let n = 2 * (r.records as usize);
-    is_plain(&words[..n])
+    expr::is_plain(&words[..n])
 }
 
 // The condition at a place, which was read whole, on the values.
 pub fn condition_value(s: &[u8], p: Place, types: &[u8], values: &[u64]) -> Truth
     requires { ⌜ length (now types) ≤ 32 ⌝ }
     requires { ⌜ WentOn (expressionAt (length (now types)) (now s) p .next) ⌝ }
+    requires { ⌜ plainExpr (treeOf (expressionAt (length (now types)) (now s) p .words)) ≡ true ⌝ }
     ensures { λ r. ⌜ r ≡ settled (now (types .entry)) (now (values .entry)) (treeOf (expressionAt (length (now (types .entry))) (now (s .entry)) p .words)) ⌝ }
 {
     let mut words = [0u64; 256];

@@ -7,9 +7,12 @@ use Prim.Native.Nat.{ℕ, _+_, _/_, _%_, _-_, _≤_, _<_}
 use native.Mathlib.Omega.{arith}
 use lib.Dec.{lit≤}
 use lib.ListN.{length, getD, take, drop, length-take}
-use Rattle.expr.specs.Tree.{Expr, flat, flats, arityOf, child, nodes, node, treeOf, treeCount, lastStart, Wf, Trees, Formed}
+use Rattle.expr.specs.Codes.{kindLoad, kindTernary}
+use Rattle.expr.specs.Types.{typeOf, recordType}
+use Rattle.expr.specs.Tree.{Expr, kindOf, flat, flats, arityOf, child, nodes, node, treeOf, treeCount, lastStart, Wf, Trees, Formed}
 use Rattle.expr.specs.Tree.Expr.{conditionTrue, load, cast, binary, ternary}
 use Rattle.expr.proofs.Laws.{kids, kids-arity, formed-own, parse-of-flats, treeOf-flat, wf-flat, trees-flats, nine}
+use Rattle.expr.proofs.Stack.{node-type, record-agrees}
 use Rattle.expr.proofs.Parts.{root, Split, split}
 
 -- words that are a tree's
@@ -28,6 +31,15 @@ some-child tag l h =
     (λ e h. absurd (omega arith)) (λ e h. absurd (omega arith)) (λ e h. absurd (omega arith)) (λ e h. absurd (omega arith)) (λ e h. absurd (omega arith))
     (λ e h. rw e (lit≤ tt)) (λ e h. rw e (lit≤ tt)) (λ e h. rw e (lit≤ tt)) (λ e h. rw e (lit≤ tt))
     (tag % 16) l refl h
+
+-- and kinds below 5 none
+leaf-arity : (tag : ℕ) → kindOf tag < kindLoad → arityOf tag ≡ 0
+unfolding arityOf
+leaf-arity tag h =
+    nine (λ (k : ℕ). tag % 16 ≡ k → k < 5 → arityOf tag ≡ 0)
+    (λ e h. rw e) (λ e h. rw e) (λ e h. rw e) (λ e h. rw e) (λ e h. rw e)
+    (λ e h. absurd (omega arith)) (λ e h. absurd (omega arith)) (λ e h. absurd (omega arith)) (λ e h. absurd (omega arith))
+    (tag % 16) (omega arith) refl h
 
 arity-kind : (tag k : ℕ) → tag % 16 ≡ k → arityOf tag ≡ getD (0 ∷ 0 ∷ 0 ∷ 0 ∷ 0 ∷ 1 ∷ 1 ∷ 2 ∷ 3 ∷ []) k 0
 unfolding arityOf
@@ -81,6 +93,16 @@ module _ (ws : List ℕ) (n : ℕ) (w : Wf ws) (e : n + 2 ≡ length ws) where
   unfolding node
   root-kind k h =
       root ws n w e .made ∙ ap (λ (i : ℕ). getD (nodes (getD ws n 0 / 16) (getD ws (n + 1) 0) (kids (treeOf ws))) i conditionTrue) h
+
+  -- the static type of a tree of one record, below kind 5
+  pub leaf-type : (types : List ℕ) → kindOf (getD ws n 0) < kindLoad → typeOf types (treeOf ws) ≡ recordType types (getD ws n 0) 0 0
+  unfolding arityOf
+  leaf-type types h =
+      let tag = getD ws n 0 in
+      let l : kindOf tag ≤ kindTernary = omega arith in
+      ap (typeOf types) (root ws n w e .made)
+      ∙ node-type types tag (getD ws (n + 1) 0) (kids (treeOf ws)) l
+      ∙ record-agrees types tag _ _ 0 0 l (λ two. absurd (omega (arith, leaf-arity tag h)))
 
   -- the record at n is formed
   pub root-formed : Formed (getD ws n 0) (getD ws (n + 1) 0)

@@ -7,10 +7,11 @@ use native.Mathlib.Numerals.{add-one, add-two}
 use native.Mathlib.Omega.{arith}
 use lib.ListN.{length, getD, drop, set, length-append, length-drop, length-set, List·getD-map, drop-of-length-le}
 use lib.Seq.{getD-set-same, getD-set-other}
-use Rattle.expr.specs.Tree.{Expr, own, flat, arityOf, child, nodes, node, push, parse, treeOf, Wf, Formed}
+use Rattle.expr.specs.Tree.{Expr, kindOf, own, flat, arityOf, child, nodes, node, push, parse, treeOf, Wf, Formed}
 use Rattle.expr.specs.Tree.Expr.{variable, constant, conditionTrue, conditionFalse, effect, load, cast, binary, ternary}
-use Rattle.expr.specs.Types.{typeOf, recordType}
-use Rattle.expr.proofs.Laws.{kids, kids-arity, push-own, formed-own, length-push, wf-parse, nine}
+use Rattle.expr.specs.Codes.{kindTernary, signed32, noType}
+use Rattle.expr.specs.Types.{typeOf, recordTypes, recordType}
+use Rattle.expr.proofs.Laws.{getD-any, kids, kids-arity, push-own, formed-own, length-push, wf-parse, nine}
 
 -- every record of the words is formed, and finds its children on the stack
 unfoldable pub Fed : List Expr → List ℕ → Type 0
@@ -79,13 +80,15 @@ held-drop types stack (suc n) [] h = tt
 held-drop types stack (suc n) (e ∷ st) h = held-drop types stack n st (h .1)
 
 -- a record's type, from its children's
-pub node-type : (types : List ℕ) (tag value : ℕ) (st : List Expr)
+pub node-type : (types : List ℕ) (tag value : ℕ) (st : List Expr) → kindOf tag ≤ kindTernary
     → typeOf types (node tag value st) ≡ recordType types tag (typeOf types (child st 1)) (typeOf types (child st 0))
 unfolding node typeOf recordType
-node-type types tag value st = sym (List·getD-map (typeOf types) (nodes (tag / 16) value st) (tag % 16) conditionTrue)
+node-type types tag value st h =
+    sym (List·getD-map (typeOf types) (nodes (tag / 16) value st) (tag % 16) conditionTrue)
+    ∙ getD-any (recordTypes types (tag / 16) (typeOf types (child st 1)) (typeOf types (child st 0))) (tag % 16) signed32 noType (omega arith)
 
 -- only records of two children or more look at their children's types
-record-agrees : (types : List ℕ) (tag a b a′ b′ : ℕ) → tag % 16 ≤ 8 → (2 ≤ arityOf tag → (a ≡ a′) × (b ≡ b′))
+pub record-agrees : (types : List ℕ) (tag a b a′ b′ : ℕ) → tag % 16 ≤ 8 → (2 ≤ arityOf tag → (a ≡ a′) × (b ≡ b′))
     → recordType types tag a b ≡ recordType types tag a′ b′
 unfolding recordType arityOf
 record-agrees types tag a b a′ b′ l h =
@@ -150,7 +153,7 @@ module _ (rs types stack : List ℕ) (top i : ℕ) (more : i < length rs) (t : T
               ∙ f
               ∙ record-agrees types tag (getD stack (top - 2) 0) (getD stack (top - 1) 0) (typeOf types (child st 1)) (typeOf types (child st 0)) (here .formed .kind)
               (λ two. held-two types stack st top (t .height) (t .held) (omega (arith, two, here .enough)))
-              ∙ sym (node-type types tag value st),
+              ∙ sym (node-type types tag value st (here .formed .kind)),
           held-set types stack (drop (arityOf tag) st) (top - n) v (omega (arith, e, here .enough, t .height, length-drop (arityOf tag) st)) (held-drop types stack (arityOf tag) st (t .held)),
         );
         room = length-set stack (top - n) v ∙ t .room;

@@ -6,7 +6,7 @@ use Prim.Native.Nat.{ℕ}
 use Rattle.expr.specs.Tree.{Expr, tagOf, valueOf, flat, arityOf, node, push, parse}
 use Rattle.expr.specs.Tree.Expr.{variable, constant, conditionTrue, load, cast, binary, ternary}
 use Rattle.expr.specs.Scan.{anyNode, isVariable, reads, sameWords, sameTree}
-use Rattle.expr.specs.Types.{promoted, common, constantType, binaryType, typeOf, plainType, sameType}
+use Rattle.expr.specs.Types.{bits, promoted, common, constantType, binaryType, typeOf, plainType, sameType}
 
 -- x × (x + 1), with x the variable 0 and 1 a constant of width 4
 abbrev product : Expr
@@ -28,31 +28,31 @@ types : List ℕ
 types = 4 ∷ 8 ∷ 6 ∷ 3 ∷ 2 ∷ []
 
 bytes-add : typeOf types (binary 0 (variable 0) (variable 0)) ≡ 2
-unfolding typeOf types binaryType common promoted
+unfolding typeOf types binaryType common promoted plainType bits
 bytes-add = refl
 
 pointer-add : typeOf types (binary 0 (variable 1) (variable 4)) ≡ 7
-unfolding typeOf types binaryType common promoted
+unfolding typeOf types binaryType common promoted plainType bits
 pointer-add = refl
 
 bytes-ternary : typeOf types (ternary conditionTrue (variable 0) (variable 0)) ≡ 2
-unfolding typeOf types binaryType common promoted
+unfolding typeOf types binaryType common promoted plainType bits
 bytes-ternary = refl
 
 wider-wins : typeOf types (binary 0 (variable 2) (variable 3)) ≡ 3
-unfolding typeOf types binaryType common promoted
+unfolding typeOf types binaryType common promoted plainType bits
 wider-wins = refl
 
 unsigned-at-tie : typeOf types (binary 0 (variable 2) (variable 4)) ≡ 6
-unfolding typeOf types binaryType common promoted
+unfolding typeOf types binaryType common promoted plainType bits
 unsigned-at-tie = refl
 
 shift-left-type : typeOf types (binary 8 (variable 2) (variable 3)) ≡ 6
-unfolding typeOf types binaryType common promoted
+unfolding typeOf types binaryType common promoted plainType bits
 shift-left-type = refl
 
 comparison : typeOf types (binary 10 (variable 3) (variable 3)) ≡ 2
-unfolding typeOf types binaryType common promoted
+unfolding typeOf types binaryType common promoted plainType bits
 comparison = refl
 
 cast-own : typeOf types (cast 5 product) ≡ 5

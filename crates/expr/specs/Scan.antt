@@ -1,5 +1,5 @@
 -- What stands in a tree, and when two trees are the same.
-use mathlib.Core.Bool.{Bool, true, false, _&&_, _||_}
+use mathlib.Core.Bool.{Bool, true, false, not, _&&_, _||_}
 use mathlib.Core.List.{List, [], _∷_}
 use Prim.Native.Nat.{ℕ}
 use lib.Dec.{eqb}
@@ -59,9 +59,21 @@ isVariable v (ternary c a b) = false
 abbrev pub hasEffect : Expr → Bool
 hasEffect e = anyNode isEffect e
 
+-- What has a value of its own at each occurrence: an effect (V17). Whatever asks whether two occurrences are one value asks this.
+abbrev pub ownValue : Expr → Bool
+ownValue e = isEffect e
+
+-- something with a value of its own stands in the tree
+abbrev pub hasOwnValue : Expr → Bool
+hasOwnValue e = anyNode ownValue e
+
 -- 'Expression', kind 5: a load stands in the tree.
 abbrev pub hasLoad : Expr → Bool
 hasLoad e = anyNode isLoad e
+
+-- Nothing in the tree has a value of its own, and nothing is loaded: the variables alone give its value.
+abbrev pub plainExpr : Expr → Bool
+plainExpr e = not (hasOwnValue e || hasLoad e)
 
 -- 'Expression', kind 0: the variable of number v stands in the tree, under a load too.
 abbrev pub reads : ℕ → Expr → Bool

@@ -2,9 +2,10 @@
 ghost use mathlib.Core.Path.{_≡_};
 ghost use Prim.Native.Nat.{_≤_};
 ghost use lib.ListN.{length, getD};
+ghost use Rattle.expr.specs.Codes.{signed8};
 ghost use Rattle.expr.specs.Tree.{kindOf, argumentOf, arityOf, Wf, Trees, treeOf, treeCount, lastStart};
-ghost use Rattle.expr.specs.Scan.{hasEffect, hasLoad, reads as readsOf, anyTag, ofKind, sameTree};
-ghost use Rattle.expr.specs.Types.{promoted as promotedOf, common as commonOf, plainType, sameType, together, constantType, binaryType, recordType, typeOf};
+ghost use Rattle.expr.specs.Scan.{hasOwnValue, hasLoad, plainExpr, reads as readsOf, anyTag, ofKind, sameTree};
+ghost use Rattle.expr.specs.Types.{bits, promoted as promotedOf, common as commonOf, plainType, sameType, together, constantType, binaryType, recordType, typeOf};
 
 // Kinds of records, and how many there are.
 pub const VARIABLE: u64 = 0;
@@ -49,6 +50,9 @@ pub const POINTER: u64 = 8;
 pub const BOOL: u64 = 9;
 
 pub const TYPES: u64 = 10;
+
+// A number that is no type.
+pub const NO_TYPE: u64 = 10;
 
 // Operators, in `BinaryOp` order, and how many there are.
 pub const ADD: u64 = 0;
@@ -129,10 +133,10 @@ fn has_kind(rs: &[u64], k: u64) -> bool
     false
 }
 
-// Whether an effect stands in the tree.
-pub fn has_effect(rs: &[u64]) -> bool
+// Whether something with a value of its own at each occurrence stands in the tree.
+pub fn has_own_value(rs: &[u64]) -> bool
     requires { ⌜ Wf (now rs) ⌝ }
-    ensures { λ r. ⌜ r ≡ hasEffect (treeOf (now (rs .entry))) ⌝ }
+    ensures { λ r. ⌜ r ≡ hasOwnValue (treeOf (now (rs .entry))) ⌝ }
 {
     has_kind(rs, EFFECT)
 }
@@ -143,6 +147,14 @@ pub fn has_load(rs: &[u64]) -> bool
     ensures { λ r. ⌜ r ≡ hasLoad (treeOf (now (rs .entry))) ⌝ }
 {
     has_kind(rs, LOAD)
+}
+
+// Whether the variables alone give the tree's value.
+pub fn is_plain(rs: &[u64]) -> bool
+    requires { ⌜ Wf (now rs) ⌝ }
+    ensures { λ r. ⌜ r ≡ plainExpr (treeOf (now (rs .entry))) ⌝ }
+{
+    !(has_own_value(rs) | has_load(rs))
 }
 
 // Whether the variable of number v stands in the tree, under a load too.
@@ -161,43 +173,16 @@ pub fn reads(rs: &[u64], v: u64) -> bool
     false
 }
 
-// What an operand of each type is promoted to.
-const PROMOTED: [u64; 10] = [
-    SIGNED_32,
-    SIGNED_32,
-    SIGNED_32,
-    SIGNED_64,
-    SIGNED_32,
-    SIGNED_32,
-    UNSIGNED_32,
-    UNSIGNED_64,
-    UNSIGNED_64,
-    SIGNED_32,
-];
+const BITS: [u64; 10] = [8, 16, 32, 64, 8, 16, 32, 64, 64, 1];
 
-// The type that an operand of type t is promoted to.
-pub fn promoted(t: u64) -> u64
-    ensures { λ r. ⌜ r ≡ promotedOf t ⌝ }
+// How many bits a value of the type has.
+pub fn width(t: u64) -> u64
+    ensures { λ r. ⌜ r ≡ bits t ⌝ }
 {
     if t < TYPES {
-        return PROMOTED[t as usize];
+        return BITS[t as usize];
     }
-    t
-}
-
-// Of two promoted types the wider one, and at one width the unsigned one.
-pub fn common(a: u64, b: u64) -> u64
-    ensures { λ r. ⌜ r ≡ commonOf a b ⌝ }
-{
-    let wa = a % 4;
-    let wb = b % 4;
-    if wa < wb {
-        return b;
-    }
-    if wb < wa {
-        return a;
-    }
-    if a < b { b } else { a }
+    64
 }
 
 // A type with pointer read as unsigned 64.
@@ -205,6 +190,31 @@ fn plain(t: u64) -> u64
     ensures { λ r. ⌜ r ≡ plainType t ⌝ }
 {
     if t == POINTER { UNSIGNED_64 } else { t }
+}
+
+// The type that an operand of type t is promoted to.
+pub fn promoted(t: u64) -> u64
+    ensures { λ r. ⌜ r ≡ promotedOf t ⌝ }
+{
+    if width(t) < 32 {
+        return SIGNED_32;
+    }
+    plain(t)
+}
+
+// Of two promoted types the wider one, and at one width the unsigned one.
+pub fn common(a: u64, b: u64) -> u64
+    ensures { λ r. ⌜ r ≡ commonOf a b ⌝ }
+{
+    let wa = width(a);
+    let wb = width(b);
+    if wa < wb {
+        return b;
+    }
+    if wb < wa {
+        return a;
+    }
+    if a < UNSIGNED_8 { b } else { a }
 }
 
 // Whether two types are the same, a pointer counting as unsigned 64.
@@ -215,7 +225,7 @@ pub fn same_type(a: u64, b: u64) -> bool
 }
 
 // The type of two operands, or of two arms, together.
-fn joined(a: u64, b: u64) -> u64
+pub fn joined(a: u64, b: u64) -> u64
     ensures { λ r. ⌜ r ≡ together a b ⌝ }
 {
     common(promoted(a), promoted(b))
@@ -229,36 +239,40 @@ fn constant_type(width: u64) -> u64
         1 => UNSIGNED_8,
         2 => UNSIGNED_16,
         4 => UNSIGNED_32,
-        _ => UNSIGNED_64,
+        8 => UNSIGNED_64,
+        _ => NO_TYPE,
     }
 }
 
 // The type of a binary operator's result, from its operands' types.
-fn binary_type(operator: u64, a: u64, b: u64) -> u64
+pub fn binary_type(operator: u64, a: u64, b: u64) -> u64
     ensures { λ r. ⌜ r ≡ binaryType operator a b ⌝ }
 {
-    if EQUAL <= operator {
-        return SIGNED_32;
+    if operator < SHL {
+        return joined(a, b);
     }
-    if SHL <= operator {
+    if operator < EQUAL {
         return promoted(a);
     }
-    joined(a, b)
+    if operator < OPERATORS {
+        return SIGNED_32;
+    }
+    NO_TYPE
 }
 
 // The type of the variable of this number.
 fn variable_type(types: &[u8], number: u64) -> u64
-    ensures { λ r. ⌜ r ≡ getD (now (types .entry)) number 0 ⌝ }
+    ensures { λ r. ⌜ r ≡ getD (now (types .entry)) number signed8 ⌝ }
 {
     let i = number as usize;
     if i < types.len() {
         return types[i] as u64;
     }
-    0
+    SIGNED_8
 }
 
 // The type of the tree that a record makes, from the types of its last child, b, and of the one before, a.
-fn pushed_type(tag: u64, types: &[u8], a: u64, b: u64) -> u64
+pub fn record_type(tag: u64, types: &[u8], a: u64, b: u64) -> u64
     ensures { λ r. ⌜ r ≡ recordType (now (types .entry)) tag a b ⌝ }
 {
     let n = argument(tag);
@@ -268,7 +282,8 @@ fn pushed_type(tag: u64, types: &[u8], a: u64, b: u64) -> u64
         EFFECT | LOAD | CAST => n,
         BINARY => binary_type(n, a, b),
         TERNARY => joined(a, b),
-        _ => SIGNED_32,
+        TRUE | FALSE => SIGNED_32,
+        _ => NO_TYPE,
     }
 }
 
@@ -284,7 +299,7 @@ pub fn static_type(rs: &[u64], types: &[u8]) -> u64
     let mut i: usize = 0;
     while i < rs.len() {
         let tag = rs[i];
-        let t = pushed_type(tag, types, stack[top - 2], stack[top - 1]);
+        let t = record_type(tag, types, stack[top - 2], stack[top - 1]);
         let at = top - arity(tag) as usize;
         stack[at] = t;
         top = at + 1;

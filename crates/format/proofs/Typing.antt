@@ -14,7 +14,7 @@ use Rattle.expr.specs.Tree.{Expr}
 use Rattle.expr.specs.Tree.Expr.{variable, constant, conditionTrue, conditionFalse, effect, load, cast, binary, ternary}
 use Rattle.expr.specs.Statement.{Statement}
 use Rattle.expr.specs.Statement.Statement.{assignment, other}
-use Rattle.expr.specs.Types.{promoted, common, together, constantType, binaryType, typeOf, plainType, sameType}
+use Rattle.expr.specs.Types.{bits, promoted, common, together, constantType, binaryType, typeOf, plainType, sameType}
 use Rattle.format.specs.Write.{entry, All}
 use Rattle.format.specs.Expression.{ValidTree}
 use Rattle.format.specs.Types.{Integer, int, uint, StaticType, typesByCode, Promoted, Common, Together, HasType}
@@ -74,14 +74,14 @@ unfolding table entry typesByCode
 code-entry c lt = same-table (entry typesByCode) (λ c. some (ofCode c)) 10 refl c lt
 
 promoted-code : (c : ℕ) → c < 10 → (promoted c < 10) × (integer (promote (ofCode c)) ≡ ofCode (promoted c))
-unfolding table typesByCode promoted promote
+unfolding table typesByCode promoted plainType bits promote
 promoted-code c lt = (
   ltb-true _ 10 (same-table (λ c. ltb (promoted c) 10) (λ c. true) 10 refl c lt),
   same-table (λ c. integer (promote (ofCode c))) (λ c. ofCode (promoted c)) 10 refl c lt,
 )
 
 together-code : (c d : ℕ) → c < 10 → d < 10 → (together c d < 10) × (integer (join (promote (ofCode c)) (promote (ofCode d))) ≡ ofCode (together c d))
-unfolding table typesByCode promoted promote common join
+unfolding table typesByCode promoted plainType bits promote common join
 together-code c d lt few = (
   ltb-true _ 10 (same-table (λ d. ltb (together c d) 10) (λ d. true) 10 (same-table (λ c. table (λ d. ltb (together c d) 10) 10) (λ c. table (λ d. true) 10) 10 refl c lt) d few),
   same-table (λ d. integer (join (promote (ofCode c)) (promote (ofCode d)))) (λ d. ofCode (together c d)) 10

@@ -11,7 +11,7 @@ use Rattle.expr.specs.Types.{promoted, common, together, binaryType, plainType,
 use Rattle.arith.specs.Numbers.{bits, negative, number, convert, count}
 use Rattle.value.specs.declared.Value.{Value}
 use Rattle.value.specs.declared.Value.the-variants.{Of, NoValue}
-use Rattle.value.specs.Operators.{taken, Operation, Operator, arithmetics, shifts, comparisons, onCommon, onLeft, operators, noOperator, strict, operate, truthOf, integerOf, connect}
+use Rattle.value.specs.Operators.{taken, Operation, Operator, arithmetics, shifts, comparisons, onCommon, onLeft, operators, noOperator, strict, operate, truthOf, integerOf, isLogic, connect}
 
 -- two types that are one but for pointer and unsigned 64
 abbrev pub Alike : ℕ → ℕ → Type 0
@@ -31,7 +31,7 @@ on-plain f h t = by (eqb t 8) refl
     by false e = refl
 
 promoted-plain : (t : ℕ) → promoted (plainType t) ≡ promoted t
-unfolding promoted
+unfolding promoted plainType bits
 promoted-plain t = on-plain promoted refl t
 
 convert-plain : (s t x : ℕ) → convert (plainType s) t x ≡ convert s t x
@@ -101,7 +101,7 @@ operators-blind =
 
 operate-plain : (o s t : ℕ) (u v : Value) → operate o (plainType s) (plainType t) u v ≡ operate o s t u v
 unfolding operate
-operate-plain o s t u v = by (leb 16 o) u v
+operate-plain o s t u v = by (isLogic o) u v
   where
     by : (b : Bool) (u v : Value)
         → cond b (integerOf (connect o (truthOf u) (truthOf v))) (strict o (plainType s) (plainType t) u v)

@@ -7,6 +7,7 @@ use Prim.Native.Nat.{ℕ}
 use lib.Dec.{eqb}
 use lib.ListN.{getD}
 use borrow.Author.Tests.{eq-eqb, eqb-true}
+use Rattle.expr.specs.Codes.{signed8}
 use Rattle.expr.specs.Tree.{Expr}
 use Rattle.expr.specs.Tree.Expr.{variable, constant, conditionTrue, conditionFalse, effect, load, cast, binary, ternary}
 use Rattle.expr.specs.Types.{typeOf}
@@ -98,7 +99,7 @@ arms-agree c a b h n r = h n (in-right (reads n c) (reads n a || reads n b) r)
 pub by-variables-read : (types : List ℕ) (ρ ρ′ σ σ′ : Values) (m : Memory) (f : Effects) (e : Expr) → Agree e ρ ρ′ → Agree e σ σ′
     → ev types ρ σ m f e ≡ ev types ρ′ σ′ m f e
 unfolding ev anyNode isVariable
-by-variables-read types ρ ρ′ σ σ′ m f (variable n) h k = ap (chosen (getD types n 0)) (h n (eq-eqb n n refl))
+by-variables-read types ρ ρ′ σ σ′ m f (variable n) h k = ap (chosen (getD types n signed8)) (h n (eq-eqb n n refl))
 by-variables-read types ρ ρ′ σ σ′ m f (constant w x) h k = refl
 by-variables-read types ρ ρ′ σ σ′ m f conditionTrue h k = refl
 by-variables-read types ρ ρ′ σ σ′ m f conditionFalse h k = refl

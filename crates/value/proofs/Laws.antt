@@ -1,28 +1,32 @@
 -- The laws of the operators and of evaluation that this crate's proofs and other crates' cite. Assumes nothing.
 use mathlib.Core.Path.{_≡_, refl, sym, ap, _∙_}
-use mathlib.Core.Bool.{Bool, true, false, cond, not, _&&_}
+use mathlib.Core.Bool.{Bool, true, false, cond, not, _&&_, _||_, false≢true}
 use mathlib.Core.List.{List, [], _∷_, _++_, map}
 use Prim.Native.Nat.{ℕ, zero, suc, _+_, _*_, _/_, _%_, _-_, _^_, _≤_, _<_}
-use native.Mathlib.Nat.{zero-mod}
 use native.Mathlib.Omega.{arith}
 use lib.Bits.{and-lt, or-lt, xor-lt}
-use lib.Dec.{eqb, leb, lit<}
-use lib.ListN.{length, getD, take, drop, List·getD-append, List·getD-map}
+use lib.Dec.{eqb, ltb, lit<}
+use lib.ListN.{length, getD, take, drop, List·getD-append, List·getD-map, List·getD-eq-default}
 use lib.Seq.{getD-append-add}
-use borrow.Author.Tests.{le-leb, lt-leb, eq-eqb, leb-true, leb-false, eqb-true, eqb-false, not-true, not-false}
-use Rattle.expr.specs.Tree.{Expr, Wf, lastStart}
+use borrow.Author.Tests.{eq-eqb, ltb-true, ltb-false, eqb-true, not-true, not-false}
+use Rattle.expr.specs.Codes.{kindEffect, kindCast, kindBinary, kindTernary, signed8, signed32, noType, opShl, opEqual, opLogicalAnd, opLogicalOr, operatorCount}
+use Rattle.expr.specs.Tree.{Expr, kindOf, argumentOf, treeOf, Wf}
+use Rattle.expr.specs.Scan.{plainExpr}
 use Rattle.expr.specs.Tree.Expr.{variable, constant, conditionTrue, conditionFalse, effect, load, cast, binary, ternary}
 use Rattle.expr.specs.Types.{promoted, together, binaryType, constantType, typeOf}
-use Rattle.expr.proofs.Children.{binary-children, ternary-children, root-formed}
+use Rattle.expr.proofs.Children.{OneChild, TwoChildren, ThreeChildren, root-kind, root-formed}
+use Rattle.expr.proofs.Parts.{root-place}
+use Rattle.expr.proofs.Plainness.{plain-cast, plain-binary, plain-ternary, effect-not-plain, load-not-plain}
 use Rattle.arith.specs.Numbers.{bits, convert, quotient, remainder, count, below, atMost}
 use Rattle.arith.proofs.Laws.{and-left, and-right, cut-lt, quotient-typed, remainder-typed, shift-typed, convert-lt}
 use Rattle.value.specs.declared.Value.{Value}
 use Rattle.value.specs.declared.Value.the-variants.{Of, NoValue}
 use Rattle.value.specs.declared.Truth.{Truth}
 use Rattle.value.specs.declared.Truth.the-variants.{Holds, Fails, NoOutcome}
-use Rattle.value.specs.Operators.{Typed, integerOf, truthOf, flag, taken, divides, Operation, arithmetics, shifts, comparisons, noOperation, onCommon, onLeft, operators, noOperator, strict, connect, operate, choose}
+use Rattle.value.specs.Operators.{Typed, integerOf, truthOf, flag, taken, divides, Operation, arithmetics, shifts, comparisons, noOperation, onCommon, onLeft, operators, noOperator, strict, isLogic, connect, operate, choose}
 use Rattle.value.specs.Evaluation.{Values, Contents, Memory, Effects, under, loaded, ev, evaluated}
-use Rattle.value.specs.Root.{rootTag, logicRoot, settles, blank}
+use Rattle.value.specs.Root.{rootTag, logicRoot, settles}
+use Rattle.value.specs.Contracts.{Ready}
 
 -- a number past four keys
 pub past-four : (k o : ℕ) → k ≤ o → (o ≡ k → ⊥) → (o ≡ k + 1 → ⊥) → (o ≡ k + 2 → ⊥) → (o ≡ k + 3 → ⊥) → k + 4 ≤ o
@@ -122,6 +126,10 @@ high-operator o h =
     ∙ getD-append-add (map onLeft shifts) (map onCommon comparisons) (o - 10) noOperator
     ∙ List·getD-map onCommon comparisons (o - 10) noOperation
 
+past-operator : (o : ℕ) → operatorCount ≤ o → getD operators o noOperator ≡ noOperator
+unfolding operators arithmetics shifts comparisons
+past-operator o h = List·getD-eq-default operators noOperator {n = o} (omega arith)
+
 module _ (o ta tb a b : ℕ) where
   -- what the code computes in each range
   module _ (r : Value) where
@@ -137,21 +145,23 @@ module _ (o ta tb a b : ℕ) where
         → r ≡ getD operators o noOperator ta tb a b
     by-high t x y et ex ey h e = e ∙ rw (ex, ey, et, high-operator o h)
 
-  by-range : (p q : Bool) → leb 10 o ≡ p → leb 8 o ≡ q → Typed (cond p 2 (cond q (promoted ta) (together ta tb))) (getD operators o noOperator ta tb a b)
-  by-range true q e f =
+  by-range : (p q r : Bool) → ltb o opShl ≡ p → ltb o opEqual ≡ q → ltb o operatorCount ≡ r
+      → Typed (cond p (together ta tb) (cond q (promoted ta) (cond r signed32 noType))) (getD operators o noOperator ta tb a b)
+  by-range true q r e f g =
       let t = together ta tb in
-      rw (high-operator o (leb-true 10 o e)) (yields-getD t 2 comparisons (o - 10) (comparisons-typed t) (convert ta t a) (convert tb t b) (convert-lt ta t a) (convert-lt tb t b))
-  by-range false true e f =
+      rw (low-operator o (ltb-true o opShl e)) (yields-getD t t arithmetics o (arithmetics-typed t) (convert ta t a) (convert tb t b) (convert-lt ta t a) (convert-lt tb t b))
+  by-range false true r e f g =
       let l = promoted ta in
-      rw (shift-operator o (leb-true 8 o f) (leb-false 10 o e)) (shift-value l (convert ta l a) (count l tb b) (o - 8))
-  by-range false false e f =
+      rw (shift-operator o (ltb-false o opShl e) (ltb-true o opEqual f)) (shift-value l (convert ta l a) (count l tb b) (o - 8))
+  by-range false false true e f g =
       let t = together ta tb in
-      rw (low-operator o (leb-false 8 o f)) (yields-getD t t arithmetics o (arithmetics-typed t) (convert ta t a) (convert tb t b) (convert-lt ta t a) (convert-lt tb t b))
+      rw (high-operator o (ltb-false o opEqual f)) (yields-getD t 2 comparisons (o - 10) (comparisons-typed t) (convert ta t a) (convert tb t b) (convert-lt ta t a) (convert-lt tb t b))
+  by-range false false false e f g = rw (past-operator o (ltb-false o operatorCount g)) tt
 
   -- an operator's value has the operator's type
   operation-typed : Typed (binaryType o ta tb) (getD operators o noOperator ta tb a b)
   unfolding binaryType
-  operation-typed = by-range (leb 10 o) (leb 8 o) refl refl
+  operation-typed = by-range (ltb o opShl) (ltb o opEqual) (ltb o operatorCount) refl refl refl
 
 pub taken-typed : (s t : ℕ) (v : Value) → Typed t (taken s t v)
 taken-typed s t (Of x) = convert-lt s t x
@@ -177,20 +187,28 @@ strict-typed o ta tb (Of a) (Of b) = operation-typed o ta tb a b
 strict-typed o ta tb (Of a) NoValue = tt
 strict-typed o ta tb NoValue v = tt
 
-operate-typed : (o ta tb : ℕ) (u v : Value) → Typed (binaryType o ta tb) (operate o ta tb u v)
-unfolding operate binaryType
-operate-typed o ta tb u v = by (leb 16 o) refl
+-- && and || are signed 32
+pub logic-type : (o ta tb : ℕ) → isLogic o ≡ true → binaryType o ta tb ≡ signed32
+unfolding binaryType
+logic-type o ta tb h = by (eqb o opLogicalAnd) refl (eqb o opLogicalOr) refl h
   where
-    by : (p : Bool) → leb 16 o ≡ p → Typed (binaryType o ta tb) (cond p (integerOf (connect o (truthOf u) (truthOf v))) (strict o ta tb u v))
-    by true e =
-        let h : 16 ≤ o = leb-true 16 o e in
-        rw (le-leb 10 o (omega arith)) (integer-typed (connect o (truthOf u) (truthOf v)))
+    by : (p : Bool) → eqb o opLogicalAnd ≡ p → (q : Bool) → eqb o opLogicalOr ≡ q → (p || q) ≡ true → binaryType o ta tb ≡ signed32
+    by true e q f h = rw (eqb-true o opLogicalAnd e)
+    by false e true f h = rw (eqb-true o opLogicalOr f)
+    by false e false f h = absurd (false≢true h)
+
+operate-typed : (o ta tb : ℕ) (u v : Value) → Typed (binaryType o ta tb) (operate o ta tb u v)
+unfolding operate
+operate-typed o ta tb u v = by (isLogic o) refl
+  where
+    by : (p : Bool) → isLogic o ≡ p → Typed (binaryType o ta tb) (cond p (integerOf (connect o (truthOf u) (truthOf v))) (strict o ta tb u v))
+    by true e = rw (logic-type o ta tb e) (integer-typed (connect o (truthOf u) (truthOf v)))
     by false e = strict-typed o ta tb u v
 
 -- what an expression yields is a value of its static type
 pub ev-typed : (types : List ℕ) (ρ σ : Values) (m : Memory) (f : Effects) (e : Expr) → Typed (typeOf types e) (ev types ρ σ m f e)
 unfolding ev typeOf
-ev-typed types ρ σ m f (variable n) = cut-lt (getD types n 0) (ρ n)
+ev-typed types ρ σ m f (variable n) = cut-lt (getD types n signed8) (ρ n)
 ev-typed types ρ σ m f (constant w x) = cut-lt (constantType w) x
 ev-typed types ρ σ m f conditionTrue = integer-typed Holds
 ev-typed types ρ σ m f conditionFalse = integer-typed Fails
@@ -211,14 +229,6 @@ module _ (types values : List ℕ) where
   evaluated-typed e et ee = rw (et, ee) (ev-typed types (λ n. getD values n 0) (λ n. getD values n 0) (λ path t a. 0) (λ path. 0) e)
 
   -- evaluation by the root
-  evaluated-load : (t : ℕ) (a : Expr) → evaluated types values (load t a) ≡ blank (evaluated types values a)
-  unfolding evaluated ev
-  evaluated-load t a = by (evaluated types values a)
-    where
-      by : (v : Value) → loaded t (typeOf types a) (λ t a. 0) v ≡ blank v
-      by (Of x) = ap Of (zero-mod (2 ^ bits t))
-      by NoValue = refl
-
   evaluated-cast : (t : ℕ) (a : Expr) → evaluated types values (cast t a) ≡ taken (typeOf types a) t (evaluated types values a)
   unfolding evaluated ev
   evaluated-cast t a = refl
@@ -236,17 +246,14 @@ module _ (types values : List ℕ) where
 
   -- what the code computes at each root, of the tree e
   module _ {e : Expr} {r : Value} where
-    pub at-load : {t : ℕ} {a : Expr} {v : Value} → e ≡ load t a → v ≡ evaluated types values a → r ≡ blank v → r ≡ evaluated types values e
-    at-load {t} {a} k h g = g ∙ ap blank h ∙ sym (evaluated-load t a) ∙ ap (evaluated types values) (sym k)
-
     pub at-cast : {t : ℕ} {a : Expr} {s : ℕ} {v : Value} → e ≡ cast t a → s ≡ typeOf types a → v ≡ evaluated types values a → r ≡ taken s t v
         → r ≡ evaluated types values e
     at-cast {t} {a} k w h g = rw (k, evaluated-cast t a, ← w, ← h) g
 
-    pub at-binary : {o : ℕ} {a b : Expr} {ta tb : ℕ} {u v : Value} → e ≡ binary o a b → o < 16 → ta ≡ typeOf types a → tb ≡ typeOf types b
+    pub at-binary : {o : ℕ} {a b : Expr} {ta tb : ℕ} {u v : Value} → e ≡ binary o a b → isLogic o ≡ false → ta ≡ typeOf types a → tb ≡ typeOf types b
         → u ≡ evaluated types values a → v ≡ evaluated types values b → r ≡ strict o ta tb u v → r ≡ evaluated types values e
     unfolding operate
-    at-binary {o} {a} {b} k l wa wb ha hb g = rw (k, evaluated-binary o a b, lt-leb 16 o l, ← wa, ← wb, ← ha, ← hb) g
+    at-binary {o} {a} {b} k l wa wb ha hb g = rw (k, evaluated-binary o a b, l, ← wa, ← wb, ← ha, ← hb) g
 
   -- of a ternary: t is the type of both arms, x what the condition yields
   module _ {e c a b : Expr} {ta tb t : ℕ} {x : Truth} (k : e ≡ ternary c a b) (wa : ta ≡ typeOf types a) (wb : tb ≡ typeOf types b)
@@ -279,11 +286,11 @@ settled-right o Fails v h = rw h
 settled-right o NoOutcome v h = let z : _≡_ {A = ℕ} 0 1 = cc in absurd (omega arith)
 
 -- of && and ||, with u what the left side yields
-module _ (types values : List ℕ) {e : Expr} {o : ℕ} {a b : Expr} {u : Truth} (k : e ≡ binary o a b) (l : 16 ≤ o)
+module _ (types values : List ℕ) {e : Expr} {o : ℕ} {a b : Expr} {u : Truth} (k : e ≡ binary o a b) (l : isLogic o ≡ true)
     (g : u ≡ truthOf (evaluated types values a)) where
   logic-is : evaluated types values e ≡ integerOf (connect o u (truthOf (evaluated types values b)))
   unfolding operate
-  logic-is = rw (k, evaluated-binary types values o a b, le-leb 16 o l, ← g)
+  logic-is = rw (k, evaluated-binary types values o a b, l, ← g)
 
   pub at-left : settles o u ≡ true → integerOf u ≡ evaluated types values e
   at-left h = ap integerOf (settled-left o u (truthOf (evaluated types values b)) h) ∙ sym logic-is
@@ -314,53 +321,75 @@ module _ (types values : List ℕ) {e : Expr} where
   unfolding evaluated ev
   at-false k = rw k
 
-  pub at-effect : {t : ℕ} → e ≡ effect t → Of 0 ≡ evaluated types values e
-  unfolding evaluated ev
-  at-effect {t} k = rw (k, zero-mod (2 ^ bits t))
+-- what holds of a leaf's last kind
+pub last-leaf : (k : ℕ) → k < 4 → (k ≡ 0 → ⊥) → (k ≡ 1 → ⊥) → (k ≡ 2 → ⊥) → k ≡ 3
+last-leaf k h a b c = omega arith
 
--- what holds of a leaf's last two kinds
-pub last-leaf : (P : ℕ → Type 0) (k : ℕ) → k < 5 → (k ≡ 0 → ⊥) → (k ≡ 1 → ⊥) → (k ≡ 2 → ⊥) → P 3 → P 4 → P k
-last-leaf P zero h a b c f g = absurd (a refl)
-last-leaf P (suc zero) h a b c f g = absurd (b refl)
-last-leaf P (suc (suc zero)) h a b c f g = absurd (c refl)
-last-leaf P (suc (suc (suc zero))) h a b c f g = f
-last-leaf P (suc (suc (suc (suc zero)))) h a b c f g = g
-last-leaf P (suc (suc (suc (suc (suc k))))) h a b c f g = absurd (omega arith)
+-- the static types of roots, from their children's
+module _ (types : List ℕ) {e : Expr} where
+  pub type-cast : {t : ℕ} {a : Expr} → e ≡ cast t a → t ≡ typeOf types e
+  unfolding typeOf
+  type-cast k = rw k
 
--- a part that is shorter than the whole: what evaluating it asks, where the whole's measure is t
-pub part-fits : (ws part : List ℕ) → length part < length ws → length ws ≤ 256 → length part ≤ 256
-part-fits ws part h l = omega arith
+  pub type-binary : {o ta tb t : ℕ} {a b : Expr} → e ≡ binary o a b → ta ≡ typeOf types a → tb ≡ typeOf types b → t ≡ binaryType o ta tb
+      → t ≡ typeOf types e
+  unfolding typeOf
+  type-binary k wa wb g = rw (k, ← wa, ← wb) g
 
-pub part-below : (ws part : List ℕ) (t : ℕ) → length ws + length ws ≡ t → length ws ≤ 256 → length part < length ws → Wf part
-    → (length part + length part + 1 < t) × (Wf part × (length part ≤ 256))
-part-below ws part t e l h w = (omega arith, (w, omega arith))
+  pub type-ternary : {ta tb t : ℕ} {c a b : Expr} → e ≡ ternary c a b → ta ≡ typeOf types a → tb ≡ typeOf types b → t ≡ together ta tb
+      → t ≡ typeOf types e
+  unfolding typeOf
+  type-ternary k wa wb g = rw (k, ← wa, ← wb) g
+
+-- a part that is shorter than the whole can be evaluated, and the measure falls
+pub part-ready : (ws part : List ℕ) (t : ℕ) → 3 * length ws ≤ t → Ready ws → length part < length ws → Wf part → plainExpr (treeOf part) ≡ true
+    → (3 * length part + 2 < t) × Ready part
+part-ready ws part t e r h w p = (omega arith, record { wf = w; few = omega (arith, r .few); plain = p })
+
+-- the parts of a root with one, two or three children
+module _ (ws : List ℕ) (t : ℕ) (e : 3 * length ws ≤ t) (r : Ready ws) where
+  abbrev Falls : List ℕ → Type 0
+  Falls part = (3 * length part + 2 < t) × Ready part
+
+  pub one-ready : {n k : ℕ} → OneChild ws n (cast k) → Falls (take n ws)
+  one-ready {n} {k} d = part-ready ws (take n ws) t e r (d .shorter) (d .wf) (plain-cast k _ (ap plainExpr (sym (d .tree)) ∙ r .plain))
+
+  pub two-ready : {n m o : ℕ} → TwoChildren ws n m (binary o) → Falls (take m ws) × Falls (take (n - m) (drop m ws))
+  two-ready {n} {m} {o} d =
+      let p = plain-binary o _ _ (ap plainExpr (sym (d .tree)) ∙ r .plain) in
+      (part-ready ws (take m ws) t e r (d .leftShorter) (d .leftWf) (p .0), part-ready ws (take (n - m) (drop m ws)) t e r (d .rightShorter) (d .rightWf) (p .1))
+
+  pub three-ready : {n m l : ℕ} → ThreeChildren ws n m l → Falls (take l ws) × Falls (take (m - l) (drop l ws)) × Falls (take (n - m) (drop m ws))
+  three-ready {n} {m} {l} d =
+      let p = plain-ternary _ _ _ (ap plainExpr (sym (d .tree)) ∙ r .plain) in (
+        part-ready ws (take l ws) t e r (d .conditionShorter) (d .conditionWf) (p .0),
+        part-ready ws (take (m - l) (drop l ws)) t e r (d .thenShorter) (d .thenWf) (p .1),
+        part-ready ws (take (n - m) (drop m ws)) t e r (d .otherwiseShorter) (d .otherwiseWf) (p .2),
+      )
 
 -- the root of a tree whose root is && or ||
-pub logic-kind : (ws : List ℕ) → logicRoot ws ≡ true → rootTag ws % 16 ≡ 7
-logic-kind ws h = eqb-true (rootTag ws % 16) 7 (and-left (eqb (rootTag ws % 16) 7) (leb 16 (rootTag ws / 16)) h)
+pub logic-kind : (ws : List ℕ) → logicRoot ws ≡ true → kindOf (rootTag ws) ≡ kindBinary
+logic-kind ws h = eqb-true (rootTag ws % 16) 7 (and-left (eqb (rootTag ws % 16) 7) (isLogic (rootTag ws / 16)) h)
 
-pub logic-operator : (ws : List ℕ) → logicRoot ws ≡ true → 16 ≤ rootTag ws / 16
-logic-operator ws h = leb-true 16 (rootTag ws / 16) (and-right (eqb (rootTag ws % 16) 7) (leb 16 (rootTag ws / 16)) h)
+pub logic-operator : (ws : List ℕ) → logicRoot ws ≡ true → isLogic (argumentOf (rootTag ws)) ≡ true
+logic-operator ws h = and-right (eqb (rootTag ws % 16) 7) (isLogic (rootTag ws / 16)) h
 
 -- and of one that is another binary
-pub strict-operator : (ws : List ℕ) → logicRoot ws ≡ false → rootTag ws % 16 ≡ 7 → rootTag ws / 16 < 16
-strict-operator ws h k = leb-false 16 (rootTag ws / 16) (ap (λ (b : Bool). b && leb 16 (rootTag ws / 16)) (sym (eq-eqb (rootTag ws % 16) 7 k)) ∙ h)
+pub strict-operator : (ws : List ℕ) → logicRoot ws ≡ false → kindOf (rootTag ws) ≡ kindBinary → isLogic (argumentOf (rootTag ws)) ≡ false
+strict-operator ws h k = ap (λ (b : Bool). b && isLogic (rootTag ws / 16)) (sym (eq-eqb (rootTag ws % 16) 7 k)) ∙ h
 
--- a kind that is none of the others is 8
-pub kind-eight : (k : ℕ) → k ≤ 8 → 5 ≤ k → (k ≡ 5 → ⊥) → (k ≡ 6 → ⊥) → (k ≡ 7 → ⊥) → k ≡ 8
-kind-eight k h l a b c = omega arith
+-- its type
+pub logic-root-type : (types ws : List ℕ) → Wf ws → logicRoot ws ≡ true → signed32 ≡ typeOf types (treeOf ws)
+logic-root-type types ws w h =
+    type-binary types (root-kind ws (length ws - 2) w (root-place ws w) 7 (logic-kind ws h)) refl refl (sym (logic-type (rootTag ws / 16) _ _ (logic-operator ws h)))
 
--- the last child of a root with two or three
-pub last-child : (ws : List ℕ) (n m : ℕ) → Wf ws → n + 2 ≡ length ws → m ≡ lastStart (take n ws)
-    → 5 ≤ getD ws n 0 % 16 → (getD ws n 0 % 16 ≡ 5 → ⊥) → (getD ws n 0 % 16 ≡ 6 → ⊥)
-    → Wf (take (n - m) (drop m ws)) × (length (take (n - m) (drop m ws)) < length ws)
-last-child ws n m w e s h f g = by (eqb k 7) refl
-  where
-    k : ℕ
-    k = getD ws n 0 % 16
-
-    by : (b : Bool) → eqb k 7 ≡ b → Wf (take (n - m) (drop m ws)) × (length (take (n - m) (drop m ws)) < length ws)
-    by true i = let d = binary-children ws n w e m s (eqb-true k 7 i) in (d .rightWf, d .rightShorter)
-    by false i =
-        let d = ternary-children ws n w e m s (kind-eight k (root-formed ws n w e .kind) h f g (eqb-false k 7 i)) (lastStart (take m ws)) refl in
-        (d .otherwiseWf, d .otherwiseShorter)
+-- the kind of a root that is neither leaf, cast nor ternary, where nothing has a value of its own or is loaded
+pub binary-kind : (ws : List ℕ) → Ready ws → kindEffect ≤ kindOf (rootTag ws) → (kindOf (rootTag ws) ≡ kindCast → ⊥)
+    → (kindOf (rootTag ws) ≡ kindTernary → ⊥) → kindOf (rootTag ws) ≡ kindBinary
+binary-kind ws r h f g =
+    let n = length ws - 2 in
+    let at = root-place ws (r .wf) in
+    let k : rootTag ws % 16 ≤ 8 = root-formed ws n (r .wf) at .kind in
+    let a : (rootTag ws % 16 ≡ 4 → ⊥) = λ e. effect-not-plain (rootTag ws / 16) (ap plainExpr (sym (root-kind ws n (r .wf) at 4 e)) ∙ r .plain) in
+    let b : (rootTag ws % 16 ≡ 5 → ⊥) = λ e. load-not-plain (rootTag ws / 16) _ (ap plainExpr (sym (root-kind ws n (r .wf) at 5 e)) ∙ r .plain) in
+    omega arith

@@ -2,6 +2,7 @@
 use mathlib.Core.List.{List, [], _∷_}
 use Prim.Native.Nat.{ℕ}
 use lib.ListN.{getD}
+use Rattle.expr.specs.Codes.{pointer, signed8}
 use Rattle.expr.specs.Tree.{Expr}
 use Rattle.expr.specs.Tree.Expr.{variable, constant, conditionTrue, conditionFalse, effect, load, cast, binary, ternary}
 use Rattle.expr.specs.Types.{typeOf, constantType, together}
@@ -41,13 +42,13 @@ shared m path = m
 
 -- 'Values', a load of type t: what memory has at the address, a value of type s taken as a pointer
 abbrev pub loaded : ℕ → ℕ → Contents → Value → Value
-loaded t s m (Of x) = chosen t (m t (convert s 8 x))
+loaded t s m (Of x) = chosen t (m t (convert s pointer x))
 loaded t s m NoValue = NoValue
 
 -- 'Values': the value of an expression over variables of these types. ρ gives the variables' values outside loads, σ from a load inwards, m what
 -- its loads find in memory, f the effects' values.
 unfoldable pub ev : List ℕ → Values → Values → Memory → Effects → Expr → Value
-ev types ρ σ m f (variable n) = chosen (getD types n 0) (ρ n)
+ev types ρ σ m f (variable n) = chosen (getD types n signed8) (ρ n)
 ev types ρ σ m f (constant w x) = chosen (constantType w) x
 ev types ρ σ m f conditionTrue = Of 1
 ev types ρ σ m f conditionFalse = Of 0
@@ -60,7 +61,8 @@ ev types ρ σ m f (ternary c a b) =
     let t = together (typeOf types a) (typeOf types b) in
     choose (truthOf (ev types ρ σ (under 0 m) (under 0 f) c)) (taken (typeOf types a) t (ev types ρ σ (under 1 m) (under 1 f) a)) (taken (typeOf types b) t (ev types ρ σ (under 2 m) (under 2 f) b))
 
--- The value of an expression on lent values, extra ones unread; what a load or an effect yields is then 0.
+-- The value of an expression on lent values. Where it has neither load nor effect, what these would yield plays no part
+-- (`proofs/Steps.antt plain-ev`); it is taken as 0.
 unfoldable pub evaluated : List ℕ → List ℕ → Expr → Value
 evaluated types values e = ev types (λ n. getD values n 0) (λ n. getD values n 0) (λ path t a. 0) (λ path. 0) e
 

@@ -1,11 +1,12 @@
 -- 'Values': the operators on optional values. A value is the bit pattern of its type; a division by zero leaves none. What is lazy and what has
 -- no value is said here, and nowhere else.
-use mathlib.Core.Bool.{Bool, cond, not}
+use mathlib.Core.Bool.{Bool, cond, not, _||_}
 use mathlib.Core.List.{List, [], _∷_, _++_, map}
 use Prim.Native.Nat.{ℕ, _%_, _^_, _<_}
 use lib.Bits.{bitAnd, bitOr, bitXor}
-use lib.Dec.{eqb, leb}
+use lib.Dec.{eqb}
 use lib.ListN.{getD}
+use Rattle.expr.specs.Codes.{opLogicalAnd, opLogicalOr}
 use Rattle.expr.specs.Types.{promoted, together}
 use Rattle.arith.specs.Numbers.{bits, convert, sum, difference, product, quotient, remainder, shiftLeft, shiftRight, count, below, atMost}
 use Rattle.value.specs.declared.Value.{Value}
@@ -54,7 +55,7 @@ Operation = ℕ → ℕ → ℕ → Value
 abbrev pub noOperation : Operation
 noOperation t x y = NoValue
 
--- operators 0 to 7, + - × / % & | ^, on two patterns of type t
+-- + - × / % & | ^ on two patterns of type t
 unfoldable pub arithmetics : List Operation
 arithmetics =
     (λ t x y. Of (sum t x y))
@@ -67,11 +68,11 @@ arithmetics =
     ∷ (λ t x y. Of (bitXor x y))
     ∷ []
 
--- operators 8 and 9, << and >>, on a pattern of type t and a count
+-- << and >> on a pattern of type t and a count
 unfoldable pub shifts : List Operation
 shifts = (λ t x k. Of (shiftLeft t x k)) ∷ (λ t x k. Of (shiftRight t x k)) ∷ []
 
--- operators 10 to 15, == != < <= > >=, on two patterns of type t
+-- == != < <= > >= on two patterns of type t
 unfoldable pub comparisons : List Operation
 comparisons =
     (λ t x y. flag (eqb x y))
@@ -94,10 +95,11 @@ onCommon op ta tb a b = op (together ta tb) (convert ta (together ta tb) a) (con
 abbrev pub onLeft : Operation → Operator
 onLeft op ta tb a b = op (promoted ta) (convert ta (promoted ta) a) (count (promoted ta) tb b)
 
--- 'Values': operators 0 to 15, in `BinaryOp` order
+-- The operators whose sides are integers, in `BinaryOp` order, so that each stands at its number (S43).
 unfoldable pub operators : List Operator
 operators = map onCommon arithmetics ++ (map onLeft shifts ++ map onCommon comparisons)
 
+-- no operator has this number
 abbrev pub noOperator : Operator
 noOperator ta tb a b = NoValue
 
@@ -118,13 +120,18 @@ eitherHolds Holds v = Holds
 eitherHolds Fails v = v
 eitherHolds NoOutcome v = NoOutcome
 
--- operators 16 and 17
-abbrev pub connect : ℕ → Truth → Truth → Truth
-connect o u v = cond (eqb o 16) (bothHold u v) (eitherHolds u v)
+-- the operators whose sides are conditions
+abbrev pub isLogic : ℕ → Bool
+isLogic o = eqb o opLogicalAnd || eqb o opLogicalOr
 
--- every operator: from 16 up the sides are conditions, below that integers
+-- one of those two
+abbrev pub connect : ℕ → Truth → Truth → Truth
+connect o u v = cond (eqb o opLogicalAnd) (bothHold u v) (eitherHolds u v)
+
+-- Every operator: && and || join conditions, the others have a value of two integers. A number that is no operator yields nothing; reading
+-- lets none through (R8).
 unfoldable pub operate : ℕ → ℕ → ℕ → Value → Value → Value
-operate o ta tb u v = cond (leb 16 o) (integerOf (connect o (truthOf u) (truthOf v))) (strict o ta tb u v)
+operate o ta tb u v = cond (isLogic o) (integerOf (connect o (truthOf u) (truthOf v))) (strict o ta tb u v)
 
 -- 'Values': the ternary evaluates only the arm it needs.
 abbrev pub choose : Truth → Value → Value → Value

@@ -3,12 +3,13 @@ ghost use mathlib.Core.Path.{_≡_};
 ghost use mathlib.Core.Bool.{true, false, cond};
 ghost use Prim.Native.Nat.{_-_, _%_, _^_, _≤_, _<_};
 ghost use lib.ListN.{length, getD};
-ghost use Rattle.expr.specs.Tree.{Wf, treeOf};
-ghost use Rattle.expr.specs.Types.{together};
+ghost use Rattle.expr.specs.Codes.{kindEffect, kindTernary};
+ghost use Rattle.expr.specs.Tree.{kindOf, Wf, treeOf};
 ghost use Rattle.arith.specs.Numbers.{bits, quotient, remainder};
 ghost use Rattle.value.specs.Operators.{Typed, integerOf, truthOf, flag, taken, divides, arithmetics, shifts, comparisons, noOperation, operators, noOperator, strict};
 ghost use Rattle.value.specs.Evaluation.{evaluated, settled};
-ghost use Rattle.value.specs.Root.{rootTag, logicRoot, settles as settlesOf, blank};
+ghost use Rattle.value.specs.Root.{rootTag, logicRoot, settles as settlesOf};
+ghost use Rattle.value.specs.Contracts.{Ready, Evaluates};
 
 // What an expression yields as an integer: the bit pattern of its type, or nothing after a division by zero.
 pub enum Value {
@@ -21,6 +22,12 @@ pub enum Truth {
     Holds,
     Fails,
     NoOutcome,
+}
+
+// A value with the static type of its expression.
+pub struct TypedValue {
+    pub value: Value,
+    pub typing: u64,
 }
 
 // A condition as an integer.
@@ -118,20 +125,13 @@ fn compared(operator: u64, t: u64, a: u64, b: u64) -> Value
     }
 }
 
-// The type of two operands, or of two arms, together.
-fn joined(a: u64, b: u64) -> u64
-    ensures { λ r. ⌜ r ≡ together a b ⌝ }
-{
-    expr::common(expr::promoted(a), expr::promoted(b))
-}
-
 // An operator up to >= on a of type ta and b of type tb.
 fn binary(operator: u64, ta: u64, tb: u64, a: u64, b: u64) -> Value
     requires { ⌜ a < 2 ^ bits ta ⌝ }
     requires { ⌜ b < 2 ^ bits tb ⌝ }
     ensures { λ r. ⌜ r ≡ getD operators operator noOperator ta tb a b ⌝ }
 {
-    let t = joined(ta, tb);
+    let t = expr::joined(ta, tb);
     let x = arith::converted(ta, t, a);
     let y = arith::converted(tb, t, b);
     if operator < expr::SHL {
@@ -175,16 +175,6 @@ fn retyped(s: u64, t: u64, v: Value) -> Value
     }
 }
 
-// A load where all memory is 0.
-fn blanked(v: Value) -> Value
-    ensures { λ r. ⌜ r ≡ blank v ⌝ }
-{
-    match v {
-        Value::Of(_) => Value::Of(0),
-        Value::NoValue => Value::NoValue,
-    }
-}
-
 // Whether the left side of && or || settles the whole.
 fn settles(operator: u64, left: Truth) -> bool
     ensures { λ r. ⌜ r ≡ settlesOf operator left ⌝ }
@@ -213,60 +203,68 @@ fn is_logic(rs: &[u64]) -> bool
     ensures { λ r. ⌜ r ≡ logicRoot (now (rs .entry)) ⌝ }
 {
     let tag = rs[rs.len() - 2];
-    (tag % 16 == expr::BINARY) & (expr::LOGICAL_AND <= tag / 16)
+    let operator = expr::argument(tag);
+    (expr::kind(tag) == expr::BINARY)
+        & ((operator == expr::LOGICAL_AND) | (operator == expr::LOGICAL_OR))
 }
 
-// A tree of one record.
-fn leaf(rs: &[u64], types: &[u8], values: &[u64]) -> Value
-    requires { ⌜ Wf (now rs) ⌝ }
-    requires { ⌜ length (now rs) ≤ 256 ⌝ }
-    requires { ⌜ rootTag (now rs) % 16 < 5 ⌝ }
-    ensures { λ r. ⌜ r ≡ evaluated (now (types .entry)) (now (values .entry)) (treeOf (now (rs .entry))) ⌝ }
+// A variable, a constant, true or false.
+fn leaf(rs: &[u64], types: &[u8], values: &[u64]) -> TypedValue
+    requires { ⌜ Ready (now rs) ⌝ }
+    requires { ⌜ kindOf (rootTag (now rs)) < kindEffect ⌝ }
+    ensures { λ r. ⌜ Evaluates r (now (types .entry)) (now (values .entry)) (treeOf (now (rs .entry))) ⌝ }
 {
     let n = rs.len() - 2;
     let tag = rs[n];
-    let t = expr::static_type(rs, types);
-    match tag % 16 {
-        expr::VARIABLE => Value::Of(arith::cut(t, lent(values, tag / 16))),
-        expr::CONSTANT => Value::Of(arith::cut(t, rs[n + 1])),
-        expr::TRUE => Value::Of(1),
-        _ => Value::Of(0),
+    let t = expr::record_type(tag, types, 0, 0);
+    let pattern = match expr::kind(tag) {
+        expr::VARIABLE => arith::cut(t, lent(values, expr::argument(tag))),
+        expr::CONSTANT => arith::cut(t, rs[n + 1]),
+        expr::TRUE => 1,
+        _ => 0,
+    };
+    TypedValue {
+        value: Value::Of(pattern),
+        typing: t,
     }
 }
 
-// The value of a tree.
-pub fn integer(rs: &[u64], types: &[u8], values: &[u64]) -> Value
-    requires { ⌜ Wf (now rs) ⌝ }
-    requires { ⌜ length (now rs) ≤ 256 ⌝ }
-    ensures { λ r. ⌜ r ≡ evaluated (now (types .entry)) (now (values .entry)) (treeOf (now (rs .entry))) ⌝ }
+// The value of a tree without load and effect.
+pub fn integer(rs: &[u64], types: &[u8], values: &[u64]) -> TypedValue
+    requires { ⌜ Ready (now rs) ⌝ }
+    ensures { λ r. ⌜ Evaluates r (now (types .entry)) (now (values .entry)) (treeOf (now (rs .entry))) ⌝ }
 {
     if is_logic(rs) {
-        return integer_of(logical(rs, types, values));
+        let v = integer_of(logical(rs, types, values));
+        return TypedValue {
+            value: v,
+            typing: expr::SIGNED_32,
+        };
     }
     numeric(rs, types, values)
 }
 
 // The tree as a condition.
 pub fn condition(rs: &[u64], types: &[u8], values: &[u64]) -> Truth
-    requires { ⌜ Wf (now rs) ⌝ }
-    requires { ⌜ length (now rs) ≤ 256 ⌝ }
+    requires { ⌜ Ready (now rs) ⌝ }
     ensures { λ r. ⌜ r ≡ settled (now (types .entry)) (now (values .entry)) (treeOf (now (rs .entry))) ⌝ }
 {
     if is_logic(rs) {
         return logical(rs, types, values);
     }
-    truth_of(numeric(rs, types, values))
+    let r = numeric(rs, types, values);
+    let v = r.value;
+    truth_of(v)
 }
 
 // A tree whose root is && or ||: its sides are conditions, and the right one is evaluated only where the left one does not settle it.
 fn logical(rs: &[u64], types: &[u8], values: &[u64]) -> Truth
-    requires { ⌜ Wf (now rs) ⌝ }
-    requires { ⌜ length (now rs) ≤ 256 ⌝ }
+    requires { ⌜ Ready (now rs) ⌝ }
     requires { ⌜ logicRoot (now rs) ≡ true ⌝ }
     ensures { λ r. ⌜ integerOf r ≡ evaluated (now (types .entry)) (now (values .entry)) (treeOf (now (rs .entry))) ⌝ }
 {
     let n = rs.len() - 2;
-    let operator = rs[n] / 16;
+    let operator = expr::argument(rs[n]);
     let m = expr::last_start(&rs[..n]);
     let left = condition(&rs[..m], types, values);
     if settles(operator, left) {
@@ -276,42 +274,76 @@ fn logical(rs: &[u64], types: &[u8], values: &[u64]) -> Truth
 }
 
 // A tree with another root: its value is made of its children's.
-fn numeric(rs: &[u64], types: &[u8], values: &[u64]) -> Value
-    requires { ⌜ Wf (now rs) ⌝ }
-    requires { ⌜ length (now rs) ≤ 256 ⌝ }
+fn numeric(rs: &[u64], types: &[u8], values: &[u64]) -> TypedValue
+    requires { ⌜ Ready (now rs) ⌝ }
     requires { ⌜ logicRoot (now rs) ≡ false ⌝ }
-    ensures { λ r. ⌜ r ≡ evaluated (now (types .entry)) (now (values .entry)) (treeOf (now (rs .entry))) ⌝ }
+    ensures { λ r. ⌜ Evaluates r (now (types .entry)) (now (values .entry)) (treeOf (now (rs .entry))) ⌝ }
 {
     let n = rs.len() - 2;
     let tag = rs[n];
-    let kind = tag % 16;
-    if kind < expr::LOAD {
+    let kind = expr::kind(tag);
+    if kind < expr::EFFECT {
         return leaf(rs, types, values);
     }
-    let below = &rs[..n];
-    if kind == expr::LOAD {
-        return blanked(integer(below, types, values));
-    }
+    let t = expr::argument(tag);
     if kind == expr::CAST {
-        let s = expr::static_type(below, types);
-        return retyped(s, tag / 16, integer(below, types, values));
+        let a = integer(&rs[..n], types, values);
+        let v = a.value;
+        return TypedValue {
+            value: retyped(a.typing, t, v),
+            typing: t,
+        };
     }
-    let m = expr::last_start(below);
-    let last = &rs[m..n];
-    let tb = expr::static_type(last, types);
-    if kind == expr::BINARY {
-        let left = &rs[..m];
-        let ta = expr::static_type(left, types);
-        let a = integer(left, types, values);
-        return operated(tag / 16, ta, tb, a, integer(last, types, values));
+    if kind == expr::TERNARY {
+        return ternary(rs, types, values);
     }
+    let m = expr::last_start(&rs[..n]);
+    let a = integer(&rs[..m], types, values);
+    let b = integer(&rs[m..n], types, values);
+    let u = a.value;
+    let v = b.value;
+    TypedValue {
+        value: operated(t, a.typing, b.typing, u, v),
+        typing: expr::binary_type(t, a.typing, b.typing),
+    }
+}
+
+// A ternary: the arm that its condition chooses is evaluated, of the other the type alone is found.
+fn ternary(rs: &[u64], types: &[u8], values: &[u64]) -> TypedValue
+    requires { ⌜ Ready (now rs) ⌝ }
+    requires { ⌜ kindOf (rootTag (now rs)) ≡ kindTernary ⌝ }
+    ensures { λ r. ⌜ Evaluates r (now (types .entry)) (now (values .entry)) (treeOf (now (rs .entry))) ⌝ }
+{
+    let n = rs.len() - 2;
+    let m = expr::last_start(&rs[..n]);
     let l = expr::last_start(&rs[..m]);
     let then = &rs[l..m];
-    let ta = expr::static_type(then, types);
-    let t = joined(ta, tb);
+    let otherwise = &rs[m..n];
     match condition(&rs[..l], types, values) {
-        Truth::Holds => retyped(ta, t, integer(then, types, values)),
-        Truth::Fails => retyped(tb, t, integer(last, types, values)),
-        Truth::NoOutcome => Value::NoValue,
+        Truth::Holds => {
+            let a = integer(then, types, values);
+            let v = a.value;
+            let t = expr::joined(a.typing, expr::static_type(otherwise, types));
+            TypedValue {
+                value: retyped(a.typing, t, v),
+                typing: t,
+            }
+        }
+        Truth::Fails => {
+            let b = integer(otherwise, types, values);
+            let v = b.value;
+            let t = expr::joined(expr::static_type(then, types), b.typing);
+            TypedValue {
+                value: retyped(b.typing, t, v),
+                typing: t,
+            }
+        }
+        Truth::NoOutcome => TypedValue {
+            value: Value::NoValue,
+            typing: expr::joined(
+                expr::static_type(then, types),
+                expr::static_type(otherwise, types),
+            ),
+        },
     }
 }

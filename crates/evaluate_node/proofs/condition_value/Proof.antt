@@ -1,4 +1,4 @@
-use Rattle.evaluate_node.proofs.Laws.{condition-tree, condition-short}
+use Rattle.evaluate_node.proofs.Laws.{condition-ready}
 use native.Mathlib.Omega.{arith}
 use mathlib.Core.Path.{sym}
 use lib.Seq.{length-take-le}
@@ -27,7 +27,7 @@ slice-aggregate-condition : tie.Need-slice-aggregate-condition
 slice-aggregate-condition c = sym (length-take-le _ _ (omega (arith, took-fits (c .before .before .take-expression .ensures) (c .before .before .take-expression .kept .1 .1 .1 .0), c .before .before .take-expression .kept .1 .1 .1 .0)))
 
 condition-requires : tie.Need-condition-requires
-condition-requires c κs = (condition-tree _ _ _ (c .before .before .take-expression .ensures) (c .before .before .before .before .before .before .before .pre .1), condition-short _ _ _ (c .before .before .take-expression .ensures) (c .before .before .before .before .before .before .before .pre .1))
+condition-requires c κs = condition-ready _ _ _ (c .before .before .take-expression .ensures) (c .before .before .before .before .before .before .before .pre .1 .0) (c .before .before .before .before .before .before .before .pre .1 .1)
 
 returns : tie.Need-returns
 returns c = rw (c .condition .ensures, took-front (c .before .before .before .take-expression .ensures))

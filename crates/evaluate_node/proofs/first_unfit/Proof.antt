@@ -10,7 +10,7 @@ use Rattle.evaluate_node.proofs.first_unfit.Statement.{statement}
 use Rattle.evaluate_node.proofs.first_unfit.Tie as tie
 use Rattle.evaluate_node.proofs.first_unfit.Reads as reads
 use Rattle.evaluate_node.proofs.first_unfit.Lts as lts
-use Rattle.evaluate_node.proofs.fits.Reads as fits-reads
+use Rattle.arith.proofs.fits.Reads as fits-reads
 use Rattle.evaluate_node.proofs.wide.Reads as wide-reads
 
 abbrev Inv-loop : tie.InvT-loop

@@ -1,4 +1,4 @@
-use Rattle.evaluate_node.proofs.Laws.{condition-tree, condition-short}
+use Rattle.evaluate_node.proofs.Laws.{condition-tree}
 use native.Mathlib.Omega.{arith}
 use mathlib.Core.Path.{sym}
 use lib.Seq.{length-take-le}
@@ -8,7 +8,7 @@ use Rattle.evaluate_node.proofs.plain_condition.Statement.{statement}
 use Rattle.evaluate_node.proofs.plain_condition.Tie as tie
 use Rattle.evaluate_node.proofs.plain_condition.Reads as reads
 use Rattle.evaluate_node.proofs.plain_condition.Lts as lts
-use Rattle.evaluate_node.proofs.is_plain.Reads as is-plain-reads
+use Rattle.expr.proofs.is_plain.Reads as is-plain-reads
 use Rattle.sheet_expression.proofs.take_expression.Reads as take-expression-reads
 
 slice-aggregate-take-expression : tie.Need-slice-aggregate-take-expression

@@ -8,7 +8,7 @@ use Rattle.evaluate_node.proofs.plain_statement.Statement.{statement}
 use Rattle.evaluate_node.proofs.plain_statement.Tie as tie
 use Rattle.evaluate_node.proofs.plain_statement.Reads as reads
 use Rattle.evaluate_node.proofs.plain_statement.Lts as lts
-use Rattle.evaluate_node.proofs.is_plain.Reads as is-plain-reads
+use Rattle.expr.proofs.is_plain.Reads as is-plain-reads
 use Rattle.sheet_node.proofs.take_statement.Reads as take-statement-reads
 
 slice-aggregate-take-statement : tie.Need-slice-aggregate-take-statement

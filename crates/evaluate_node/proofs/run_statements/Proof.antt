@@ -6,7 +6,7 @@ use borrow.Author.Needs.{needs}
 use native.Mathlib.Omega.{arith}
 use Rattle.sheet_node.specs.Node.{statementsFrom}
 use Rattle.evaluate_node.specs.Evaluate.{assignedAll}
-use Rattle.evaluate_node.proofs.Laws.{none-next, statement-whole, is-assigned, in-list, run-on, run-out, run-next, run-done}
+use Rattle.evaluate_node.proofs.Laws.{none-next, statement-whole, this-plain, in-list, run-on, run-out, run-next, run-done}
 use Rattle.evaluate_node.proofs.run_statements.Statement.{statement}
 use Rattle.evaluate_node.proofs.run_statements.Tie as tie
 use Rattle.evaluate_node.proofs.run_statements.Reads as reads
@@ -27,7 +27,7 @@ loop-holds : tie.Need-loop-holds Inv-loop μ-loop
 loop-holds c = (omega arith, none-next _ _ _, refl, refl)
 
 statement-value-requires : tie.Need-statement-value-requires Inv-loop μ-loop
-statement-value-requires c κs = (c .before .before .before .before .before .before .pre .0 .0, (statement-whole _ _ _ _ _ (c .before .before .before .before .before .before .pre .1 .0) (c .before .loop-test .taken) (c .before .before .loop .inv .1), is-assigned (c .before .before .before .before .before .before .args .types .now) (c .before .before .before .before .before .before .args .s .now) (c .before .before .before .before .before .before .args .p) (c .before .before .before .before .before .before .args .n) (c .before .before .loop .i) (c .before .loop-test .taken) (c .before .before .before .before .before .before .pre .1 .1) (c .before .before .loop .inv .1)))
+statement-value-requires c κs = (c .before .before .before .before .before .before .pre .0 .0, (statement-whole _ _ _ _ _ (c .before .before .before .before .before .before .pre .1 .0) (c .before .loop-test .taken) (c .before .before .loop .inv .1), this-plain (c .before .before .before .before .before .before .args .types .now) (c .before .before .before .before .before .before .args .s .now) (c .before .before .before .before .before .before .args .p) (c .before .before .before .before .before .before .args .n) (c .before .before .loop .i) (c .before .loop-test .taken) (c .before .before .before .before .before .before .pre .1 .1) (c .before .before .loop .inv .1)))
 
 enum-told : tie.Need-enum-told Inv-loop μ-loop
 enum-told c = search needs

@@ -1,4 +1,4 @@
-use Rattle.evaluate_node.proofs.Laws.{took-room, took-words, taken-tree, taken-short}
+use Rattle.evaluate_node.proofs.Laws.{took-room, took-words, taken-ready}
 use native.Mathlib.Omega.{arith}
 use mathlib.Core.Path.{sym, _∙_}
 use lib.Seq.{length-take-le}
@@ -26,10 +26,10 @@ slice-aggregate-integer : tie.Need-slice-aggregate-integer
 slice-aggregate-integer c = sym (length-take-le _ _ (omega (arith, took-room (c .before .before .take-statement .ensures) (c .before .before .take-statement .kept .1 .1 .1 .0), c .before .before .take-statement .kept .1 .1 .1 .0)))
 
 integer-requires : tie.Need-integer-requires
-integer-requires c κs = (taken-tree _ _ _ (c .before .before .take-statement .ensures) (c .before .before .before .before .before .before .before .pre .1 .0) (c .before .before .take-statement .ensures .assigned ∙ c .before .before .before .before .before .before .before .pre .1 .1), taken-short _ _ _ (c .before .before .take-statement .ensures) (c .before .before .before .before .before .before .before .pre .1 .0) (c .before .before .before .before .before .before .before .pre .1 .1))
+integer-requires c κs = taken-ready _ _ _ (c .before .before .take-statement .ensures) (c .before .before .before .before .before .before .before .pre .1 .0) (c .before .before .before .before .before .before .before .pre .1 .1)
 
 returns : tie.Need-returns
-returns c = record { value = rw (c .integer .ensures, took-words (c .before .before .before .take-statement .ensures)); variable = c .before .before .before .take-statement .ensures .variable; next = c .before .before .before .take-statement .ensures .place }
+returns c = record { value = rw (c .integer .ensures .value, took-words (c .before .before .before .take-statement .ensures)); variable = c .before .before .before .take-statement .ensures .variable; next = c .before .before .before .take-statement .ensures .place }
 
 pub statement-value-spec : {M : Type 1} → statement M
 statement-value-spec =

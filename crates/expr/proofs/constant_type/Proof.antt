@@ -18,9 +18,13 @@ returns-3 c = rw (c .match .keys3)
 
 returns-4 : tie.Need-returns-4
 unfolding constantType
-returns-4 c =
+returns-4 c = rw (c .match .keys4)
+
+returns-5 : tie.Need-returns-5
+unfolding constantType
+returns-5 c =
     let r = c .match .rest in
-    simp (ne-eqb _ _ (r .0 .0 .1), ne-eqb _ _ (r .0 .1), ne-eqb _ _ (r .1))
+    simp (ne-eqb _ _ (r .0 .0 .0 .1), ne-eqb _ _ (r .0 .0 .1), ne-eqb _ _ (r .0 .1), ne-eqb _ _ (r .1))
 
 pub constant-type-spec : {M : Type 1} → statement M
-constant-type-spec = tie.close (tie.spec returns returns-2 returns-3 returns-4)
+constant-type-spec = tie.close (tie.spec returns returns-2 returns-3 returns-4 returns-5)

@@ -27,26 +27,26 @@ mul-tag c = omega arith
 shared-slice-read-tag : tie.Need-shared-slice-read-tag Inv-loop μ-loop
 shared-slice-read-tag c = omega arith
 
-sub-pushed-type : tie.Need-sub-pushed-type Inv-loop μ-loop
-sub-pushed-type c = omega arith
+sub-record-type : tie.Need-sub-record-type Inv-loop μ-loop
+sub-record-type c = omega arith
 
-mul-pushed-type : tie.Need-mul-pushed-type Inv-loop μ-loop
-mul-pushed-type c = omega arith
+mul-record-type : tie.Need-mul-record-type Inv-loop μ-loop
+mul-record-type c = omega arith
 
-array-read-pushed-type : tie.Need-array-read-pushed-type Inv-loop μ-loop
-array-read-pushed-type c = omega arith
+array-read-record-type : tie.Need-array-read-record-type Inv-loop μ-loop
+array-read-record-type c = omega arith
 
-sub-pushed-type-2 : tie.Need-sub-pushed-type-2 Inv-loop μ-loop
-sub-pushed-type-2 c = omega arith
+sub-record-type-2 : tie.Need-sub-record-type-2 Inv-loop μ-loop
+sub-record-type-2 c = omega arith
 
-mul-pushed-type-2 : tie.Need-mul-pushed-type-2 Inv-loop μ-loop
-mul-pushed-type-2 c = omega arith
+mul-record-type-2 : tie.Need-mul-record-type-2 Inv-loop μ-loop
+mul-record-type-2 c = omega arith
 
-array-read-pushed-type-2 : tie.Need-array-read-pushed-type-2 Inv-loop μ-loop
-array-read-pushed-type-2 c = omega arith
+array-read-record-type-2 : tie.Need-array-read-record-type-2 Inv-loop μ-loop
+array-read-record-type-2 c = omega arith
 
-pushed-type-requires : tie.Need-pushed-type-requires Inv-loop μ-loop
-pushed-type-requires c κs = search needs
+record-type-requires : tie.Need-record-type-requires Inv-loop μ-loop
+record-type-requires c κs = search needs
 
 arity-requires : tie.Need-arity-requires Inv-loop μ-loop
 arity-requires c κs = search needs
@@ -77,7 +77,7 @@ loop-again c =
     let l = c .before .before .before .before in
     let a = l .before .before .before .args in
     typed-push (a .rs .now) (a .types .now) (l .loop .stack) (l .loop .top) (l .loop .i) (c .before .before .before .loop-test .taken) (l .loop .inv)
-    (c .arity .result) (c .before .pushed-type .result) (c .arity .ensures) (c .before .pushed-type .ensures) (omega arith)
+    (c .arity .result) (c .before .record-type .result) (c .arity .ensures) (c .before .record-type .ensures) (omega arith)
 
 array-read-result : tie.Need-array-read-result Inv-loop μ-loop
 array-read-result c = omega arith
@@ -97,13 +97,13 @@ static-type-spec =
     loop-holds
     mul-tag
     shared-slice-read-tag
-    sub-pushed-type
-    mul-pushed-type
-    array-read-pushed-type
-    sub-pushed-type-2
-    mul-pushed-type-2
-    array-read-pushed-type-2
-    pushed-type-requires
+    sub-record-type
+    mul-record-type
+    array-read-record-type
+    sub-record-type-2
+    mul-record-type-2
+    array-read-record-type-2
+    record-type-requires
     arity-requires
     sub-at
     mul-stack

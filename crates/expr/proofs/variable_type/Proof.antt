@@ -3,6 +3,7 @@ use mathlib.Core.Path.{sym}
 use native.Mathlib.Omega.{arith}
 use lib.ListN.{List·getD-eq-default}
 use borrow.Author.Needs.{needs}
+use Rattle.expr.specs.Codes.{signed8}
 use Rattle.expr.proofs.variable_type.Statement.{statement}
 use Rattle.expr.proofs.variable_type.Tie as tie
 
@@ -16,7 +17,7 @@ returns : tie.Need-returns
 returns c = search needs
 
 returns-2 : tie.Need-returns-2
-returns-2 c = sym (List·getD-eq-default (c .before .args .types .now) 0 (c .if1 .left))
+returns-2 c = sym (List·getD-eq-default (c .before .args .types .now) signed8 (c .if1 .left))
 
 pub variable-type-spec : {M : Type 1} → statement M
 variable-type-spec = tie.close (tie.spec shared-slice-read-result cast-result returns returns-2)

@@ -7,16 +7,24 @@ use Rattle.value.proofs.is_logic.Statement.{statement}
 use Rattle.value.proofs.is_logic.Tie as tie
 
 sub-tag : tie.Need-sub-tag
-sub-tag c = omega (arith, wf-two (c .args .rs .now) (c .pre))
+sub-tag c = omega (arith, wf-two (c .before .args .rs .now) (c .before .pre))
 
 mul-tag : tie.Need-mul-tag
 mul-tag c = search needs
 
 shared-slice-read-tag : tie.Need-shared-slice-read-tag
-shared-slice-read-tag c = omega (arith, wf-two (c .before .args .rs .now) (c .before .pre))
+shared-slice-read-tag c = omega (arith, wf-two (c .before .before .args .rs .now) (c .before .before .pre))
+
+argument-requires : tie.Need-argument-requires
+argument-requires c κs = search needs
+
+kind-requires : tie.Need-kind-requires
+kind-requires c κs = search needs
 
 returns : tie.Need-returns
-returns c = search needs
+returns c = rw (c .kind .ensures, c .before .argument .ensures)
 
 pub is-logic-spec : {M : Type 1} → statement M
-is-logic-spec = tie.close (tie.spec sub-tag mul-tag shared-slice-read-tag returns)
+is-logic-spec =
+    tie.close
+    (tie.spec sub-tag mul-tag shared-slice-read-tag argument-requires kind-requires returns)

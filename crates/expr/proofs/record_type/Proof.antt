@@ -1,15 +1,16 @@
--- `expr::pushed_type` meets its contract: each arm reads the definition's list at its kinds.
+-- `expr::record_type` meets its contract: each arm reads the definition's list at its kinds.
 -- Assumes nothing.
 use mathlib.Core.Path.{_≡_, refl, sym, _∙_}
 use mathlib.Core.List.{List}
 use Prim.Native.Nat.{ℕ, _/_, _%_, _≤_, _<_}
 use native.Mathlib.Omega.{arith}
 use lib.ListN.{List·getD-eq-default}
+use Rattle.expr.specs.Codes.{noType}
 use Rattle.expr.specs.Types.{recordTypes, recordType}
 use Rattle.expr.proofs.Laws.{nine}
 use borrow.Author.Needs.{needs}
-use Rattle.expr.proofs.pushed_type.Statement.{statement}
-use Rattle.expr.proofs.pushed_type.Tie as tie
+use Rattle.expr.proofs.record_type.Statement.{statement}
+use Rattle.expr.proofs.record_type.Tie as tie
 
 module _ (types : List ℕ) (tag a b : ℕ) where
   -- effect, load and cast have their own type
@@ -31,11 +32,11 @@ module _ (types : List ℕ) (tag a b : ℕ) where
       (tag % 16) (omega arith) refl l h
 
   -- past the nine kinds the list has ended
-  past : 7 ≤ tag % 16 → (tag % 16 ≡ 7 → ⊥) → (tag % 16 ≡ 8 → ⊥) → 2 ≡ recordType types tag a b
+  past : 7 ≤ tag % 16 → (tag % 16 ≡ 7 → ⊥) → (tag % 16 ≡ 8 → ⊥) → noType ≡ recordType types tag a b
   unfolding recordType
   past l n m =
       let h : 9 ≤ tag % 16 = omega arith in
-      sym (List·getD-eq-default (recordTypes types (tag / 16) a b) 2 h)
+      sym (List·getD-eq-default (recordTypes types (tag / 16) a b) noType h)
 
 argument-requires : tie.Need-argument-requires
 argument-requires c κs = search needs
@@ -74,18 +75,18 @@ returns-4 c = rw (← c .before .before .kind .ensures, c .before .match .keys4)
 returns-5 : tie.Need-returns-5
 unfolding recordType
 returns-5 c =
-    let s = c .before .before .before .before .before .before .args in
-    let k = c .before .before .before .kind .ensures in
-    c .before .before .before .before .argument .ensures
-    ∙ typed (s .types .now) (s .tag) (s .a) (s .b) (omega (arith, k, c .before .if1 .left)) (omega (arith, k, c .if2 .taken))
-
-returns-6 : tie.Need-returns-6
-unfolding recordType
-returns-6 c =
     let s = c .before .before .before .before .before .args in
     let r = c .before .match .rest in
     let k = c .before .before .kind .ensures in
     signed (s .types .now) (s .tag) (s .a) (s .b) (omega (arith, k, r .0 .0 .0 .1, r .0 .0 .1)) (omega (arith, k, c .if1 .taken))
+
+returns-6 : tie.Need-returns-6
+unfolding recordType
+returns-6 c =
+    let s = c .before .before .before .before .before .before .args in
+    let k = c .before .before .before .kind .ensures in
+    c .before .before .before .before .argument .ensures
+    ∙ typed (s .types .now) (s .tag) (s .a) (s .b) (omega (arith, k, c .before .if1 .left)) (omega (arith, k, c .if2 .taken))
 
 returns-7 : tie.Need-returns-7
 unfolding recordType
@@ -95,8 +96,8 @@ returns-7 c =
     let k = c .before .before .before .kind .ensures in
     past (s .types .now) (s .tag) (s .a) (s .b) (omega (arith, k, c .if2 .left)) (λ e. r .0 .1 (k ∙ e)) (λ e. r .1 (k ∙ e))
 
-pub pushed-type-spec : {M : Type 1} → statement M
-pushed-type-spec =
+pub record-type-spec : {M : Type 1} → statement M
+record-type-spec =
     tie.close
     (tie.spec
     argument-requires

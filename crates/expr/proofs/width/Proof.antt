@@ -1,14 +1,14 @@
--- `arith::width` meets its contract: below 10 both read one table.
+-- `expr::width` meets its contract: below 10 both read one table.
 -- Assumes nothing.
 use mathlib.Core.List.{List, [], _∷_}
 use mathlib.Core.Path.{sym}
 use Prim.Native.Nat.{ℕ}
 use lib.ListN.{List·getD-eq-default}
 use borrow.Author.Needs.{needs}
 use Rattle.expr.proofs.Laws.{getD-any}
-use Rattle.arith.specs.Numbers.{bits}
-use Rattle.arith.proofs.width.Statement.{statement}
-use Rattle.arith.proofs.width.Tie as tie
+use Rattle.expr.specs.Types.{bits}
+use Rattle.expr.proofs.width.Statement.{statement}
+use Rattle.expr.proofs.width.Tie as tie
 
 abbrev table : List ℕ
 table = 8 ∷ 16 ∷ 32 ∷ 64 ∷ 8 ∷ 16 ∷ 32 ∷ 64 ∷ 64 ∷ 1 ∷ []
