@@ -164,7 +164,7 @@ variable-of (ternary c a b) h = absurd (omega arith)
 abbrev pub part : List ℕ → ℕ → ℕ → List ℕ
 part l a n = take (a + n - a) (drop a l)
 
-part-is : (l : List ℕ) (a n : ℕ) → part l a n ≡ take n (drop a l)
+pub part-is : (l : List ℕ) (a n : ℕ) → part l a n ≡ take n (drop a l)
 part-is l a n = let z : a + n - a ≡ n = omega arith in rw z
 
 pub part-length : (l : List ℕ) (a n : ℕ) → a + n ≤ length l → length (part l a n) ≡ n
@@ -266,7 +266,7 @@ stands lengths left tag n is some = by (eqb left 0) (eqb (kindOf tag) kindVariab
     by true false p q is = absurd (some is)
     by false b p q is = absurd (some is)
 
-held-slot : (table lengths : List ℕ) (v : ℕ) → (getD lengths v 0 ≡ 0 → ⊥) → tableOf table lengths v ≡ held (treeOf (slot table lengths v))
+pub held-slot : (table lengths : List ℕ) (v : ℕ) → (getD lengths v 0 ≡ 0 → ⊥) → tableOf table lengths v ≡ held (treeOf (slot table lengths v))
 unfolding tableOf
 held-slot table lengths v some = rw (ne-eqb (getD lengths v 0) 0 some)
 

@@ -6,3 +6,5 @@ pub mod Kept
 pub mod Runs
 -- the pass that substitutes, and what it leaves in the lent words
 pub mod Backward
+-- the held table in lent words
+pub mod Entries

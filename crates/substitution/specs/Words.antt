@@ -1,6 +1,6 @@
 -- What is held, in lent words: 32 places of 256 words each, a variable's at 256 times its number, and the length of what is held there, 0 where nothing is.
 use mathlib.Core.Path.{_≡_}
-use mathlib.Core.Bool.{true, false, cond, _&&_}
+use mathlib.Core.Bool.{Bool, true, false, cond, not, _&&_, _||_}
 use mathlib.Core.List.{List}
 use Prim.Native.Nat.{ℕ, _+_, _*_, _-_, _≤_, _<_}
 use lib.Dec.{eqb}
@@ -9,7 +9,7 @@ use Rattle.expr.specs.Codes.{kindVariable, kindLoad}
 use Rattle.expr.specs.Tree.{Expr, Wf, flat, treeOf, kindOf, argumentOf, arityOf}
 use Rattle.substitution.specs.declared.Written.{Written}
 use Rattle.substitution.specs.declared.Written.the-variants.{From, TooLong}
-use Rattle.substitution.specs.Substitution.{free, held, Table, long}
+use Rattle.substitution.specs.Substitution.{free, held, Table, entryReads, long}
 
 -- what is held for variable v, in words
 abbrev pub slot : List ℕ → List ℕ → ℕ → List ℕ
@@ -26,6 +26,11 @@ pub record Slots (table lengths : List ℕ) : Type 0 where
   pub few : (v : ℕ) → getD lengths v 0 ≤ 256
   pub whole : (v : ℕ) → 0 < getD lengths v 0 → Wf (slot table lengths v)
 
+-- The lent words hold exactly the table h.
+pub record Holds (table lengths : List ℕ) (h : Table) : Type 0 where
+  pub slots : Slots table lengths
+  pub holds : tableOf table lengths ≡ h
+
 -- The words of an expression fill the end of a lent list, or are more than it may have. (N26)
 abbrev pub Made : Written → List ℕ → Expr → Type 0
 Made (From at) out e = (drop at out ≡ flat e) × (long e ≡ false)
@@ -38,3 +43,11 @@ heldWords lengths left tag = cond (eqb left 0 && eqb (kindOf tag) kindVariable) 
 -- and how many trees under a load are still to come behind it
 unfoldable pub pendingAfter : ℕ → ℕ → ℕ
 pendingAfter left tag = cond (eqb left 0) (cond (eqb (kindOf tag) kindLoad) 1 0) (left - 1 + arityOf tag)
+
+-- `ended` of a record: it is a variable other than v whose held value reads v
+unfoldable pub endedTag : ℕ → Table → ℕ → Bool
+endedTag v h tag = eqb (kindOf tag) kindVariable && (not (eqb (argumentOf tag) v) && entryReads v (h (argumentOf tag)))
+
+-- `kept` of an entry: the length of what is still held for w after an assignment to v
+unfoldable pub keptLength : ℕ → List ℕ → List ℕ → ℕ → ℕ
+keptLength v table lengths w = cond (eqb w v || entryReads v (tableOf table lengths w)) 0 (getD lengths w 0)

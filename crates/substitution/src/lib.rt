@@ -2,10 +2,11 @@
 // each variable, with the length of what is held there, or 0.
 ghost use mathlib.Core.Path.{_≡_};
 ghost use Prim.Native.Nat.{ℕ, _+_, _*_, _≤_, _<_};
-ghost use lib.ListN.{length};
+ghost use lib.ListN.{length, replicate};
 ghost use Rattle.expr.specs.Tree.{Wf, treeOf};
-ghost use Rattle.substitution.specs.Substitution.{substitute as substituteOf};
-ghost use Rattle.substitution.specs.Words.{tableOf, Slots, Made, heldWords, pendingAfter};
+ghost use Rattle.expr.specs.Scan.{anyNode};
+ghost use Rattle.substitution.specs.Substitution.{substitute as substituteOf, entryReads, ended, holdable, kept, assigned};
+ghost use Rattle.substitution.specs.Words.{tableOf, Slots, Holds, Made, heldWords, pendingAfter, endedTag, keptLength};
 
 // Where the words of a substituted expression start in the lent words, which they fill to the end; or there are more than 256.
 pub enum Written {
@@ -70,4 +71,104 @@ pub fn substitute(rs: &[u64], table: &[u64], lengths: &[usize], out: &mut [u64])
         }
     }
     Written::From(at)
+}
+
+// Whether what is held for variable w reads variable v.
+fn entry_reads(table: &[u64], lengths: &[usize], w: usize, v: u64) -> bool
+    requires { ⌜ Slots (now table) (now lengths) ⌝ }
+    ensures { λ r. ⌜ r ≡ entryReads v (tableOf (now (table .entry)) (now (lengths .entry)) w) ⌝ }
+{
+    if w < lengths.len() {
+        let n = lengths[w];
+        if n != 0 {
+            let start = 256 * w;
+            return expr::reads(&table[start..start + n], v);
+        }
+    }
+    false
+}
+
+// Whether a record is a variable other than v whose held value ends when v is assigned.
+fn is_ended(table: &[u64], lengths: &[usize], v: u64, tag: u64) -> bool
+    requires { ⌜ Slots (now table) (now lengths) ⌝ }
+    ensures { λ r. ⌜ r ≡ endedTag v (tableOf (now (table .entry)) (now (lengths .entry))) tag ⌝ }
+{
+    if expr::kind(tag) == expr::VARIABLE {
+        let w = expr::argument(tag);
+        if w != v {
+            return entry_reads(table, lengths, w as usize, v);
+        }
+    }
+    false
+}
+
+// Whether a value reads a variable other than v whose held value ends when v is assigned.
+fn reads_ended(value: &[u64], table: &[u64], lengths: &[usize], v: u64) -> bool
+    requires { ⌜ Wf (now value) × Slots (now table) (now lengths) ⌝ }
+    ensures { λ r. ⌜ r ≡ anyNode (ended v (tableOf (now (table .entry)) (now (lengths .entry)))) (treeOf (now (value .entry))) ⌝ }
+{
+    let mut i = 0;
+    while i < value.len() {
+        if is_ended(table, lengths, v, value[i]) {
+            return true;
+        }
+        i += 2;
+    }
+    false
+}
+
+// Whether a substituted value that is assigned to v is held.
+fn is_holdable(value: &[u64], table: &[u64], lengths: &[usize], v: u64) -> bool
+    requires { ⌜ Wf (now value) × Slots (now table) (now lengths) ⌝ }
+    ensures { λ r. ⌜ r ≡ holdable v (tableOf (now (table .entry)) (now (lengths .entry))) (treeOf (now (value .entry))) ⌝ }
+{
+    !(expr::has_load(value) | (expr::has_effect(value) | reads_ended(value, table, lengths, v)))
+}
+
+// The length of what is still held for w after an assignment to v: 0 where it is v, or what is held reads v.
+fn kept_length(table: &[u64], lengths: &[usize], w: usize, v: u64) -> usize
+    requires { ⌜ (w < length (now lengths)) × Slots (now table) (now lengths) ⌝ }
+    ensures { λ r. ⌜ r ≡ keptLength v (now (table .entry)) (now (lengths .entry)) w ⌝ }
+{
+    if (w as u64 == v) | entry_reads(table, lengths, w, v) {
+        return 0;
+    }
+    lengths[w]
+}
+
+// Ends what is held for v, and all that reads v.
+fn end_entries(table: &[u64], lengths: &mut [usize], v: u64)
+    requires { ⌜ Slots (now table) (now lengths) ⌝ }
+    ensures { λ _. ⌜ Holds (now (table .entry)) (now (lengths .exit)) (kept v (tableOf (now (table .entry)) (now (lengths .entry)))) ⌝ }
+{
+    let mut w = 0;
+    while w < lengths.len() {
+        lengths[w] = kept_length(table, lengths, w, v);
+        w += 1;
+    }
+}
+
+// A substituted value is assigned to v: what reads v ends, and the value is held, if it can be.
+pub fn assign(v: u64, value: &[u64], table: &mut [u64], lengths: &mut [usize])
+    requires { ⌜ (v < 32) × Wf (now value) × (length (now value) ≤ 256) × Slots (now table) (now lengths) ⌝ }
+    ensures { λ _. ⌜ Holds (now (table .exit)) (now (lengths .exit)) (assigned v (treeOf (now (value .entry))) (tableOf (now (table .entry)) (now (lengths .entry)))) ⌝ }
+{
+    let hold = is_holdable(value, table, lengths, v);
+    end_entries(table, lengths, v);
+    if hold {
+        let place = v as usize;
+        slice::copy_to(value, table, 256 * place);
+        lengths[place] = value.len();
+    }
+}
+
+// Ends all that is held.
+pub fn clear(lengths: &mut [usize])
+    ensures { λ _. ⌜ now (lengths .exit) ≡ replicate (length (now (lengths .entry))) 0 ⌝ }
+{
+    let mut i = 0;
+    while i < lengths.len() {
+        lengths[i] = 0;
+        i += 1;
+    }
 }
