@@ -148,7 +148,7 @@ entry-of [] n d lt = absurd (omega arith)
 entry-of (x ∷ l) zero d lt = refl
 entry-of (x ∷ l) (suc n) d lt = entry-of l n d (omega arith)
 
-code-of : (l : List ℕ) → All (λ t. t ≤ 9) l → (n d : ℕ) → n < length l → getD l n d < 10
+pub code-of : (l : List ℕ) → All (λ t. t ≤ 9) l → (n d : ℕ) → n < length l → getD l n d < 10
 unfolding All
 code-of [] few n d lt = absurd (omega arith)
 code-of (x ∷ l) few zero d lt = omega (arith, few .0)
@@ -179,7 +179,7 @@ constant-once w (inr (inl e)) = rw e
 constant-once w (inr (inr (inl e))) = rw e
 constant-once w (inr (inr (inr e))) = rw e
 
-all-map : {A : Type 0} {P Q : A → Type 0} → ((x : A) → P x → Q x) → (l : List A) → All P l → All Q l
+pub all-map : {A : Type 0} {P Q : A → Type 0} → ((x : A) → P x → Q x) → (l : List A) → All P l → All Q l
 unfolding All
 all-map f [] h = tt
 all-map f (x ∷ l) h = (f x (h .0), all-map f l (h .1))
@@ -270,7 +270,7 @@ typed-variable : (types : List ℕ) (v t : ℕ) → v < length types → ((d : �
 typed-variable types v t lt h = rw (← variable-type types v lt 0) (h 0)
 
 -- an assignment's value has its variable's type where reading's test says so
-typed-assignment : (types : List ℕ) → All (λ t. t ≤ 9) types → (v : ℕ) (e : Expr) → ValidAssignment types v e → TypedAssignment types v e
+pub typed-assignment : (types : List ℕ) → All (λ t. t ≤ 9) types → (v : ℕ) (e : Expr) → ValidAssignment types v e → TypedAssignment types v e
 typed-assignment types few v e h =
     let there = variable-valid (length types) v (h .declared) in
     let t = typed types few e (h .value .tree) in
