@@ -13,7 +13,7 @@ use borrow.Author.Tests.{eq-eqb, ne-eqb, eqb-true, eqb-false}
 use Rattle.expr.specs.Codes.{kindVariable}
 use Rattle.expr.specs.Tree.{Expr, Wf, treeOf, tagOf, kindOf, argumentOf}
 use Rattle.expr.specs.Tree.Expr.{variable, constant, conditionTrue, conditionFalse, effect, load, cast, binary, ternary}
-use Rattle.expr.specs.Scan.{anyNode, anyTag, hasLoad, hasEffect, reads}
+use Rattle.expr.specs.Scan.{anyNode, anyTag, plainExpr, reads}
 use Rattle.expr.proofs.Scans.{any-tree, any-here, any-on, any-end}
 use Rattle.expr.proofs.Laws.{kind-of, argument-of, wf-two}
 use Rattle.substitution.specs.Substitution.{Entry, free, held, Table, nothingHeld, entryReads, kept, ended, holdable, entryOf, assigned}
@@ -98,10 +98,9 @@ module _ (v : ℕ) (h : Table) (value : List ℕ) (i : ℕ) (so-far : anyTag (en
       sym (sym (any-tree (endedTag v h) (ended v h) (ended-tag v h) value wf) ∙ so-far ∙ any-end (endedTag v h) value i past)
 
 -- a value is held
-pub holdable-by : (v : ℕ) (h : Table) (e : Expr) {a b c : Bool} → a ≡ hasLoad e → b ≡ hasEffect e → c ≡ anyNode (ended v h) e
-    → not (a || (b || c)) ≡ holdable v h e
+pub holdable-by : (v : ℕ) (h : Table) (e : Expr) {a b : Bool} → a ≡ plainExpr e → b ≡ anyNode (ended v h) e → (a && not b) ≡ holdable v h e
 unfolding holdable
-holdable-by v h e p q r = rw (p, q, r)
+holdable-by v h e p q = rw (p, q)
 
 -- the length that is kept
 pub kept-none : (v : ℕ) (table lengths : List ℕ) (w : ℕ) {r : Bool} → r ≡ entryReads v (tableOf table lengths w) → (eqb w v || r) ≡ true

@@ -13,13 +13,16 @@ use native.Mathlib.Nat.{mod-eq-of-lt}
 use native.Mathlib.Omega.{arith}
 use lib.Dec.{eqb, ltb}
 use lib.ListN.{getD}
-use borrow.Author.Tests.{eq-eqb, ne-eqb, eqb-true, eqb-false}
+use borrow.Author.Tests.{eq-eqb, ne-eqb, eqb-true, eqb-false, not-true}
 use Rattle.expr.specs.Tree.{Expr}
 use Rattle.expr.specs.Tree.Expr.{variable, constant, conditionTrue, conditionFalse, effect, load, cast, binary, ternary}
 use Rattle.expr.specs.Statement.{Statement}
 use Rattle.expr.specs.Statement.Statement.{assignment, other}
-use Rattle.expr.specs.Scan.{anyNode, isVariable, isLoad, isEffect, hasEffect, hasLoad, reads}
+use Rattle.expr.specs.Scan.{anyNode, isVariable, isLoad, isEffect, hasLoad, plainExpr, reads}
 use Rattle.expr.specs.Types.{typeOf}
+use Rattle.expr.specs.Admission.{AdmittedAll}
+use Rattle.expr.proofs.Plainness.{plain-parts}
+use Rattle.arith.proofs.Laws.{and-left, and-right}
 use Rattle.arith.specs.Numbers.{bits}
 use Rattle.value.specs.declared.Value.{Value}
 use Rattle.value.specs.declared.Value.the-variants.{Of, NoValue}
@@ -31,7 +34,7 @@ use Rattle.value.specs.Run.{Choices, update, given, runFrom, run}
 use Rattle.value.proofs.Laws.{ev-typed}
 use Rattle.value.proofs.Independence.{Agree, by-variables-read}
 use Rattle.value.proofs.Steps.{Plain, plain-ev}
-use Rattle.substitution.specs.Substitution.{Entry, free, held, Table, nothingHeld, standing, substitute, entryReads, kept, ended, holdable, entryOf, assigned, long, Substituted, tooLong, into, substituted, withAssignments, Assignable, none, anything, typed}
+use Rattle.substitution.specs.Substitution.{Entry, free, held, Table, nothingHeld, standing, substitute, entryReads, kept, ended, holdable, entryOf, assigned, long, Substituted, tooLong, into, substituted, withAssignments}
 use Rattle.substitution.proofs.Alike.{Alike, same-alike, bits-alike}
 use Rattle.substitution.proofs.Kept.{StandsTyped, StandsFor, type-kept, value-kept}
 
@@ -165,17 +168,10 @@ record Kind (v : ℕ) (s : Expr) (h : Table) : Type 0 where
 
 holdable-is : (v : ℕ) (s : Expr) (h : Table) → holdable v h s ≡ true → Kind v s h
 unfolding holdable
-holdable-is v s h k = record { plain = record { noLoad = all .0; noEffect = rest .0 }; none-ended = rest .1 }
-  where
-    turned : (b : Bool) → not b ≡ true → b ≡ false
-    turned true k = absurd (false≢true k)
-    turned false k = refl
-
-    all : (hasLoad s ≡ false) × ((hasEffect s || anyNode (ended v h) s) ≡ false)
-    all = or-none (hasLoad s) (hasEffect s || anyNode (ended v h) s) (turned (hasLoad s || (hasEffect s || anyNode (ended v h) s)) k)
-
-    rest : (hasEffect s ≡ false) × (anyNode (ended v h) s ≡ false)
-    rest = or-none (hasEffect s) (anyNode (ended v h) s) (all .1)
+holdable-is v s h k = record {
+  plain = let parts = plain-parts s (and-left (plainExpr s) (not (anyNode (ended v h) s)) k) in record { noLoad = parts .1; noEffect = parts .0 };
+  none-ended = not-true (anyNode (ended v h) s) (and-right (plainExpr s) (not (anyNode (ended v h) s)) k);
+}
 
 -- it reads no other variable whose held value ends
 ended-read : (v w : ℕ) (h : Table) → ended v h (variable w) ≡ true → (e : Expr) → reads w e ≡ true → anyNode (ended v h) e ≡ true
@@ -314,10 +310,10 @@ never q = let z : _≡_ {A = ℕ} 0 1 = cc in omega arith
 -- What holds of every evaluation of the substituted condition, and where there is no outcome, holds of the outcome of every run.
 module _ (types : List ℕ) (condition result : Expr) (P : Truth → Type 0) (without : P NoOutcome)
     (each : (ρ σ : Values) (m : Contents) (f : Effects) → P (truthOf (ev types ρ σ (shared m) f result))) (c : Choices) where
-  from : (statements : List Statement) → Assignable types statements → (h : Table) (ρ ν : Values) → Present types h ρ ν → (i : ℕ)
+  from : (statements : List Statement) → AdmittedAll types statements → (h : Table) (ρ ν : Values) → Present types h ρ ν → (i : ℕ)
       → substituted h statements condition ≡ into result → P (runFrom types c condition i statements ν)
-  unfolding substituted runFrom
-  from [] none h ρ ν p i q = by (long (substitute h condition)) q
+  unfolding substituted runFrom AdmittedAll
+  from [] t h ρ ν p i q = by (long (substitute h condition)) q
     where
       by : (b : Bool) → cond b tooLong (into (substitute h condition)) ≡ into result
           → P (truthOf (ev types ν ν (shared (c .contents)) (c .effects i) condition))
@@ -325,12 +321,12 @@ module _ (types : List ℕ) (condition result : Expr) (P : Truth → Type 0) (wi
       by false q =
           rw (← value-kept types h ρ ν (stands-typed p) (stands-for p) (shared (c .contents)) (c .effects i) condition, into-same q)
           (each ρ ν (c .contents) (c .effects i))
-  from (other ∷ rest) (anything t) h ρ ν p i q =
+  from (other ∷ rest) t h ρ ν p i q =
       from rest t nothingHeld (c .renewed i) (c .renewed i) (present-none types (c .renewed i)) (suc i) q
-  from (assignment v e ∷ rest) (typed k t) h ρ ν p i q =
+  from (assignment v e ∷ rest) t h ρ ν p i q =
       by (ev types ν ν (c .memory i) (c .effects i) e) refl (long (substitute h e)) q
-      (λ x is q. let next = assigns p v x e (c .memory i) (c .effects i) (same-alike (typeOf types e) (getD types v 0) k) is in
-      from rest t (assigned v (substitute h e) h) (next .at) (update v x ν) (next .present) (suc i) q)
+      (λ x is q. let next = assigns p v x e (c .memory i) (c .effects i) (same-alike (typeOf types e) (getD types v 0) (t .0 .typed)) is in
+      from rest (t .1) (assigned v (substitute h e) h) (next .at) (update v x ν) (next .present) (suc i) q)
     where
       by : (u : Value) → ev types ν ν (c .memory i) (c .effects i) e ≡ u → (b : Bool)
           → cond b tooLong (substituted (assigned v (substitute h e) h) rest condition) ≡ into result
@@ -341,6 +337,6 @@ module _ (types : List ℕ) (condition result : Expr) (P : Truth → Type 0) (wi
       by NoValue is false q next = without
       by (Of x) is false q next = next x is q
 
-  pub every-run : (statements : List Statement) → Assignable types statements → withAssignments statements condition ≡ into result
+  pub every-run : (statements : List Statement) → AdmittedAll types statements → withAssignments statements condition ≡ into result
       → P (run types statements condition c)
   every-run statements t q = from statements t nothingHeld (c .start) (c .start) (present-none types (c .start)) 0 q

@@ -1,16 +1,13 @@
 -- How the statements of a node come into its condition: the value that was assigned to a variable stands for the variable, as long as it is held.
-use mathlib.Core.Path.{_≡_}
 use mathlib.Core.Bool.{Bool, true, false, cond, not, _&&_, _||_}
 use mathlib.Core.List.{List, [], _∷_}
 use Prim.Native.Nat.{ℕ, suc, _+_}
 use lib.Dec.{eqb, ltb}
-use lib.ListN.{getD}
 use Rattle.expr.specs.Tree.{Expr}
 use Rattle.expr.specs.Tree.Expr.{variable, constant, conditionTrue, conditionFalse, effect, load, cast, binary, ternary}
 use Rattle.expr.specs.Statement.{Statement}
 use Rattle.expr.specs.Statement.Statement.{assignment, other}
-use Rattle.expr.specs.Scan.{anyNode, hasEffect, hasLoad, reads}
-use Rattle.expr.specs.Types.{typeOf, sameType}
+use Rattle.expr.specs.Scan.{anyNode, plainExpr, reads}
 
 -- What is held for a variable: nothing, or the expression that stands for it. (N1)
 pub data Entry : Type 0 where
@@ -65,7 +62,7 @@ ended v h (ternary c a b) = false
 -- The substituted value e of an assignment to v is held, unless a load or an effect is in it, or it reads another variable whose held value this
 -- assignment ends. (N16, N18)
 unfoldable pub holdable : ℕ → Table → Expr → Bool
-holdable v h e = not (hasLoad e || (hasEffect e || anyNode (ended v h) e))
+holdable v h e = plainExpr e && not (anyNode (ended v h) e)
 
 -- the entry of the assigned variable
 abbrev pub entryOf : ℕ → Table → Expr → Entry
@@ -111,10 +108,3 @@ substituted h (assignment v e ∷ rest) c =
 -- At the start nothing is held. (N1)
 abbrev pub withAssignments : List Statement → Expr → Substituted
 withAssignments statements c = substituted nothingHeld statements c
-
--- Each assigned value has its variable's type, a pointer counting as unsigned 64: reading refuses every other node. (R21, R22)
-pub data Assignable (types : List ℕ) : List Statement → Type 0 where
-  none : Assignable types []
-  anything : {rest : List Statement} → Assignable types rest → Assignable types (other ∷ rest)
-  typed : {v : ℕ} {e : Expr} {rest : List Statement} → sameType (typeOf types e) (getD types v 0) ≡ true → Assignable types rest
-      → Assignable types (assignment v e ∷ rest)

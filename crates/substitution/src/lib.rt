@@ -122,7 +122,7 @@ fn is_holdable(value: &[u64], table: &[u64], lengths: &[usize], v: u64) -> bool
     requires { ⌜ Wf (now value) × Slots (now table) (now lengths) ⌝ }
     ensures { λ r. ⌜ r ≡ holdable v (tableOf (now (table .entry)) (now (lengths .entry))) (treeOf (now (value .entry))) ⌝ }
 {
-    !(expr::has_load(value) | (expr::has_effect(value) | reads_ended(value, table, lengths, v)))
+    expr::is_plain(value) & !reads_ended(value, table, lengths, v)
 }
 
 // The length of what is still held for w after an assignment to v: 0 where it is v, or what is held reads v.
