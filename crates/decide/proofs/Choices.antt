@@ -14,7 +14,7 @@ use lib.Seq.{getD-append-seam}
 use borrow.Author.Tests.{eq-eqb, ne-eqb, eqb-true}
 use Rattle.expr.specs.Tree.{Expr}
 use Rattle.expr.specs.Tree.Expr.{variable, constant, conditionTrue, conditionFalse, effect, load, cast, binary, ternary}
-use Rattle.expr.specs.Scan.{hasEffect}
+use Rattle.expr.specs.Scan.{hasOwnValue}
 use Rattle.value.specs.Evaluation.{ByPath, under}
 use Rattle.poly.specs.Terms.{sum, product}
 use Rattle.poly.specs.Meaning.{holds, value}
@@ -137,7 +137,7 @@ poly-low γ l α φ (ternary c a b) h = atom-low γ l α φ (ternary c a b) h
 
 -- Bits by number keep what the choice says of the atoms numbered so far.
 abbrev Keeps : Bits → List Expr → (Expr → Bool) → Type 0
-Keeps γ l α = (i : ℕ) → i < length l → (d : Expr) → hasEffect (getD l i d) ≡ false → γ i ≡ α (getD l i d)
+Keeps γ l α = (i : ℕ) → i < length l → (d : Expr) → hasOwnValue (getD l i d) ≡ false → γ i ≡ α (getD l i d)
 
 -- bits with another bit at one number
 abbrev put : ℕ → Bool → Bits → Bits
@@ -255,7 +255,7 @@ filled-atom γ l α φ e keep = go (noting l e)
             let is = eqb-true i n test in
             let found = before l e (rw is at h) in
             let tree = found .equal e in
-            rw (found .plain) (sym (keep i h e (rw is (ap hasEffect tree ∙ found .plain)) ∙ ap α (rw is tree)))
+            rw (found .plain) (sym (keep i h e (rw is (ap hasOwnValue tree ∙ found .plain)) ∙ ap α (rw is tree)))
 
     go : Noting l e → Filled γ l α (noted l e) (put n b γ) (FitsAtom (put n b γ) l α φ e)
     go (known h is) = record { fits = put-here n b γ; keeps′ = rw is (λ i h d plain. same i h ∙ keep i h d plain); same = same }
@@ -269,7 +269,7 @@ filled-atom γ l α φ e keep = go (noting l e)
             at (no high) =
                 let last : i ≡ length l = omega (arith, simp length-append at less) in
                 let tree : getD (l ++ (e ∷ [])) i d ≡ e = rw last (getD-append-seam l e [] d) in
-                let own : hasEffect e ≡ false = rw tree at plain in
+                let own : hasOwnValue e ≡ false = rw tree at plain in
                 let here : i ≡ n = last ∙ sym h in
                 let bit : atomBit α φ e ≡ α e = rw own in
                 ap (put n b γ) here ∙ put-here n b γ ∙ bit ∙ ap α (sym tree)
@@ -372,7 +372,7 @@ numbers l (binary o a b) (suc k ∷ path) = numbers (parity l a .atoms) b path
 numbers l (ternary c a b) path = length l
 
 -- in a list that has it, an atom without an effect has its number as its place
-place-in : (l F : List Expr) (e : Expr) → Extends (noted l e) F → hasEffect e ≡ false → place F e ≡ numberIn l e
+place-in : (l F : List Expr) (e : Expr) → Extends (noted l e) F → hasOwnValue e ≡ false → place F e ≡ numberIn l e
 place-in l F e x plain = go (noting l e)
   where
     go : Noting l e → place F e ≡ numberIn l e
@@ -385,9 +385,9 @@ place-in l F e x plain = go (noting l e)
 
 atom-of : (γ : Bits) (l F : List Expr) (φ : ByPath Bool) (e : Expr) → Extends (noted l e) F → φ [] ≡ γ (length l)
     → FitsAtom γ l (λ t. γ (place F t)) φ e
-atom-of γ l F φ e x own = go (hasEffect e) refl
+atom-of γ l F φ e x own = go (hasOwnValue e) refl
   where
-    go : (b : Bool) → hasEffect e ≡ b → γ (numberIn l e) ≡ cond b (φ []) (γ (place F e))
+    go : (b : Bool) → hasOwnValue e ≡ b → γ (numberIn l e) ≡ cond b (φ []) (γ (place F e))
     go true test = rw test (sym own)
     go false test = ap γ (sym (place-in l F e x test))
 

@@ -2,3 +2,10 @@
 pub mod Choices
 -- where the low bits of two sides always differ, parity decides
 pub mod Complete
+-- low bits in evaluations
+pub mod LowBits
+pub mod TypeLaws
+pub mod Evaluation
+pub mod ExactValue
+-- the verdict is right of every evaluation
+pub mod Sound

@@ -8,7 +8,7 @@ use lib.Dec.{eqb}
 use Rattle.expr.specs.Codes.{opEqual, opGreater, opGreaterEqual, opLess, opLessEqual, opLogicalAnd, opLogicalOr, opNotEqual, pointer, unsigned16, unsigned32, unsigned64, unsigned8}
 use Rattle.expr.specs.Tree.{Expr}
 use Rattle.expr.specs.Tree.Expr.{variable, constant, conditionTrue, conditionFalse, effect, load, cast, binary, ternary}
-use Rattle.expr.specs.Scan.{hasEffect, sameTree}
+use Rattle.expr.specs.Scan.{hasOwnValue, sameTree}
 use Rattle.verdict.specs.declared.Reason.{Reason}
 use Rattle.verdict.specs.declared.Reason.the-variants.{EqualSides, Truth, UnsignedZero, ExactSides, Parity, Halves}
 use Rattle.verdict.specs.declared.Verdict.{Verdict}
@@ -40,7 +40,7 @@ ofEqual o =
 
 -- Equal sides without an effect decide a comparison (N3, N17).
 abbrev pub equalSides : ℕ → Expr → Expr → Verdict
-equalSides o a b = cond (sameTree a b && not (hasEffect a)) (saidIf EqualSides (ofEqual o)) Undecided
+equalSides o a b = cond (sameTree a b && not (hasOwnValue a)) (saidIf EqualSides (ofEqual o)) Undecided
 
 -- a polynomial is the constant 1
 abbrev pub isOne : List ℕ → Bool

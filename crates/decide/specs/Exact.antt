@@ -7,7 +7,7 @@ use lib.Dec.{eqb, leb}
 use Rattle.expr.specs.Codes.{opAnd, opMod, opMul, opSub, opXor}
 use Rattle.expr.specs.Tree.{Expr}
 use Rattle.expr.specs.Tree.Expr.{variable, constant, conditionTrue, conditionFalse, effect, load, cast, binary, ternary}
-use Rattle.expr.specs.Scan.{hasEffect, sameTree}
+use Rattle.expr.specs.Scan.{hasOwnValue, sameTree}
 use Rattle.parity.specs.Parity.{constantOf, parity}
 
 -- a part is the constant k
@@ -39,7 +39,7 @@ shape o a b =
     cond (eqb o opAnd && isConstant 1 b) lowLeft
     (cond (eqb o opAnd && isConstant 1 a) lowRight
     (cond (eqb o opMod && isConstant 2 b) even
-    (cond ((eqb o opSub || eqb o opXor) && (sameTree a b && not (hasEffect a))) vanishes
+    (cond ((eqb o opSub || eqb o opXor) && (sameTree a b && not (hasOwnValue a))) vanishes
     (cond ((eqb o opAnd || eqb o opMul) && (isConstant 0 a || isConstant 0 b)) vanishes other))))
 
 -- a value that a cast to any type keeps

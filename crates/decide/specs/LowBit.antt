@@ -7,14 +7,14 @@ use lib.Dec.{eqb}
 use Rattle.expr.specs.Codes.{bool}
 use Rattle.expr.specs.Tree.{Expr}
 use Rattle.expr.specs.Tree.Expr.{variable, constant, conditionTrue, conditionFalse, effect, load, cast, binary, ternary}
-use Rattle.expr.specs.Scan.{hasEffect}
+use Rattle.expr.specs.Scan.{hasOwnValue}
 use Rattle.value.specs.Evaluation.{ByPath, under}
 use Rattle.parity.specs.Parity.{Entry, entered}
 use Rattle.parity.specs.Parity.Entry.{adds, multiplies, joins, keeps, clears, atom}
 
 -- The bit of an atom: equal atoms have one bit, by their tree; each with an effect in it has its own, by its path (N13).
 abbrev pub atomBit : (Expr → Bool) → ByPath Bool → Expr → Bool
-atomBit shared own e = cond (hasEffect e) (own []) (shared e)
+atomBit shared own e = cond (hasOwnValue e) (own []) (shared e)
 
 -- a part's low bit from its sides', by how it is entered
 abbrev pub bitOf : Entry → Bool → Bool → Bool → Bool

@@ -9,7 +9,7 @@ use lib.ListN.{length, getD, length-append}
 use borrow.Author.Tests.{lt-ltb, le-ltb, ltb-true, ltb-false}
 use Rattle.expr.specs.Tree.{Expr}
 use Rattle.expr.specs.Tree.Expr.{variable, constant, conditionTrue, conditionFalse, effect, load, cast, binary, ternary}
-use Rattle.expr.specs.Scan.{hasEffect, sameTree}
+use Rattle.expr.specs.Scan.{hasOwnValue, sameTree}
 use Rattle.expr.proofs.Sameness.{sameTree-true, sameTree-refl}
 use Rattle.parity.specs.Parity.{Entry, Low, entered, place, numberIn, noted, atomLow, lowOf, parity}
 use Rattle.parity.specs.Parity.Entry.{adds, multiplies, joins, keeps, clears, atom}
@@ -70,7 +70,7 @@ place-new (x ∷ l) r e h = go (sameTree x e) h (place-new l r e)
     go false h rest = ap suc (rest (omega arith))
 
 pub number-upto : (l : List Expr) (e : Expr) → numberIn l e ≤ length l
-number-upto l e = go (hasEffect e)
+number-upto l e = go (hasOwnValue e)
   where
     go : (b : Bool) → cond b (length l) (place l e) ≤ length l
     go true = omega arith
@@ -78,13 +78,13 @@ number-upto l e = go (hasEffect e)
 
 -- A number below the length is that of an equal atom, which has no effect in it.
 pub record Before (l : List Expr) (e : Expr) : Type 0 where
-  pub plain : hasEffect e ≡ false
+  pub plain : hasOwnValue e ≡ false
   pub equal : (d : Expr) → getD l (numberIn l e) d ≡ e
 
 pub before : (l : List Expr) (e : Expr) → numberIn l e < length l → Before l e
-before l e h = go (hasEffect e) refl h
+before l e h = go (hasOwnValue e) refl h
   where
-    go : (b : Bool) → hasEffect e ≡ b → cond b (length l) (place l e) < length l → Before l e
+    go : (b : Bool) → hasOwnValue e ≡ b → cond b (length l) (place l e) < length l → Before l e
     go true test h = absurd (omega arith)
     go false test h = record { plain = test; equal = λ d. rw test (place-found l e d h) }
 

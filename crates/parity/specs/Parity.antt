@@ -9,7 +9,7 @@ use lib.ListN.{length}
 use Rattle.expr.specs.Codes.{bool, opAdd, opAnd, opMod, opMul, opOr, opShl, opSub, opXor}
 use Rattle.expr.specs.Tree.{Expr}
 use Rattle.expr.specs.Tree.Expr.{variable, constant, conditionTrue, conditionFalse, effect, load, cast, binary, ternary}
-use Rattle.expr.specs.Scan.{hasEffect, sameTree}
+use Rattle.expr.specs.Scan.{hasOwnValue, sameTree}
 use Rattle.poly.specs.Terms.{sum, product}
 
 -- the value of a constant as it is written
@@ -55,7 +55,7 @@ place (x ∷ l) e = cond (sameTree x e) 0 (suc (place l e))
 
 -- The number of an atom, given those before it: equal atoms are one, and one with an effect in it is always a new one (N13).
 abbrev pub numberIn : List Expr → Expr → ℕ
-numberIn atoms e = cond (hasEffect e) (length atoms) (place atoms e)
+numberIn atoms e = cond (hasOwnValue e) (length atoms) (place atoms e)
 
 -- the atoms with this one
 abbrev pub noted : List Expr → Expr → List Expr
