@@ -3,3 +3,4 @@ pub mod Sound
 pub mod Forced
 pub mod Public
 pub mod Outcomes
+pub mod Main
