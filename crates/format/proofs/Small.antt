@@ -1,4 +1,4 @@
--- What is written are bytes.
+-- What is written are bytes: every number is, and everything else is put together from those.
 use Prim.Native.Nat.{ℕ, zero, suc, _/_, _<_}
 use mathlib.Core.List.{List, [], _∷_, _++_}
 use mathlib.Core.Option.{Option, none, some}
