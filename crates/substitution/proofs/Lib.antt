@@ -2,9 +2,11 @@
 pub mod Alike
 -- what substitution does to type and value
 pub mod Kept
--- runs of a node, by its substituted condition
+-- runs of a node, by its substituted condition, which is admitted where the node is
 pub mod Runs
+pub mod Admitted
 -- the pass that substitutes, and what it leaves in the lent words
 pub mod Backward
 -- the held table in lent words
 pub mod Entries
+pub mod Taken

@@ -51,7 +51,7 @@ or-map {a} {b} {a′} {b′} f g h = by a a′ f h
     by false true f h = refl
     by false false f h = g h
 
-not-held : {e : Expr} → held e ≡ free → ⊥
+pub not-held : {e : Expr} → held e ≡ free → ⊥
 not-held h = let z : _≡_ {A = ℕ} 0 1 = cc in omega arith
 
 pub record Present (types : List ℕ) (h : Table) (ρ ν : Values) : Type 0 where
@@ -112,9 +112,9 @@ module _ {types : List ℕ} {h : Table} {ρ ν : Values} (p : Present types h ρ
       or-map (λ k. reads-closed c (no .0) k) (λ k. or-map (λ k. reads-closed a (arms .0) k) (λ k. reads-closed b (arms .1) k) k) s
 
 -- what is held for w after s was assigned to v: s itself, or what was held and does not read v
-data Holds (v : ℕ) (s : Expr) (h : Table) (w : ℕ) (e : Expr) : Type 0 where
-  new : w ≡ v → e ≡ s → holdable v h s ≡ true → Holds v s h w e
-  old : (w ≡ v → ⊥) → h w ≡ held e → reads v e ≡ false → Holds v s h w e
+pub data Held (v : ℕ) (s : Expr) (h : Table) (w : ℕ) (e : Expr) : Type 0 where
+  new : w ≡ v → e ≡ s → holdable v h s ≡ true → Held v s h w e
+  old : (w ≡ v → ⊥) → h w ≡ held e → reads v e ≡ false → Held v s h w e
 
 -- where nothing is: it is v, or nothing was held, or what was held reads v
 data Lacks (v : ℕ) (h : Table) (w : ℕ) : Type 0 where
@@ -123,25 +123,25 @@ data Lacks (v : ℕ) (h : Table) (w : ℕ) : Type 0 where
   stopped : (w ≡ v → ⊥) → (d : Expr) → h w ≡ held d → reads v d ≡ true → Lacks v h w
 
 module _ (v : ℕ) (s : Expr) (h : Table) (w : ℕ) where
-  held-after : (e : Expr) → assigned v s h w ≡ held e → Holds v s h w e
+  pub held-after : (e : Expr) → assigned v s h w ≡ held e → Held v s h w e
   unfolding assigned kept
   held-after e p = by (eqb w v) refl p
     where
-      fresh : (b : Bool) → holdable v h s ≡ b → w ≡ v → cond b (held s) free ≡ held e → Holds v s h w e
+      fresh : (b : Bool) → holdable v h s ≡ b → w ≡ v → cond b (held s) free ≡ held e → Held v s h w e
       fresh true k q p = new q (cc) k
       fresh false k q p = absurd (not-held (sym p))
 
-      still : (b : Bool) (d : Expr) → reads v d ≡ b → (w ≡ v → ⊥) → h w ≡ held d → cond b free (held d) ≡ held e → Holds v s h w e
+      still : (b : Bool) (d : Expr) → reads v d ≡ b → (w ≡ v → ⊥) → h w ≡ held d → cond b free (held d) ≡ held e → Held v s h w e
       still true d k q r p = absurd (not-held (sym p))
       still false d k q r p =
           let same : d ≡ e = cc in
           old q (rw same at r) (rw same at k)
 
-      rest : (t : Entry) → h w ≡ t → (w ≡ v → ⊥) → cond (entryReads v t) free t ≡ held e → Holds v s h w e
+      rest : (t : Entry) → h w ≡ t → (w ≡ v → ⊥) → cond (entryReads v t) free t ≡ held e → Held v s h w e
       rest free k q p = absurd (not-held (sym p))
       rest (held d) k q p = still (reads v d) d refl q k p
 
-      by : (b : Bool) → eqb w v ≡ b → cond b (entryOf v h s) (cond (b || entryReads v (h w)) free (h w)) ≡ held e → Holds v s h w e
+      by : (b : Bool) → eqb w v ≡ b → cond b (entryOf v h s) (cond (b || entryReads v (h w)) free (h w)) ≡ held e → Held v s h w e
       by true q p = fresh (holdable v h s) refl (eqb-true w v q) p
       by false q p = rest (h w) refl (eqb-false w v q) p
 
@@ -254,16 +254,16 @@ module _ {types : List ℕ} {h : Table} {ρ ν : Values} (p : Present types h ρ
       others : (u : ℕ) (d : Expr) → (u ≡ v → ⊥) → h u ≡ held d → reads v d ≡ true → reads u e ≡ true → ⊥
       others u d t i j l = false≢true (sym k ∙ p .closed w u e d r i l v j)
 
-  value-after : (w : ℕ) (e : Expr) → Holds v s h w e → (σ : Values) (m : Memory) (f : Effects)
+  value-after : (w : ℕ) (e : Expr) → Held v s h w e → (σ : Values) (m : Memory) (f : Effects)
       → ev types after σ m f e ≡ chosen (getD types w 0) (update v x ν w)
   value-after w e (new q r k) σ m f = rw (q, r, eq-eqb v v refl) (value-new k σ m f)
   value-after w e (old q r k) σ m f = value-old w e q r k σ m f
 
-  typed-after : (w : ℕ) (e : Expr) → Holds v s h w e → Alike (typeOf types e) (getD types w 0)
+  typed-after : (w : ℕ) (e : Expr) → Held v s h w e → Alike (typeOf types e) (getD types w 0)
   typed-after w e (new q r k) = rw (q, r) alike
   typed-after w e (old q r k) = p .heldTyped w e r
 
-  closed-after : (w u : ℕ) (e d : Expr) → Holds v s h w e → Holds v s h u d → reads u e ≡ true → (y : ℕ) → reads y d ≡ true → reads y e ≡ true
+  closed-after : (w u : ℕ) (e d : Expr) → Held v s h w e → Held v s h u d → reads u e ≡ true → (y : ℕ) → reads y d ≡ true → reads y e ≡ true
   closed-after w u e d (new q r k) (new q′ r′ k′) i y j = rw r (rw r′ at j)
   closed-after w u e d (new q r k) (old q′ r′ k′) i y j =
       rw r (closed-new (holdable-is v s h k .plain .noLoad) u d r′ (rw r at i) y j)
@@ -301,10 +301,10 @@ assigns {types} {h} {ρ} {ν} p v x e m f alike is = record {
         → (y : ℕ) → reads y d ≡ true → reads y (substitute h e) ≡ true
     reads-all l w d q i y j = reads-closed p w d q y j e l i
 
-into-same : {a b : Expr} → into a ≡ into b → a ≡ b
+pub into-same : {a b : Expr} → into a ≡ into b → a ≡ b
 into-same q = cc
 
-never : {a : Expr} → tooLong ≡ into a → ⊥
+pub never : {a : Expr} → tooLong ≡ into a → ⊥
 never q = let z : _≡_ {A = ℕ} 0 1 = cc in omega arith
 
 -- What holds of every evaluation of the substituted condition, and where there is no outcome, holds of the outcome of every run.

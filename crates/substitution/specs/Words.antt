@@ -9,7 +9,7 @@ use Rattle.expr.specs.Codes.{kindVariable, kindLoad}
 use Rattle.expr.specs.Tree.{Expr, Wf, flat, treeOf, kindOf, argumentOf, arityOf}
 use Rattle.substitution.specs.declared.Written.{Written}
 use Rattle.substitution.specs.declared.Written.the-variants.{From, TooLong}
-use Rattle.substitution.specs.Substitution.{free, held, Table, entryReads, long}
+use Rattle.substitution.specs.Substitution.{free, held, Table, substitute, entryReads, assigned, long}
 
 -- what is held for variable v, in words
 abbrev pub slot : List ℕ → List ℕ → ℕ → List ℕ
@@ -30,6 +30,11 @@ pub record Slots (table lengths : List ℕ) : Type 0 where
 pub record Holds (table lengths : List ℕ) (h : Table) : Type 0 where
   pub slots : Slots table lengths
   pub holds : tableOf table lengths ≡ h
+
+-- What one assignment of e to v leaves of the table h: the table after it, or the same one where the substituted value is too long. (N1, N26)
+abbrev pub Assigned : Bool → List ℕ → List ℕ → ℕ → Expr → Table → Type 0
+Assigned true table lengths v e h = Holds table lengths (assigned v (substitute h e) h) × (long (substitute h e) ≡ false)
+Assigned false table lengths v e h = Holds table lengths h × (long (substitute h e) ≡ true)
 
 -- The words of an expression fill the end of a lent list, or are more than it may have. (N26)
 abbrev pub Made : Written → List ℕ → Expr → Type 0

@@ -6,7 +6,7 @@ ghost use lib.ListN.{length, replicate};
 ghost use Rattle.expr.specs.Tree.{Wf, treeOf};
 ghost use Rattle.expr.specs.Scan.{anyNode};
 ghost use Rattle.substitution.specs.Substitution.{substitute as substituteOf, entryReads, ended, holdable, kept, assigned};
-ghost use Rattle.substitution.specs.Words.{tableOf, Slots, Holds, Made, heldWords, pendingAfter, endedTag, keptLength};
+ghost use Rattle.substitution.specs.Words.{tableOf, Slots, Holds, Assigned, Made, heldWords, pendingAfter, endedTag, keptLength};
 
 // Where the words of a substituted expression start in the lent words, which they fill to the end; or there are more than 256.
 pub enum Written {
@@ -159,6 +159,27 @@ pub fn assign(v: u64, value: &[u64], table: &mut [u64], lengths: &mut [usize])
         let place = v as usize;
         slice::copy_to(value, table, 256 * place);
         lengths[place] = value.len();
+    }
+}
+
+// One assignment of a node: its value is substituted, and assigned. False where it is too long; then the table is as it was.
+pub fn take_assignment(
+    v: u64,
+    value: &[u64],
+    table: &mut [u64],
+    lengths: &mut [usize],
+    out: &mut [u64],
+) -> bool
+    requires { ⌜ (v < 32) × Wf (now value) × (length (now value) ≤ 256) × Slots (now table) (now lengths) × (length (now out) ≡ 256) ⌝ }
+    ensures { λ r. ⌜ Assigned r (now (table .exit)) (now (lengths .exit)) v (treeOf (now (value .entry))) (tableOf (now (table .entry)) (now (lengths .entry))) ⌝ }
+{
+    let w = substitute(value, table, lengths, out);
+    match w {
+        Written::TooLong => false,
+        Written::From(at) => {
+            assign(v, &out[at..], table, lengths);
+            true
+        }
     }
 }
 
