@@ -1,5 +1,6 @@
 -- the theorems
 pub mod Sound
+pub mod Nodes
 pub mod Forced
 pub mod Public
 pub mod Outcomes

@@ -1,0 +1,163 @@
+-- Nodes: a verdict is right of every run that has an outcome. The substituted condition speaks for every run (crate substitution),
+-- and `decide` is right of every evaluation of it (crate decide); that constants are below their width goes through substitution.
+use Prim.Native.Nat.{ℕ}
+use mathlib.Core.Path.{_≡_, refl, sym, _∙_}
+use mathlib.Core.Bool.{Bool, true, false, cond, _||_}
+use mathlib.Core.List.{List, [], _∷_}
+use native.Mathlib.Omega.{arith}
+use lib.Dec.{eqb}
+use lib.ListN.{length}
+use Rattle.expr.specs.Admission.{Admitted, AdmittedAll, AdmittedNode}
+use Rattle.expr.proofs.Admission.{constant-fits}
+use Rattle.expr.specs.Tree.{Expr}
+use Rattle.expr.specs.Tree.Expr.{variable, constant, conditionTrue, conditionFalse, effect, load, cast, binary, ternary}
+use Rattle.expr.specs.Statement.{Statement}
+use Rattle.expr.specs.Statement.Statement.{assignment, other}
+use Rattle.value.specs.declared.Value.{Value}
+use Rattle.value.specs.declared.Value.the-variants.{Of, NoValue}
+use Rattle.value.specs.declared.Truth.{Truth}
+use Rattle.value.specs.declared.Truth.the-variants.{NoOutcome}
+use Rattle.value.specs.Operators.{truthOf}
+use Rattle.value.specs.Evaluation.{Values, Contents, Effects, shared, ev}
+use Rattle.value.specs.Run.{Choices, run}
+use Rattle.substitution.specs.Substitution.{Entry, free, held, Table, nothingHeld, standing, substitute, entryReads, kept, holdable, entryOf, assigned, long, Substituted, tooLong, into, substituted, withAssignments}
+use Rattle.substitution.proofs.Runs.{every-run}
+use Rattle.verdict.specs.declared.Verdict.{Verdict}
+use Rattle.verdict.specs.declared.Answer.{Answer}
+use Rattle.verdict.specs.declared.Answer.the-variants.{Given, Refused}
+use Rattle.sheet_node.specs.Node.{Node}
+use Rattle.decide.specs.Decide.{decide, fits}
+use Rattle.decide.proofs.Evaluation.{Has}
+use Rattle.decide.proofs.ExactValue.{Fitting}
+use Rattle.decide.proofs.Sound.{Meets, right}
+use Rattle.verdict_node.specs.NodeVerdict.{onSubstituted, nodeVerdict}
+
+-- every held expression has its constants below their width
+abbrev FittingTable : Table → Type 0
+FittingTable h = (v : ℕ) (e : Expr) → h v ≡ held e → Fitting e
+
+fitting-standing : (h : Table) → FittingTable h → (n : ℕ) (k : Entry) → h n ≡ k → Fitting (standing n k)
+unfolding Fitting
+fitting-standing h t n free e = tt
+fitting-standing h t n (held x) e = t n x e
+
+fitting-substitute : (h : Table) → FittingTable h → (e : Expr) → Fitting e → Fitting (substitute h e)
+unfolding substitute Fitting
+fitting-substitute h t (variable n) f = fitting-standing h t n (h n) refl
+fitting-substitute h t (constant w x) f = f
+fitting-substitute h t conditionTrue f = tt
+fitting-substitute h t conditionFalse f = tt
+fitting-substitute h t (effect k) f = tt
+fitting-substitute h t (load k a) f = f
+fitting-substitute h t (cast k a) f = fitting-substitute h t a f
+fitting-substitute h t (binary o a b) f = (fitting-substitute h t a (f .0), fitting-substitute h t b (f .1))
+fitting-substitute h t (ternary c a b) f = (fitting-substitute h t c (f .0), fitting-substitute h t a (f .1), fitting-substitute h t b (f .2))
+
+held-same : {a b : Expr} → held a ≡ held b → a ≡ b
+held-same e = cc
+
+not-free : {X : Type 0} {a : Expr} → free ≡ held a → X
+not-free e = let z : _≡_ {A = ℕ} 0 1 = cc in absurd (omega arith)
+
+fitting-assigned : (v : ℕ) (e : Expr) (h : Table) → FittingTable h → Fitting e → FittingTable (assigned v e h)
+unfolding assigned kept
+fitting-assigned v e h t f w x is = go (eqb w v) is
+  where
+    entry : (b : Bool) → cond b (held e) free ≡ held x → Fitting x
+    entry true q = rw (sym (held-same q)) f
+    entry false q = not-free q
+
+    rest : (b : Bool) → cond b free (h w) ≡ held x → Fitting x
+    rest true q = not-free q
+    rest false q = t w x q
+
+    go : (b : Bool) → cond b (entryOf v h e) (cond (eqb w v || entryReads v (h w)) free (h w)) ≡ held x → Fitting x
+    go true q = entry (holdable v h e) q
+    go false q = rest (eqb w v || entryReads v (h w)) q
+
+-- every assigned value has its constants below their width
+unfoldable pub FittingAll : List Statement → Type 0
+FittingAll [] = Unit {0}
+FittingAll (assignment v e ∷ rest) = Fitting e × FittingAll rest
+FittingAll (other ∷ rest) = FittingAll rest
+
+into-same : {a b : Expr} → into a ≡ into b → a ≡ b
+into-same q = cc
+
+too-long : {X : Type 0} {a : Expr} → tooLong ≡ into a → X
+too-long q = let z : _≡_ {A = ℕ} 0 1 = cc in absurd (omega arith)
+
+fitting-result : (statements : List Statement) → FittingAll statements → (h : Table) → FittingTable h → (c result : Expr) → Fitting c
+    → substituted h statements c ≡ into result → Fitting result
+unfolding substituted FittingAll
+fitting-result [] a h t c result f = go (long (substitute h c))
+  where
+    go : (b : Bool) → cond b tooLong (into (substitute h c)) ≡ into result → Fitting result
+    go true q = too-long q
+    go false q = rw (sym (into-same q)) (fitting-substitute h t c f)
+fitting-result (assignment v e ∷ rest) a h t c result f =
+    go (long (substitute h e)) (fitting-result rest (a .1) (assigned v (substitute h e) h) (fitting-assigned v (substitute h e) h t (fitting-substitute h t e (a .0))) c result f)
+  where
+    go : (b : Bool) → (substituted (assigned v (substitute h e) h) rest c ≡ into result → Fitting result)
+        → cond b tooLong (substituted (assigned v (substitute h e) h) rest c) ≡ into result → Fitting result
+    go true on q = too-long q
+    go false on q = on q
+fitting-result (other ∷ rest) a h t c result f = fitting-result rest a nothingHeld (λ v e is. not-free is) c result f
+
+-- what reading lets through has its constants below their width
+admitted-fitting : (n : ℕ) (e : Expr) → Admitted n e → Fitting e
+unfolding Admitted Fitting
+admitted-fitting n (variable v) a = tt
+admitted-fitting n (constant w x) a = constant-fits w x a
+admitted-fitting n conditionTrue a = tt
+admitted-fitting n conditionFalse a = tt
+admitted-fitting n (effect t) a = tt
+admitted-fitting n (load t e) a = admitted-fitting n e (a .1)
+admitted-fitting n (cast t e) a = admitted-fitting n e (a .1)
+admitted-fitting n (binary o d e) a = (admitted-fitting n d (a .1), admitted-fitting n e (a .2))
+admitted-fitting n (ternary c d e) a = (admitted-fitting n c (a .0), admitted-fitting n d (a .1), admitted-fitting n e (a .2))
+
+all-fitting : (types : List ℕ) (l : List Statement) → AdmittedAll types l → FittingAll l
+unfolding AdmittedAll FittingAll
+all-fitting types [] a = tt
+all-fitting types (assignment v e ∷ rest) a = (admitted-fitting (length types) e (a .0 .value .tree), all-fitting types rest (a .1))
+all-fitting types (other ∷ rest) a = all-fitting types rest a
+
+-- a node that reading lets through
+abbrev pub Fair : Node → Type 0
+Fair n = AdmittedNode (n .types) (n .statements) (n .condition)
+
+-- the run of a node has an outcome that is as the verdict says
+abbrev pub AsSaid : Verdict → Truth → Type 0
+AsSaid v t = (t ≡ NoOutcome → ⊥) → Meets v t
+
+outcome-has : (u : Value) → (truthOf u ≡ NoOutcome → ⊥) → Has u
+outcome-has (Of x) h = tt
+outcome-has NoValue h = h refl
+
+given-same : {v w : Verdict} → Given v ≡ Given w → v ≡ w
+given-same q = cc
+
+refused-given : {X : Type 0} {k at : ℕ} {v : Verdict} → Refused k at ≡ Given v → X
+refused-given q = let z : _≡_ {A = ℕ} 0 1 = cc in absurd (omega arith)
+
+-- The verdict on a node is right of every run that has an outcome.
+pub node-right : (n : Node) → Fair n → (place : ℕ) (v : Verdict) → nodeVerdict n place ≡ Given v → (c : Choices)
+    → AsSaid v (run (n .types) (n .statements) (n .condition) c)
+unfolding nodeVerdict
+node-right n fair place v q c = go (withAssignments (n .statements) (n .condition)) refl q
+  where
+    go : (d : Substituted) → withAssignments (n .statements) (n .condition) ≡ d → onSubstituted place d ≡ Given v
+        → AsSaid v (run (n .types) (n .statements) (n .condition) c)
+    go tooLong is e = refused-given e
+    go (into result) is e = on (fits result) e
+      where
+        fit : Fitting result
+        fit = fitting-result (n .statements) (all-fitting (n .types) (n .statements) (fair .assigned)) nothingHeld (λ v e is. not-free is) (n .condition) result (admitted-fitting (length (n .types)) (n .condition) (fair .decides .tree)) is
+
+        on : (b : Bool) → cond b (Given (decide result)) (Refused 11 place) ≡ Given v → AsSaid v (run (n .types) (n .statements) (n .condition) c)
+        on false e = refused-given e
+        on true e =
+            rw (sym (given-same e))
+            (every-run (n .types) (n .condition) result (AsSaid (decide result)) (λ h. absurd (h refl))
+            (λ ρ σ m f h. right (n .types) ρ σ m f result fit (outcome-has (ev (n .types) ρ σ (shared m) f result) h)) c (n .statements) (fair .assigned) is)

@@ -1,0 +1,1 @@
+// The answer for a node of an accepted sheet.
