@@ -26,7 +26,7 @@ length-toggle t (x ∷ l) = go (ltb x t) (eqb x t) (length-toggle t l)
     go false true rest = omega arith
     go false false rest = omega arith
 
-length-times : (l : List ℕ) (x : ℕ) (b : List ℕ) → length (sumTimes l x b) ≤ length l + length b
+pub length-times : (l : List ℕ) (x : ℕ) (b : List ℕ) → length (sumTimes l x b) ≤ length l + length b
 unfolding sumTimes
 length-times l x [] = omega arith
 length-times l x (y ∷ b) =
