@@ -4,7 +4,7 @@ use Prim.Native.Nat.{ℕ}
 use mathlib.Core.Path.{_≡_}
 use mathlib.Core.List.{List}
 use mathlib.Core.Logic.{_↔_}
-use mathlib.Core.Bool.{Bool}
+use mathlib.Core.Bool.{Bool, cond}
 use Rattle.concrete.specs.Concrete.{Processor, Choice}
 use Rattle.value.specs.declared.Truth.the-variants as truth
 use Rattle.value.specs.Run.{Choices}
@@ -17,11 +17,23 @@ use Rattle.format.proofs.Examples.{examples-hold}
 use Rattle.evaluate_node.specs.Evaluate.{StartsFrom}
 use Rattle.pomthija.specs.Block.{blockAnswer}
 use Rattle.pomthija.specs.Evaluation.{evaluationAnswer, nodeNumbered, nodePlace, nodeRun, SaysOf, AnswerFromRun}
-use Rattle.pomthija.specs.Evaluation.Evaluated.{refused}
+use Rattle.pomthija.specs.Evaluation.Evaluated.{outcome, refused}
 use Rattle.theorems.specs.Runs.{runOn}
 use Rattle.theorems.specs.Runs.Outcome.{jumped}
 use Rattle.theorems.specs.Rows.{Yields, rows, marked}
 use Rattle.theorems.proofs.Public.{said, Answered, ForcedEnd, answers-right, answers-forced}
+use Rattle.expr.specs.Codes.{opEqual, opNotEqual}
+use Rattle.expr.specs.Tree.{Expr}
+use Rattle.expr.specs.Tree.Expr.{binary}
+use Rattle.value.specs.Evaluation.{Values, Contents, Effects, shared, ev}
+use Rattle.verdict.specs.declared.Verdict.the-variants as verdict
+use Rattle.decide.specs.LowBit.{lowBit, AlwaysDiffer}
+use Rattle.decide.specs.Decide.{decide}
+use Rattle.decide.proofs.Complete.{decided}
+use Rattle.decide.proofs.Evaluation.{low, Has, sharedBits, ownBits, ev-low}
+use Rattle.format.proofs.Spans.{Bytes}
+use Rattle.pomthija.specs.Node.{nodeAnswer}
+use Rattle.theorems.proofs.Nodes.{decides, outcomeOf, nodes-right, evaluation-agrees}
 use Rattle.theorems.proofs.Outcomes.{answers-run, fourteen, ByEvaluation, refusal-number}
 
 -- Reading accepts exactly the bytes of the valid sheets, and yields their content; a refusal has a number from 1 to 9 and a place within the sheet.
@@ -61,3 +73,23 @@ no-outcome = fourteen
 -- The evaluation refuses with reading's numbers or with 13 to 16; so 0, which a C host gets with an answer, is no refusal.
 pub evaluation-refusals : (s : List ℕ) (number : ℕ) (values : List ℕ) {k at : ℕ} → evaluationAnswer s number values ≡ refused k at → ByEvaluation k
 evaluation-refusals = refusal-number
+
+-- Whatever the bytes and the number: where the answer for a node is always (never), the condition holds (fails) in every run of that node that has an
+-- outcome, from any values and whatever memory, effects and statements with map 0 do.
+pub nodes : (s : List ℕ) → Bytes s → (number : ℕ) (b : Bool) (reason : ℕ) → nodeAnswer s number ≡ decides b reason
+    → (c : Choices) → (nodeRun s number c ≡ truth.NoOutcome → ⊥) → nodeRun s number c ≡ outcomeOf b
+nodes = nodes-right
+
+-- No equality is left undecided whose sides' low bits differ for every choice of their atoms' bits.
+pub low-bits : (equal : Bool) (a b : Expr) → AlwaysDiffer a b → decide (binary (cond equal opEqual opNotEqual) a b) ≡ verdict.Undecided → ⊥
+low-bits = decided
+
+-- In every evaluation the low bit of a part that has a value is its low bit at the bits that its atoms' values have.
+pub low-bit-values : (types : List ℕ) (ρ σ : Values) (m : Contents) (f : Effects) (e : Expr) → Has (ev types ρ σ (shared m) f e)
+    → low (ev types ρ σ (shared m) f e) ≡ lowBit (sharedBits types ρ σ m) (ownBits types ρ σ m f e) e
+low-bit-values = ev-low
+
+-- No evaluation of a node contradicts its verdict.
+pub evaluations-agree : (s : List ℕ) → Bytes s → (number : ℕ) (values : List ℕ) (value : ℕ) → evaluationAnswer s number values ≡ outcome value
+    → (b : Bool) (reason : ℕ) → nodeAnswer s number ≡ decides b reason → SaysOf (outcome value) (outcomeOf b)
+evaluations-agree = evaluation-agrees

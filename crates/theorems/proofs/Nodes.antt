@@ -1,15 +1,16 @@
 -- Nodes: a verdict is right of every run that has an outcome. The substituted condition speaks for every run (crate substitution),
 -- and `decide` is right of every evaluation of it (crate decide); that constants are below their width goes through substitution.
-use Prim.Native.Nat.{ℕ}
+use Prim.Native.Nat.{ℕ, zero, suc, _<_}
 use mathlib.Core.Path.{_≡_, refl, sym, _∙_}
 use mathlib.Core.Bool.{Bool, true, false, cond, _||_}
 use mathlib.Core.List.{List, [], _∷_}
 use native.Mathlib.Omega.{arith}
-use lib.Dec.{eqb}
-use lib.ListN.{length}
+use lib.Dec.{eqb, ltb}
+use native.Mathlib.Decide.{decLt}
+use lib.ListN.{length, getD, List·getD-eq-default}
 use Rattle.expr.specs.Admission.{Admitted, AdmittedAll, AdmittedNode}
 use Rattle.expr.proofs.Admission.{constant-fits}
-use Rattle.expr.specs.Tree.{Expr}
+use Rattle.expr.specs.Tree.{Expr, flat}
 use Rattle.expr.specs.Tree.Expr.{variable, constant, conditionTrue, conditionFalse, effect, load, cast, binary, ternary}
 use Rattle.expr.specs.Statement.{Statement}
 use Rattle.expr.specs.Statement.Statement.{assignment, other}
@@ -17,12 +18,16 @@ use Rattle.value.specs.declared.Value.{Value}
 use Rattle.value.specs.declared.Value.the-variants.{Of, NoValue}
 use Rattle.value.specs.declared.Truth.{Truth}
 use Rattle.value.specs.declared.Truth.the-variants.{NoOutcome}
+use Rattle.value.specs.declared.Truth.the-variants as truth
 use Rattle.value.specs.Operators.{truthOf}
 use Rattle.value.specs.Evaluation.{Values, Contents, Effects, shared, ev}
 use Rattle.value.specs.Run.{Choices, run}
 use Rattle.substitution.specs.Substitution.{Entry, free, held, Table, nothingHeld, standing, substitute, entryReads, kept, holdable, entryOf, assigned, long, Substituted, tooLong, into, substituted, withAssignments}
 use Rattle.substitution.proofs.Runs.{every-run}
 use Rattle.verdict.specs.declared.Verdict.{Verdict}
+use Rattle.verdict.specs.declared.Verdict.the-variants.{Always, Never, Undecided, NoBranch}
+use Rattle.verdict.specs.Numbers.{Numbers, verdictNumbers, answerNumbers}
+use Rattle.verdict.specs.Numbers.Numbers.{decision, refused}
 use Rattle.verdict.specs.declared.Answer.{Answer}
 use Rattle.verdict.specs.declared.Answer.the-variants.{Given, Refused}
 use Rattle.sheet_node.specs.Node.{Node}
@@ -31,6 +36,16 @@ use Rattle.decide.proofs.Evaluation.{Has}
 use Rattle.decide.proofs.ExactValue.{Fitting}
 use Rattle.decide.proofs.Sound.{Meets, right}
 use Rattle.verdict_node.specs.NodeVerdict.{onSubstituted, nodeVerdict}
+use Rattle.sheet.specs.declared.Sheet.{Sheet}
+use Rattle.sheet.specs.declared.Reading.{Reading}
+use Rattle.sheet.specs.declared.Reading.the-variants as reading
+use Rattle.sheet.specs.Sheet.{sheetAt, readingOf}
+use Rattle.format.proofs.Spans.{Bytes}
+use Rattle.format.proofs.Admitted.{node-admitted-at}
+use Rattle.pomthija.specs.Evaluation.{noNode, nodeNumbered, nodePlace, nodeRun, evaluationAnswer, SaysOf}
+use Rattle.pomthija.specs.Evaluation.Evaluated.{outcome}
+use Rattle.theorems.proofs.Outcomes.{answers-run}
+use Rattle.pomthija.specs.Node.{onNode, nodeAnswer}
 
 -- every held expression has its constants below their width
 abbrev FittingTable : Table → Type 0
@@ -161,3 +176,81 @@ node-right n fair place v q c = go (withAssignments (n .statements) (n .conditio
             rw (sym (given-same e))
             (every-run (n .types) (n .condition) result (AsSaid (decide result)) (λ h. absurd (h refl))
             (λ ρ σ m f h. right (n .types) ρ σ m f result fit (outcome-has (ev (n .types) ρ σ (shared m) f result) h)) c (n .statements) (fair .assigned) is)
+
+none-fair : Fair noNode
+unfolding AdmittedAll Admitted flat
+none-fair = record {
+  few = omega arith;
+  inTable = λ v h. absurd (omega arith);
+  assigned = tt;
+  decides = record { short = omega arith; tree = tt };
+}
+
+-- a node of an accepted sheet; where there is none of that number, the node that stands in asks for nothing
+numbered-fair : (s : List ℕ) (sheet : Sheet) → Bytes s → readingOf s ≡ reading.Accepted sheet → (number : ℕ) → Fair (nodeNumbered s number)
+numbered-fair s sheet small read number = go (decLt number (length (sheetAt s .nodes .list)))
+  where
+    go : Dec (number < length (sheetAt s .nodes .list)) → Fair (nodeNumbered s number)
+    go (yes low) = node-admitted-at s small read number noNode low
+    go (no high) = rw (List·getD-eq-default (sheetAt s .nodes .list) noNode {n = number} (omega arith)) none-fair
+
+-- what decides a condition: 1 where it holds, 0 where it fails, with the reason
+abbrev pub decides : Bool → ℕ → Numbers
+decides true reason = decision 1 reason
+decides false reason = decision 0 reason
+
+abbrev pub outcomeOf : Bool → Truth
+outcomeOf true = truth.Holds
+outcomeOf false = truth.Fails
+
+numbers-meet : (v : Verdict) (b : Bool) (reason : ℕ) (t : Truth) → verdictNumbers v ≡ decides b reason → Meets v t → t ≡ outcomeOf b
+numbers-meet (Always r) true k t e h = h
+numbers-meet (Always r) false k t e h = let z : _≡_ {A = ℕ} 0 1 = cc in absurd (omega arith)
+numbers-meet (Never r) true k t e h = let z : _≡_ {A = ℕ} 0 1 = cc in absurd (omega arith)
+numbers-meet (Never r) false k t e h = h
+numbers-meet Undecided true k t e h = let z : _≡_ {A = ℕ} 0 1 = cc in absurd (omega arith)
+numbers-meet Undecided false k t e h = let z : _≡_ {A = ℕ} 0 1 = cc in absurd (omega arith)
+numbers-meet NoBranch true k t e h = let z : _≡_ {A = ℕ} 0 1 = cc in absurd (omega arith)
+numbers-meet NoBranch false k t e h = let z : _≡_ {A = ℕ} 0 1 = cc in absurd (omega arith)
+
+refused-decides : {X : Type 0} (k at : ℕ) (b : Bool) (reason : ℕ) → refused k at ≡ decides b reason → X
+refused-decides k at true reason e = let z : _≡_ {A = ℕ} 0 1 = cc in absurd (omega arith)
+refused-decides k at false reason e = let z : _≡_ {A = ℕ} 0 1 = cc in absurd (omega arith)
+
+-- For all bytes and every number: where the answer for a node is always (never), every run of that node that has an outcome holds (fails).
+pub nodes-right : (s : List ℕ) → Bytes s → (number : ℕ) (b : Bool) (reason : ℕ) → nodeAnswer s number ≡ decides b reason
+    → (c : Choices) → (nodeRun s number c ≡ NoOutcome → ⊥) → nodeRun s number c ≡ outcomeOf b
+unfolding nodeAnswer
+nodes-right s small number b reason e c some = go (readingOf s) refl e
+  where
+    node : Node
+    node = nodeNumbered s number
+
+    given : (sheet : Sheet) → readingOf s ≡ reading.Accepted sheet → (a : Answer) → nodeVerdict (nodeNumbered s number) (nodePlace s number) ≡ a
+        → answerNumbers a ≡ decides b reason → nodeRun s number c ≡ outcomeOf b
+    given sheet read (Given v) is q =
+        numbers-meet v b reason (nodeRun s number c) q (node-right (nodeNumbered s number) (numbered-fair s sheet small read number) (nodePlace s number) v is c some)
+    given sheet read (Refused k at) is q = refused-decides k at b reason q
+
+    go : (r : Reading) → readingOf s ≡ r → answerNumbers (onNode r s number) ≡ decides b reason → nodeRun s number c ≡ outcomeOf b
+    go (reading.Refused k at) q e = refused-decides k at b reason e
+    go (reading.Accepted sheet) q e = on (ltb number (sheet .nodes .count)) e
+      where
+        on : (t : Bool) → answerNumbers (cond t (nodeVerdict (nodeNumbered s number) (nodePlace s number)) (Refused 13 0)) ≡ decides b reason → nodeRun s number c ≡ outcomeOf b
+        on true e = given sheet q (nodeVerdict (nodeNumbered s number) (nodePlace s number)) refl e
+        on false e = refused-decides 13 0 b reason e
+
+-- a run from lent values; what is free beside them is taken as 0
+abbrev from : List ℕ → Choices
+from values = record { start = λ v. getD values v 0; memory = λ i path t a. 0; contents = λ t a. 0; effects = λ i path. 0; renewed = λ i v. 0 }
+
+-- No evaluation of a node contradicts its verdict.
+pub evaluation-agrees : (s : List ℕ) → Bytes s → (number : ℕ) (values : List ℕ) (value : ℕ) → evaluationAnswer s number values ≡ outcome value
+    → (b : Bool) (reason : ℕ) → nodeAnswer s number ≡ decides b reason → SaysOf (outcome value) (outcomeOf b)
+evaluation-agrees s small number values value e b reason q =
+    let says : SaysOf (outcome value) (nodeRun s number (from values)) = rw e at (answers-run s number values (from values) (λ v h. refl)) in
+    rw (nodes-right s small number b reason q (from values) (some value says)) at says
+  where
+    some : (value : ℕ) → SaysOf (outcome value) (nodeRun s number (from values)) → nodeRun s number (from values) ≡ NoOutcome → ⊥
+    some zero says none = let z : _≡_ {A = ℕ} 0 1 = cc in omega arith
+    some (suc k) says none = let z : _≡_ {A = ℕ} 0 1 = cc in omega arith
