@@ -1,7 +1,7 @@
 //! The commands. README.md has an example of each.
 
 use oracle::comparisons::frames::{self, Question};
-use oracle::comparisons::{evaluations, processor, reading, reading_time, verdicts};
+use oracle::comparisons::{evaluations, processor, reading, times, verdicts};
 use oracle::judges::{evaluator, reader};
 use oracle::sheets::{from_text, to_text, words};
 use oracle::stored;
@@ -49,7 +49,7 @@ fn command(args: &[String]) -> Outcome {
         ["read", sheet] => read_sheet(sheet),
         ["answer"] => answer(),
         ["compare", options @ ..] => compare_program(&Options::parse(options)?),
-        ["bench", options @ ..] => bench_reader(&Options::parse(options)?),
+        ["bench", options @ ..] => bench(&Options::parse(options)?),
         ["processor", options @ ..] => judge_by_processor(&Options::parse(options)?),
         ["stored", frames, lines, options @ ..] => store(frames, lines, &Options::parse(options)?),
         ["verdicts", options @ ..] => compare_verdicts(&Options::parse(options)?),
@@ -238,9 +238,9 @@ fn store(frames: &str, lines: &str, options: &Options) -> Outcome {
     Ok(list.open == 0)
 }
 
-fn bench_reader(options: &Options) -> Outcome {
+fn bench(options: &Options) -> Outcome {
     let program = options.command()?;
-    let outcome = reading_time::bench(program.as_deref(), options.save.as_deref());
+    let outcome = times::bench(program.as_deref(), options.save.as_deref());
     outcome.map_err(|error| error.to_string())?;
     Ok(true)
 }

@@ -4,5 +4,5 @@ pub mod evaluations;
 pub mod frames;
 pub mod processor;
 pub mod reading;
-pub mod reading_time;
+pub mod times;
 pub mod verdicts;
