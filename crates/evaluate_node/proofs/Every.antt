@@ -27,46 +27,9 @@ use Rattle.evaluate_node.specs.declared.Evaluation.{Evaluation}
 use Rattle.evaluate_node.specs.declared.Evaluation.the-variants.{Holds, Fails, Refused}
 use Rattle.evaluate_node.specs.declared.Fit.{Fit}
 use Rattle.evaluate_node.specs.declared.Fit.the-variants.{AllFit, Unfit}
-use Rattle.evaluate_node.specs.Evaluate.{plainAll, unfitFrom, startValues, onValues, onFit, onTruth, evaluationOf, StartsFrom, Gives, FromRun}
+use Rattle.evaluate_node.specs.Evaluate.{plainAll, unfitFrom, onValues, onFit, onTruth, evaluationOf, StartsFrom, Gives, FromRun}
 use Rattle.evaluate_node.proofs.Laws.{both-left, both-right}
-use Rattle.evaluate_node.proofs.Runs.{is-plain}
-use Rattle.evaluate_node.proofs.Whole.{fit-enough}
-
--- two lists of values that agree at the first n variables
-abbrev Same : ℕ → Values → Values → Type 0
-Same n ρ ρ′ = (v : ℕ) → v < n → ρ v ≡ ρ′ v
-
-same-value : (types : List ℕ) (n : ℕ) (ρ ρ′ : Values) (m m′ : Memory) (f f′ : Effects) (e : Expr) → plainExpr e ≡ true → Below n e → Same n ρ ρ′
-    → ev types ρ ρ m f e ≡ ev types ρ′ ρ′ m′ f′ e
-same-value types n ρ ρ′ m m′ f f′ e p b h =
-    plain-ev types ρ ρ ρ m m′ f f′ e (is-plain e p)
-    ∙ by-variables-read types ρ ρ′ ρ ρ′ m′ f′ e (λ v r. h v (b v r)) (λ v r. h v (b v r))
-
-same-given : (u : Value) (next next′ : ℕ → Truth) → ((x : ℕ) → next x ≡ next′ x) → given u next ≡ given u next′
-same-given (Of x) next next′ h = h x
-same-given NoValue next next′ h = refl
-
-same-update : (n v x : ℕ) (ρ ρ′ : Values) → Same n ρ ρ′ → Same n (update v x ρ) (update v x ρ′)
-same-update n v x ρ ρ′ h k below = ap (λ (y : ℕ). cond (eqb k v) x y) (h k below)
-
--- a plain node's run depends only on the values that its variables start from
-pub same-run : (types : List ℕ) (n : ℕ) (c c′ : Choices) (condition : Expr) (i : ℕ) (l : List Statement) (ρ ρ′ : Values)
-    → plainAll l ≡ true → plainExpr condition ≡ true → AllBelow n l → Below n condition → Same n ρ ρ′
-    → runFrom types c condition i l ρ ≡ runFrom types c′ condition i l ρ′
-unfolding runFrom plainAll
-same-run types n c c′ condition i [] ρ ρ′ p q b d h =
-    ap truthOf (same-value types n ρ ρ′ (shared (c .contents)) (shared (c′ .contents)) (c .effects i) (c′ .effects i) condition q d h)
-same-run types n c c′ condition i (other ∷ rest) ρ ρ′ p q b d h = absurd (false≢true p)
-same-run types n c c′ condition i (assignment v e ∷ rest) ρ ρ′ p q b d h =
-    ap (λ (u : Value). given u (λ x. runFrom types c condition (suc i) rest (update v x ρ)))
-    (same-value types n ρ ρ′ (c .memory i) (c′ .memory i) (c .effects i) (c′ .effects i) e (both-left (plainExpr e) (plainAll rest) p) (b .0) h)
-    ∙ same-given (ev types ρ′ ρ′ (c′ .memory i) (c′ .effects i) e) _ _
-    (λ x. same-run types n c c′ condition (suc i) rest (update v x ρ) (update v x ρ′) (both-right (plainExpr e) (plainAll rest) p) q (b .1) d (same-update n v x ρ ρ′ h))
-
--- the declared variables start from the lent values
-starts-lent : (n : ℕ) (values : List ℕ) → n ≤ length values → (v : ℕ) → v < n → getD (startValues n values) v 0 ≡ getD values v 0
-starts-lent n values enough v below =
-    List·getD-append (take n values) (drop n (replicate 32 0)) 0 v (rw (length-take-le n values enough) below) ∙ getD-take n values v 0 below
+use Rattle.evaluate_node.proofs.Same.{same-run}
 
 module _ (n : Node) (place : ℕ) (values : List ℕ) (declared : ReadsDeclared n) (c : Choices) (starts : StartsFrom (n .types) values c) where
   abbrev Run : Truth
@@ -77,13 +40,11 @@ module _ (n : Node) (place : ℕ) (values : List ℕ) (declared : ReadsDeclared 
       → evaluationOf n place values ≡ onTruth place Run
   unfolding evaluationOf
   evaluation-run plain fit =
-      let count = length (n .types) in
-      let enough = fit-enough 0 (n .types) values fit in
       rw (plain, fit)
       (ap (onTruth place)
-      (same-run (n .types) count (onValues count values) c (n .condition) 0 (n .statements) (onValues count values .start) (c .start)
+      (same-run (n .types) (length (n .types)) (onValues values) c (n .condition) 0 (n .statements) (onValues values .start) (c .start)
       (both-left (plainAll (n .statements)) (plainExpr (n .condition)) plain) (both-right (plainAll (n .statements)) (plainExpr (n .condition)) plain) (declared .statements) (declared .condition)
-      (λ v below. starts-lent count values enough v below ∙ sym (starts v below))))
+      (λ v below. sym (starts v below))))
 
   refused-15 : (plainAll (n .statements) && plainExpr (n .condition)) ≡ false → evaluationOf n place values ≡ Refused 15 place
   unfolding evaluationOf
@@ -153,4 +114,4 @@ module _ {number at : ℕ} where
   unfolding evaluationOf
   evaluation-number n place values e =
       plain-number place (plainAll (n .statements) && plainExpr (n .condition)) (unfitFrom 0 (n .types) values)
-      (run (n .types) (n .statements) (n .condition) (onValues (length (n .types)) values)) e
+      (run (n .types) (n .statements) (n .condition) (onValues values)) e

@@ -24,9 +24,12 @@ use Rattle.sheet_node.specs.Node.{statementAt, statementOf, statementsFrom, Sta
 use Rattle.sheet_node.proofs.Accepted.{statements-back, statements-nth, statements-length, assigned}
 use Rattle.evaluate_node.specs.declared.Fit.{Fit}
 use Rattle.evaluate_node.specs.declared.Fit.the-variants.{AllFit, Unfit}
-use Rattle.evaluate_node.specs.Evaluate.{plainStatement, plainAll, unfitFrom, After, goOn, assignedAll, Ran, Valued}
-use Rattle.evaluate_node.specs.Evaluate.After.{went, stopped}
-use Rattle.evaluate_node.specs.declared.ValueField.{ValueField}
+use Rattle.evaluate_node.specs.Evaluate.{plainStatement, plainAll, unfitFrom}
+use Rattle.evaluate_node.specs.Contracts.{After, stateOf, goOn, afterStatement, assignedAll, StateIs, Stepped, isRefused, hasGone, progressOf}
+use Rattle.evaluate_node.specs.Contracts.After.{went, stopped}
+use Rattle.evaluate_node.specs.declared.Progress.{Progress}
+use Rattle.evaluate_node.specs.declared.Progress.the-variants.{Went, Stopped, NotPlain}
+use Rattle.evaluate_node.specs.declared.Step.{Step}
 use Rattle.value.specs.declared.Value.{Value}
 use Rattle.value.specs.declared.Value.the-variants.{Of, NoValue}
 use Rattle.value.specs.Evaluation.{evaluated, settled}
@@ -67,26 +70,9 @@ both-right false b e = cc
 
 -- ---- statements
 
-plain-append : (l : List Statement) (x : Statement) → plainAll (l ++ (x ∷ [])) ≡ (plainAll l && plainStatement x)
-unfolding plainAll
-plain-append [] x = and-true (plainStatement x)
-plain-append (y ∷ l) x = ap (λ (b : Bool). plainStatement y && b) (plain-append l x) ∙ sym (and-assoc (plainStatement y) (plainAll l) (plainStatement x))
-
-pub plain-more : (types s : List ℕ) (p : Place) (k : ℕ) {plain now : Bool} {next : Place} {r : Place}
-    → plain ≡ plainAll (statementsFrom types s p k .list) → next ≡ statementsFrom types s p k .next
-    → now ≡ plainStatement (statementOf (statementAt types s next)) → r ≡ statementAt types s next .next
-    → ((plain && now) ≡ plainAll (statementsFrom types s p (k + 1) .list)) × (r ≡ statementsFrom types s p (k + 1) .next)
-unfolding statementsFrom
-plain-more types s p k plain-is next-is now-is r-is =
-    (rw (add-one k, plain-is, now-is, next-is) (sym (plain-append _ _)), rw (add-one k, r-is, next-is))
-
 pub none-next : (types s : List ℕ) (p : Place) → p ≡ statementsFrom types s p 0 .next
 unfolding statementsFrom
 none-next types s p = refl
-
-pub plain-none : (types s : List ℕ) (p : Place) → true ≡ plainAll (statementsFrom types s p 0 .list)
-unfolding statementsFrom plainAll
-plain-none types s p = refl
 
 statement-next : (types s : List ℕ) (p : Place) (k : ℕ) {a : ℕ} → statementsFrom types s p (k + 1) .next ≡ At a
     → statementAt types s (statementsFrom types s p k .next) .next ≡ At a
@@ -123,7 +109,7 @@ module _ (types s : List ℕ) (p : Place) {f : StatementField} {before after : L
   pub plain-other : f .assigned ≡ false → false ≡ plainStatement (statementOf (statementAt types s p))
   plain-other other′ = rw (← took .assigned, other′)
 
--- ---- the run
+-- ---- one statement
 
 -- a plain statement is an assignment
 pub plain-assigned : (r : StatementRead) → plainStatement (statementOf r) ≡ true → r .assigned ≡ true
@@ -137,67 +123,10 @@ plain-assigned r h = go (r .assigned) refl
 pub plain-words : (r : StatementRead) → plainStatement (statementOf r) ≡ true → plainExpr (treeOf (r .words)) ≡ true
 plain-words r h = rw (plain-assigned r h) at h
 
-plain-nth : (l : List Statement) (i : ℕ) → plainAll l ≡ true → i < length l → plainStatement (getD l i other) ≡ true
-unfolding plainAll
-plain-nth [] i h below = absurd (omega arith)
-plain-nth (x ∷ l) zero h below = both-left (plainStatement x) (plainAll l) h
-plain-nth (x ∷ l) (suc i) h below = plain-nth l i (both-right (plainStatement x) (plainAll l) h) (omega arith)
-
-module _ (types s : List ℕ) (p : Place) (n i : ℕ) (below : i < n) (plain : plainAll (statementsFrom types s p n .list) ≡ true)
-    {next : Place} (next-is : next ≡ statementsFrom types s p i .next) where
-  nth : getD (statementsFrom types s p n .list) i other ≡ statementOf (statementAt types s next)
-  nth = rw next-is (statements-nth types s p n i other below)
-
-  pub this-plain : plainStatement (statementOf (statementAt types s next)) ≡ true
-  this-plain = rw (← nth) (plain-nth (statementsFrom types s p n .list) i plain (rw (statements-length types s p n) below))
-
-  is-assigned : statementAt types s next .assigned ≡ true
-  is-assigned = plain-assigned (statementAt types s next) this-plain
-
-  -- the assignments from here on: this one, and the rest
-  here : drop i (statementsFrom types s p n .list)
-      ≡ assignment (statementAt types s next .variable) (treeOf (statementAt types s next .words)) ∷ drop (suc i) (statementsFrom types s p n .list)
-  here =
-      drop-cons (statementsFrom types s p n .list) i other (rw (statements-length types s p n) below)
-      ∙ ap (λ (x : Statement). x ∷ drop (suc i) (statementsFrom types s p n .list)) (nth ∙ rw is-assigned)
-
-  module _ (start values : List ℕ) {f : ValueField}
-      (kept : assignedAll types (statementsFrom types s p n .list) start ≡ assignedAll types (drop i (statementsFrom types s p n .list)) values)
-      (valued : Valued f types values (statementAt types s next)) where
-    pub run-on : {x : ℕ} → f .value ≡ Of x
-        → assignedAll types (statementsFrom types s p n .list) start
-        ≡ assignedAll types (drop (i + 1) (statementsFrom types s p n .list)) (set values (f .variable) x)
-    unfolding assignedAll
-    run-on is = kept ∙ rw (add-one i, here, ← valued .value, is, valued .variable)
-
-    pub run-out : f .value ≡ NoValue → assignedAll types (statementsFrom types s p n .list) start ≡ stopped values
-    unfolding assignedAll
-    run-out is = kept ∙ rw (here, ← valued .value, is)
-
-    pub run-next : f .next ≡ statementsFrom types s p (i + 1) .next
-    unfolding statementsFrom
-    run-next = valued .next ∙ rw (add-one i, next-is)
-
-  pub in-list : {values : List ℕ} {f : ValueField} → WentOn (statementAt types s next .next) → Valued f types values (statementAt types s next)
-      → f .variable < length types
-  in-list on valued = rw (valued .variable) (assigned types s next (on .1) is-assigned .declared)
-
-pub run-done : (types s : List ℕ) (p : Place) (n i : ℕ) (start values : List ℕ) → n ≤ i
-    → assignedAll types (statementsFrom types s p n .list) start ≡ assignedAll types (drop i (statementsFrom types s p n .list)) values
-    → assignedAll types (statementsFrom types s p n .list) start ≡ went values
-unfolding assignedAll
-run-done types s p n i start values past kept = kept ∙ rw (drop-of-length-le (statementsFrom types s p n .list) {i = i} (rw (statements-length types s p n) past))
-
--- ---- conditions
-
-module _ (variables : ℕ) (s : List ℕ) (p : Place) {e : Expression} {before after : List ℕ}
-    (took : TookExpression (e .records) (e .next) before after (expressionAt variables s p)) (on : WentOn (expressionAt variables s p .next)) where
-  pub condition-tree : Wf (take (2 * e .records) after)
-  condition-tree = rw (took-front took) (one-tree variables s p (on .1) .tree)
-
-  pub condition-ready : plainExpr (treeOf (expressionAt variables s p .words)) ≡ true → Ready (take (2 * e .records) after)
-  condition-ready plain =
-      record { wf = condition-tree; few = rw (took-front took) (one-tree variables s p (on .1) .short); plain = rw (took-front took) plain }
+-- nothing is made after the run stopped
+pub rests : (types : List ℕ) (x : Statement) (values : List ℕ) → afterStatement types x (stopped values) ≡ stopped values
+rests types (assignment v e) values = refl
+rests types other values = refl
 
 module _ (types s : List ℕ) (p : Place) {f : StatementField} {before after : List ℕ} (took : TookStatement f before after (statementAt types s p)) where
   pub taken-ready : WentOn (statementAt types s p .next) → plainStatement (statementOf (statementAt types s p)) ≡ true → Ready (take (2 * f .records) after)
@@ -208,6 +137,93 @@ module _ (types s : List ℕ) (p : Place) {f : StatementField} {before after : L
         few = rw (took-words took) (assigned types s p (on .1) is .short);
         plain = rw (took-words took) (plain-words (statementAt types s p) plain);
       }
+
+  -- an assignment that is made
+  pub made : plainStatement (statementOf (statementAt types s p)) ≡ true → (values : List ℕ) {v : Value}
+      → v ≡ evaluated types values (treeOf (take (2 * f .records) after))
+      → afterStatement types (statementOf (statementAt types s p)) (went values) ≡ goOn v (f .variable) values
+  made plain values is = rw (plain-assigned (statementAt types s p) plain, took .variable, is, took-words took)
+
+  pub in-range : WentOn (statementAt types s p .next) → plainStatement (statementOf (statementAt types s p)) ≡ true → f .variable < length types
+  in-range on plain = rw (took .variable) (assigned types s p (on .1) (plain-assigned (statementAt types s p) plain) .declared)
+
+-- ---- the loop
+
+state-plain : (q : Progress) (values : List ℕ) (plain : Bool) (a : After) → StateIs q values plain a → isRefused q ≡ false
+    → (plain ≡ true) × (a ≡ stateOf (hasGone q) values)
+state-plain Went values plain a h e = h
+state-plain Stopped values plain a h e = h
+state-plain NotPlain values plain a h e = absurd (false≢true (sym e))
+
+state-refused : (q : Progress) (values : List ℕ) (plain : Bool) (a : After) → StateIs q values plain a → isRefused q ≡ true → plain ≡ false
+state-refused Went values plain a h e = absurd (false≢true e)
+state-refused Stopped values plain a h e = absurd (false≢true e)
+state-refused NotPlain values plain a h e = h
+
+state-of : (b : Bool) (values : List ℕ) (plain : Bool) (a : After) → plain ≡ true → a ≡ stateOf b values → StateIs (progressOf b) values plain a
+state-of true values plain a p q = (p, q)
+state-of false values plain a p q = (p, q)
+
+module _ (types s : List ℕ) (p : Place) (n i : ℕ) (start : After) where
+  abbrev L : List Statement
+  L = statementsFrom types s p n .list
+
+  -- what holds after i statements: where the next one stands, and that what is left decides
+  pub record Passed (next : Place) (state : After) : Type 0 where
+    pub within : i ≤ n
+    pub place : next ≡ statementsFrom types s p i .next
+    pub plain : plainAll L ≡ plainAll (drop i L)
+    pub made : assignedAll types L start ≡ assignedAll types (drop i L) state
+
+pub none-passed : (types s : List ℕ) (p : Place) (n : ℕ) (start : After) → Passed types s p n 0 start p start
+none-passed types s p n start = record { within = omega arith; place = none-next types s p; plain = refl; made = refl }
+
+module _ (types s : List ℕ) (p : Place) (n i : ℕ) (start : After) {next : Place} {state : After} (h : Passed types s p n i start next state) where
+  -- past the last one
+  pub all-passed : n ≤ i → (going : Bool) (values : List ℕ) {r : Progress} → state ≡ stateOf going values → r ≡ progressOf going
+      → StateIs r values (plainAll (statementsFrom types s p n .list)) (assignedAll types (statementsFrom types s p n .list) start)
+  unfolding plainAll assignedAll
+  all-passed past going values is r-is =
+      let none : drop i (statementsFrom types s p n .list) ≡ [] = drop-of-length-le (statementsFrom types s p n .list) {i = i} (rw (statements-length types s p n) past) in
+      rw r-is (state-of going values (plainAll (statementsFrom types s p n .list)) (assignedAll types (statementsFrom types s p n .list) start) (h .plain ∙ rw none) (h .made ∙ rw none is))
+
+  module _ (below : i < n) where
+    -- the next one
+    here : drop i (statementsFrom types s p n .list) ≡ statementOf (statementAt types s next) ∷ drop (suc i) (statementsFrom types s p n .list)
+    here =
+        drop-cons (statementsFrom types s p n .list) i other (rw (statements-length types s p n) below)
+        ∙ ap (λ (x : Statement). x ∷ drop (suc i) (statementsFrom types s p n .list)) (rw (h .place) (statements-nth types s p n i other below))
+
+    module _ {r : Step} {values : List ℕ} (stepped : Stepped r values types state (statementAt types s next)) where
+      pub refused-here : isRefused (r .progress) ≡ true → plainAll (statementsFrom types s p n .list) ≡ false
+      unfolding plainAll
+      refused-here q = h .plain ∙ rw (here, state-refused (r .progress) values _ _ (stepped .state) q)
+
+      pub passed-more : {refused going : Bool} {place : Place} → refused ≡ isRefused (r .progress) → refused ≡ false → going ≡ hasGone (r .progress) → place ≡ r .next
+          → Passed types s p n (i + 1) start place (stateOf going values)
+      unfolding plainAll assignedAll statementsFrom
+      passed-more {going = going} out stays-plain go-is place-is =
+          let k = state-plain (r .progress) values (plainStatement (statementOf (statementAt types s next))) (afterStatement types (statementOf (statementAt types s next)) state) (stepped .state) (sym out ∙ stays-plain) in
+          record {
+            within = omega arith;
+            place = place-is ∙ stepped .next ∙ rw (add-one i, h .place);
+            plain = h .plain ∙ rw (here, k .0, add-one i);
+            made =
+                h .made
+                ∙ ap (λ (l : List Statement). assignedAll types l state) here
+                ∙ ap (assignedAll types (drop (suc i) (statementsFrom types s p n .list))) (k .1 ∙ ap (λ (b : Bool). stateOf b values) (sym go-is))
+                ∙ ap (λ (j : ℕ). assignedAll types (drop j (statementsFrom types s p n .list)) (stateOf going values)) (sym (add-one i));
+          }
+
+-- ---- conditions
+
+module _ (variables : ℕ) (s : List ℕ) (p : Place) {e : Expression} {before after : List ℕ}
+    (took : TookExpression (e .records) (e .next) before after (expressionAt variables s p)) (on : WentOn (expressionAt variables s p .next)) where
+  pub condition-tree : Wf (take (2 * e .records) after)
+  condition-tree = rw (took-front took) (one-tree variables s p (on .1) .tree)
+
+  pub condition-short : length (take (2 * e .records) after) ≤ 256
+  condition-short = rw (took-front took) (one-tree variables s p (on .1) .short)
 
 -- ---- copies
 

@@ -1,5 +1,5 @@
--- laws of the definitions, which other proofs cite
+pub mod Every
 pub mod Laws
 pub mod Runs
+pub mod Same
 pub mod Whole
-pub mod Every

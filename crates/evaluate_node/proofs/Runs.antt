@@ -2,15 +2,15 @@
 use Prim.Native.Nat.{ℕ, zero, suc, _+_, _-_, _≤_, _<_}
 use mathlib.Core.Path.{_≡_, refl, sym, ap, _∙_}
 use mathlib.Core.List.{List, [], _∷_, _++_}
-use mathlib.Core.Bool.{Bool, true, false, not, _&&_, _||_}
+use mathlib.Core.Bool.{Bool, true, false, cond, _&&_}
 use native.Mathlib.Omega.{arith}
-use lib.ListN.{length, getD, set, take, drop, replicate, length-set, length-append, length-drop, length-take, length-replicate}
+use lib.ListN.{length, set, take, drop, replicate, length-set, length-append, length-take, List·getD-append}
+use lib.Seq.{length-take-le, getD-take}
 use Rattle.sheet_field.specs.Field.{WentOn}
 use Rattle.sheet_field.specs.declared.Place.{Place}
 use Rattle.sheet_field.specs.declared.Place.the-variants.{At}
 use Rattle.expr.specs.Tree.{Expr, treeOf}
 use Rattle.expr.specs.Scan.{plainExpr}
-use Rattle.expr.proofs.Plainness.{plain-parts}
 use Rattle.expr.specs.Statement.{Statement}
 use Rattle.expr.specs.Statement.Statement.{assignment, other}
 use Rattle.sheet_expression.specs.Expression.{expressionAt}
@@ -26,14 +26,15 @@ use Rattle.value.specs.Run.{Choices, runFrom, run}
 use Rattle.value.proofs.Steps.{Plain, lent, assigns, stops, ends}
 use Rattle.evaluate_node.specs.declared.Evaluation.{Evaluation}
 use Rattle.evaluate_node.specs.declared.Evaluation.the-variants.{Refused}
-use Rattle.evaluate_node.specs.Evaluate.{plainStatement, plainAll, After, assignedAll, Ran, startValues, onValues, onTruth, Running}
-use Rattle.evaluate_node.specs.Evaluate.After.{went, stopped}
-use Rattle.evaluate_node.proofs.Laws.{both-left, both-right}
-
-pub is-plain : (e : Expr) → plainExpr e ≡ true → Plain e
-is-plain e h =
-    let p = plain-parts e h in
-    record { noLoad = p .1; noEffect = p .0 }
+use Rattle.evaluate_node.specs.Evaluate.{plainStatement, plainAll, unfitFrom, onValues, onFit, onTruth, evaluationOf}
+use Rattle.evaluate_node.specs.declared.Fit.{Fit}
+use Rattle.evaluate_node.specs.declared.Fit.the-variants.{AllFit, Unfit}
+use Rattle.evaluate_node.specs.Contracts.{After, stateOf, assignedAll, Started, Running}
+use Rattle.evaluate_node.specs.Contracts.After.{went, stopped}
+use Rattle.evaluate_node.proofs.Laws.{both-left, both-right, rests}
+use Rattle.evaluate_node.proofs.Same.{is-plain, Same, same-run}
+use Rattle.evaluate_node.proofs.Whole.{fit-enough}
+use Rattle.sheet_node.proofs.Variables.{Below, AllBelow, ReadsDeclared, reads-declared}
 
 -- every assignment's variable is below n
 Declared : ℕ → List Statement → Type 0
@@ -73,9 +74,15 @@ abbrev finish : List ℕ → Expr → After → Truth
 finish types condition (went values) = settled types values condition
 finish types condition (stopped values) = NoOutcome
 
+-- a run that stopped stays so
+pub stays : (types : List ℕ) (l : List Statement) (values : List ℕ) → assignedAll types l (stopped values) ≡ stopped values
+unfolding assignedAll
+stays types [] values = refl
+stays types (x ∷ l) values = ap (assignedAll types l) (rests types x values) ∙ stays types l values
+
 run-from : (types : List ℕ) (c : Choices) (condition : Expr) (i : ℕ) (l : List Statement) (values : List ℕ) → plainAll l ≡ true
     → Declared (length values) l → plainExpr condition ≡ true
-    → runFrom types c condition i l (lent values) ≡ finish types condition (assignedAll types l values)
+    → runFrom types c condition i l (lent values) ≡ finish types condition (assignedAll types l (went values))
 unfolding plainAll Declared assignedAll
 run-from types c condition i [] values p d q = ends types c condition i values (is-plain condition q)
 run-from types c condition i (other ∷ rest) values p d q = cc
@@ -84,40 +91,71 @@ run-from types c condition i (assignment v e ∷ rest) values p d q =
     (λ x. run-from types c condition (suc i) rest (set values v x) (both-right (plainExpr e) (plainAll rest) p) (rw length-set (d .1)) q)
   where
     go : (u : Value) → evaluated types values e ≡ u
-        → ((x : ℕ) → runFrom types c condition (suc i) rest (lent (set values v x)) ≡ finish types condition (assignedAll types rest (set values v x)))
-        → runFrom types c condition i (assignment v e ∷ rest) (lent values) ≡ finish types condition (assignedAll types (assignment v e ∷ rest) values)
+        → ((x : ℕ) → runFrom types c condition (suc i) rest (lent (set values v x)) ≡ finish types condition (assignedAll types rest (went (set values v x))))
+        → runFrom types c condition i (assignment v e ∷ rest) (lent values) ≡ finish types condition (assignedAll types (assignment v e ∷ rest) (went values))
     go (Of x) is rest-is =
         assigns types c condition i values v e rest (is-plain e (both-left (plainExpr e) (plainAll rest) p)) x (d .0) is ∙ rw is (rest-is x)
-    go NoValue is rest-is = stops types c condition i values v e rest (is-plain e (both-left (plainExpr e) (plainAll rest) p)) is ∙ rw is
+    go NoValue is rest-is =
+        stops types c condition i values v e rest (is-plain e (both-left (plainExpr e) (plainAll rest) p)) is ∙ rw (is, stays types rest values)
 
-module _ (s : List ℕ) (node : NodeField) (types values : List ℕ) (r : Running s node types values) where
+module _ (s : List ℕ) (node : NodeField) (place : ℕ) (types values words : List ℕ) (r : Running s node types words) where
   abbrev L : List Statement
   L = statementsFrom types s (node .body) (node .statements) .list
 
   abbrev C : Expr
-  C = treeOf (expressionAt (length types) s (node .condition) .words)
+  C = treeOf words
 
-  abbrev pub Run : Truth
-  Run = run types (nodeOf s node .statements) (nodeOf s node .condition) (onValues (length types) values)
+  evaluation-is : evaluationOf (nodeOf s node) place values
+      ≡ cond (plainAll L && plainExpr C) (onFit (unfitFrom 0 types values) (onTruth place (run types L C (onValues values)))) (Refused 15 place)
+  unfolding evaluationOf nodeOf
+  evaluation-is = rw (← r .typesAre, ← r .wordsAre)
 
-  start-long : length types ≤ length (startValues (length types) values)
-  start-long = rw (length-append, length-take) (omega (arith, r .enough))
+  reads : ReadsDeclared (nodeOf s node)
+  reads = rw (r .is) (reads-declared s (r .at) {a = r .on .0} (ap (λ (n : NodeField). n .next) (sym (r .is)) ∙ r .on .1))
 
-  same-node : run types L C (onValues (length types) values) ≡ Run
-  unfolding nodeOf
-  same-node = rw (← r .typesAre, r .counted)
+  pub node-refused : plainAll L ≡ false → Refused 15 place ≡ evaluationOf (nodeOf s node) place values
+  node-refused p = sym (evaluation-is ∙ rw p)
 
-  the-run : Run ≡ finish types C (assignedAll types L (startValues (length types) values))
-  the-run =
-      sym same-node
-      ∙ run-from types (onValues (length types) values) C 0 L (startValues (length types) values) (r .plain)
-      (declared-more (length types) _ L start-long (declared-all types s (node .body) (node .statements) (r .statements .1)))
-      (r .plainCondition)
+  module _ (p : plainAll L ≡ true) where
+    plain-is : evaluationOf (nodeOf s node) place values ≡ onFit (unfitFrom 0 types values) (onTruth place (run types L C (onValues values)))
+    plain-is = evaluation-is ∙ rw (p, r .ready .plain)
 
-  module _ (place : ℕ) {start after : List ℕ} (start-is : start ≡ startValues (length types) values) where
-    pub node-stopped : assignedAll types L start ≡ stopped after → Refused 14 place ≡ onTruth place Run
-    node-stopped out = rw (the-run, ← start-is, out)
+    -- the run from the lent values is the one from the room that holds them
+    the-run : {start : List ℕ} → start ≡ take (length types) values ++ drop (length types) (replicate 32 0) → length types ≤ length values
+        → run types L C (onValues values) ≡ finish types C (assignedAll types L (went start))
+    unfolding nodeOf
+    the-run {start} is enough =
+        let long : length types ≤ length start = rw (is, length-append, length-take) (omega arith) in
+        let all : AllBelow (length types) L = rw (r .typesAre) (reads .statements) in
+        let own : Below (length types) C = rw (r .typesAre, r .wordsAre) (reads .condition) in
+        same-run types (length types) (onValues values) (onValues values) C 0 L (lent values) (lent start) p (r .ready .plain) all own
+        (λ v below. sym (rw is (List·getD-append (take (length types) values) _ 0 v (rw (length-take-le (length types) values enough) below) ∙ getD-take (length types) values v 0 below)))
+        ∙ run-from types (onValues values) C 0 L start p
+        (declared-more (length types) _ L long (declared-all types s (node .body) (node .statements) (r .statements .1))) (r .ready .plain)
 
-    pub node-settled : {t : Truth} {e : Evaluation} → assignedAll types L start ≡ went after → t ≡ settled types after C
-        → e ≡ onTruth place t → e ≡ onTruth place Run
-    node-settled on t-is e-is = rw (the-run, ← start-is, on, ← t-is) e-is
+    module _ {fit : Fit} (fit-is : fit ≡ unfitFrom 0 types values) (fits : Bool) (start : List ℕ)
+        (started : Started fits fit (length types) values (replicate 32 0) start) {after : List ℕ} where
+      pub node-stopped : assignedAll types L (stateOf fits start) ≡ stopped after → {e : Evaluation} → e ≡ onFit fit (Refused 14 place)
+          → e ≡ evaluationOf (nodeOf s node) place values
+      node-stopped out e-is = e-is ∙ by fit refl started ∙ sym plain-is
+        where
+          by : (f : Fit) → fit ≡ f → Started fits f (length types) values (replicate 32 0) start
+              → onFit fit (Refused 14 place) ≡ onFit (unfitFrom 0 types values) (onTruth place (run types L C (onValues values)))
+          by (Unfit v) q h = rw (← fit-is, q)
+          by AllFit q h =
+              let all : unfitFrom 0 types values ≡ AllFit = sym fit-is ∙ q in
+              rw (← fit-is, q, the-run (h .1) (fit-enough 0 types values all), ← (ap (λ (b : Bool). stateOf b start) (h .0)), out)
+
+      pub node-went : assignedAll types L (stateOf fits start) ≡ went after → {t : Truth} {e : Evaluation} → t ≡ settled types after C
+          → e ≡ onTruth place t → e ≡ evaluationOf (nodeOf s node) place values
+      node-went on {t} t-is e-is = e-is ∙ by fit refl started ∙ sym plain-is
+        where
+          by : (f : Fit) → fit ≡ f → Started fits f (length types) values (replicate 32 0) start
+              → onTruth place t ≡ onFit (unfitFrom 0 types values) (onTruth place (run types L C (onValues values)))
+          by (Unfit v) q h =
+              let z : stopped start ≡ went after = sym (stays types L start) ∙ ap (λ (b : Bool). assignedAll types L (stateOf b start)) (sym h) ∙ on in
+              let n : _≡_ {A = ℕ} 0 1 = cc in
+              absurd (omega arith)
+          by AllFit q h =
+              let all : unfitFrom 0 types values ≡ AllFit = sym fit-is ∙ q in
+              rw (← fit-is, q, the-run (h .1) (fit-enough 0 types values all), ← (ap (λ (b : Bool). stateOf b start) (h .0)), on, t-is)

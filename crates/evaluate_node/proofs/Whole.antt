@@ -1,5 +1,5 @@
 -- A node that was read whole, and its evaluation from its parts.
-use Prim.Native.Nat.{ℕ, zero, suc, _+_, _-_, _≤_, _<_}
+use Prim.Native.Nat.{ℕ, zero, suc, _+_, _*_, _≤_}
 use mathlib.Core.Path.{_≡_, refl, sym, ap, _∙_}
 use mathlib.Core.List.{List, [], _∷_, _++_}
 use mathlib.Core.Bool.{Bool, true, false, cond, not, _&&_, _||_}
@@ -12,17 +12,19 @@ use Rattle.sheet_field.specs.Field.{startOf, WentOn}
 use Rattle.expr.specs.Tree.{Expr, treeOf}
 use Rattle.expr.specs.Scan.{plainExpr}
 use Rattle.arith.specs.Numbers.{fits}
-use Rattle.sheet_expression.specs.Expression.{expressionAt}
+use Rattle.sheet_expression.specs.declared.Expression.{Expression}
+use Rattle.sheet_expression.specs.Expression.{expressionAt, TookExpression}
 use Rattle.sheet_node.specs.declared.NodeField.{NodeField}
 use Rattle.sheet_node.specs.Node.{statementsFrom, nodeAt, nodeOf}
 use Rattle.sheet_node.proofs.Accepted.{WholeNode, whole-node}
-use Rattle.value.specs.Run.{run}
 use Rattle.evaluate_node.specs.declared.Fit.{Fit}
 use Rattle.evaluate_node.specs.declared.Fit.the-variants.{AllFit, Unfit}
 use Rattle.evaluate_node.specs.declared.Evaluation.{Evaluation}
 use Rattle.evaluate_node.specs.declared.Evaluation.the-variants.{Refused}
-use Rattle.evaluate_node.specs.Evaluate.{plainAll, unfitFrom, onValues, onFit, onTruth, Running, ReadNode, evaluationOf}
-use Rattle.evaluate_node.proofs.Laws.{both-left, both-right}
+use Rattle.evaluate_node.specs.Evaluate.{unfitFrom, evaluationOf}
+use Rattle.evaluate_node.specs.Contracts.{Running, ReadNode}
+use Rattle.evaluate_node.proofs.Laws.{condition-tree, condition-short}
+use Rattle.sheet_node.proofs.Statements.{took-front}
 
 not-both : {v : ℕ} → Unfit v ≡ AllFit → ⊥
 not-both e = let z : _≡_ {A = ℕ} 0 1 = cc in omega arith
@@ -58,75 +60,37 @@ parts-at s p e =
 pub parts : (s : List ℕ) (node : NodeField) → ReadNode s node → Parts s node
 parts s node read = rw (read .is) (parts-at s (read .at) {a = read .on .0} (ap (λ (n : NodeField). n .next) (sym (read .is)) ∙ read .on .1))
 
-module _ (s : List ℕ) (node : NodeField) (read : ReadNode s node) (place : ℕ) (values : List ℕ) {p q : Bool}
-    (p-is : p ≡ plainAll (statementsFrom (typesFor s node) s (node .body) (node .statements) .list))
-    (q-is : q ≡ plainExpr (treeOf (expressionAt (node .variables) s (node .condition) .words))) where
-  pub not-plain : (p && q) ≡ false → Refused 15 place ≡ evaluationOf (nodeOf s node) place values
-  unfolding evaluationOf nodeOf
-  not-plain out = rw (← p-is, ← q-is, out)
+and-false : (b : Bool) → (b && false) ≡ false
+and-false true = refl
+and-false false = refl
 
-  module _ {fit : Fit} (plain : (p && q) ≡ true) (fit-is : fit ≡ unfitFrom 0 (typesFor s node) values) where
-    pub not-fit : {v : ℕ} → fit ≡ Unfit v → Refused 16 v ≡ evaluationOf (nodeOf s node) place values
-    unfolding evaluationOf nodeOf
-    not-fit is = rw (← p-is, ← q-is, plain, ← fit-is, is)
-
-    pub running : fit ≡ AllFit → Running s node (typesFor s node) values
-    running is =
-        let w = parts s node read in
-        record {
-          typesAre = refl;
-          few = w .few;
-          counted = w .counted;
-          statements = w .statements;
-          condition = w .condition;
-          plain = sym p-is ∙ both-left p q plain;
-          plainCondition = rw (← w .counted) (sym q-is ∙ both-right p q plain);
-          enough = fit-enough 0 (typesFor s node) values (sym fit-is ∙ is);
-        }
-
-    pub evaluated-node : {r : Evaluation} → fit ≡ AllFit
-        → r ≡ onTruth place (run (typesFor s node) (nodeOf s node .statements) (nodeOf s node .condition) (onValues (length (typesFor s node)) values))
-        → r ≡ evaluationOf (nodeOf s node) place values
-    unfolding evaluationOf nodeOf
-    evaluated-node is r-is = rw (← p-is, ← q-is, plain, ← fit-is, is) r-is
-
--- the same, for a list of types that is known to be the node's
-module _ (s : List ℕ) (node : NodeField) (read : ReadNode s node) {ts : List ℕ} {at : ℕ} (at-is : at ≡ startOf (node .types))
-    (ts-are : ts ≡ take (node .variables) (drop at s)) where
-  pub these : ts ≡ typesFor s node
-  these = rw (ts-are, at-is)
-
-  pub these-few : length ts ≤ 32
-  these-few = rw these (parts s node read .few)
-
-  pub these-statements : WentOn (statementsFrom ts s (node .body) (node .statements) .next)
-  these-statements = rw these (parts s node read .statements)
-
+-- for a list of types that is known to be the node's, and the condition's words
+module _ (s : List ℕ) (node : NodeField) (read : ReadNode s node) where
   pub few-variables : node .variables ≤ 32
   few-variables = rw (parts s node read .counted) (parts s node read .few)
 
   pub this-condition : WentOn (expressionAt (node .variables) s (node .condition) .next)
   this-condition = rw (parts s node read .counted) (parts s node read .condition)
 
-  module _ (place : ℕ) (values : List ℕ) {p q : Bool} (p-is : p ≡ plainAll (statementsFrom ts s (node .body) (node .statements) .list))
-      (q-is : q ≡ plainExpr (treeOf (expressionAt (node .variables) s (node .condition) .words))) where
-    p-here : p ≡ plainAll (statementsFrom (typesFor s node) s (node .body) (node .statements) .list)
-    p-here = rw (← these) p-is
+  module _ {e : Expression} {before after : List ℕ} (took : TookExpression (e .records) (e .next) before after (expressionAt (node .variables) s (node .condition)))
+      {b : Bool} (b-is : b ≡ plainExpr (treeOf (take (2 * e .records) after))) where
+    pub condition-refused : b ≡ false → (place : ℕ) (values : List ℕ) → Refused 15 place ≡ evaluationOf (nodeOf s node) place values
+    unfolding evaluationOf nodeOf
+    condition-refused fails place values =
+        let out : plainExpr (treeOf (expressionAt (node .variables) s (node .condition) .words)) ≡ false = rw (← took-front took) (sym b-is ∙ fails) in
+        sym (rw (out, and-false))
 
-    pub refuses-15 : (p && q) ≡ false → Refused 15 place ≡ evaluationOf (nodeOf s node) place values
-    refuses-15 out = not-plain s node read place values p-here q-is out
-
-    module _ {fit : Fit} (plain : (p && q) ≡ true) (fit-is : fit ≡ unfitFrom 0 ts values) where
-      fit-here : fit ≡ unfitFrom 0 (typesFor s node) values
-      fit-here = rw (← these) fit-is
-
-      pub refuses-16 : {v : ℕ} → fit ≡ Unfit v → Refused 16 v ≡ evaluationOf (nodeOf s node) place values
-      refuses-16 is = not-fit s node read place values p-here q-is plain fit-here is
-
-      pub runs-here : fit ≡ AllFit → Running s node ts values
-      runs-here is = rw these (running s node read place values p-here q-is plain fit-here is)
-
-      pub evaluates : {r : Evaluation} → fit ≡ AllFit
-          → r ≡ onTruth place (run ts (nodeOf s node .statements) (nodeOf s node .condition) (onValues (length ts) values))
-          → r ≡ evaluationOf (nodeOf s node) place values
-      evaluates is r-is = evaluated-node s node read place values p-here q-is plain fit-here is (rw (← these) r-is)
+    pub running : b ≡ true → {ts : List ℕ} {at : ℕ} → at ≡ startOf (node .types) → ts ≡ take (node .variables) (drop at s)
+        → Running s node ts (take (2 * e .records) after)
+    running holds {ts} at-is ts-are =
+        let these : ts ≡ typesFor s node = rw (ts-are, at-is) in
+        record {
+          at = read .at;
+          is = read .is;
+          on = read .on;
+          typesAre = these;
+          wordsAre = took-front took;
+          ready = record { wf = condition-tree (node .variables) s (node .condition) took this-condition; few = condition-short (node .variables) s (node .condition) took this-condition; plain = sym b-is ∙ holds };
+          few = rw these (parts s node read .few);
+          statements = rw these (parts s node read .statements);
+        }

@@ -4,19 +4,13 @@ use sheet_node::NodeField;
 use value::Truth;
 use value::Value;
 ghost use mathlib.Core.Path.{_≡_};
-ghost use mathlib.Core.Bool.{true};
-ghost use Prim.Native.Nat.{ℕ, _≤_, _<_};
+ghost use Prim.Native.Nat.{_≤_};
 ghost use mathlib.Core.List.{_++_};
 ghost use lib.ListN.{length, take, drop};
 ghost use Rattle.sheet_field.specs.Field.{WentOn};
-ghost use Rattle.sheet_field.specs.declared.Place.the-variants.{At};
-ghost use Rattle.sheet_node.specs.Node.{statementAt, statementOf, statementsFrom, nodeOf};
-ghost use Rattle.expr.specs.Tree.{treeOf};
-ghost use Rattle.expr.specs.Scan.{plainExpr};
-ghost use Rattle.evaluate_node.specs.Evaluate.{plainStatement, plainAll, unfitFrom, assignedAll, Ran, Valued, onValues, onTruth, Running, ReadNode, evaluationOf};
-ghost use Rattle.sheet_expression.specs.Expression.{expressionAt};
-ghost use Rattle.value.specs.Evaluation.{evaluated, settled};
-ghost use Rattle.value.specs.Run.{run};
+ghost use Rattle.sheet_node.specs.Node.{statementAt, statementsFrom, nodeOf};
+ghost use Rattle.evaluate_node.specs.Evaluate.{plainAll, unfitFrom, onFit, onTruth, evaluationOf};
+ghost use Rattle.evaluate_node.specs.Contracts.{stateOf, assignedAll, StateIs, Stepped, isRefused, hasGone, progressOf, Started, Running, ReadNode};
 
 // A node's evaluation: whether its condition holds, or a refusal, its number and its place.
 pub enum Evaluation {
@@ -31,9 +25,16 @@ pub enum Fit {
     Unfit(usize),
 }
 
-// A statement: whether it is an assignment of a value without effect and load, and the place after it.
-pub struct PlainField {
-    pub plain: bool,
+// How far statements went: all were made, or none more after a division by zero, or one is not an assignment of a plain value.
+pub enum Progress {
+    Went,
+    Stopped,
+    NotPlain,
+}
+
+// The progress after a statement, and the place after it.
+pub struct Step {
+    pub progress: Progress,
     pub next: Place,
 }
 
@@ -60,122 +61,120 @@ pub fn first_unfit(types: &[u8], values: &[u64]) -> Fit
     Fit::AllFit
 }
 
-// The statement at a place, which was read whole.
-fn plain_statement(s: &[u8], p: Place, types: &[u8]) -> PlainField
-    requires { ⌜ length (now types) ≤ 32 ⌝ }
+// The statement at a place, which was read whole: checked, and made in the values where the run goes on.
+fn run_statement(
+    s: &[u8],
+    p: Place,
+    types: &[u8],
+    going: bool,
+    values: &mut [u64],
+    words: &mut [u64],
+) -> Step
+    requires { ⌜ (length (now types) ≤ 32) × (length (now types) ≤ length (now values)) × (256 ≤ length (now words)) ⌝ }
     requires { ⌜ WentOn (statementAt (now types) (now s) p .next) ⌝ }
-    ensures { λ r. ⌜ (r .plain ≡ plainStatement (statementOf (statementAt (now (types .entry)) (now (s .entry)) p))) × (r .next ≡ statementAt (now (types .entry)) (now (s .entry)) p .next) ⌝ }
+    ensures { λ r. ⌜ Stepped r (now (values .exit)) (now (types .entry)) (stateOf going (now (values .entry))) (statementAt (now (types .entry)) (now (s .entry)) p) ⌝ }
 {
-    let mut words = [0u64; 256];
-    let r = sheet_node::take_statement(s, p, types, &mut words);
+    let r = sheet_node::take_statement(s, p, types, words);
     let next = r.next;
     if !r.assigned {
-        return PlainField { plain: false, next };
+        return Step {
+            progress: Progress::NotPlain,
+            next,
+        };
     }
     let n = 2 * (r.records as usize);
-    PlainField {
-        plain: expr::is_plain(&words[..n]),
-        next,
+    if !expr::is_plain(&words[..n]) {
+        return Step {
+            progress: Progress::NotPlain,
+            next,
+        };
     }
-}
-
-// Whether the n statements from a place on are all assignments of values without effect and load.
-pub fn plain_statements(s: &[u8], p: Place, types: &[u8], n: u64) -> bool
-    requires { ⌜ length (now types) ≤ 32 ⌝ }
-    requires { ⌜ WentOn (statementsFrom (now types) (now s) p n .next) ⌝ }
-    ensures { λ r. ⌜ r ≡ plainAll (statementsFrom (now (types .entry)) (now (s .entry)) p n .list) ⌝ }
-{
-    let mut plain = true;
-    let mut next = p;
-    let mut i: u64 = 0;
-    while i < n {
-        let r = plain_statement(s, next, types);
-        plain = plain & r.plain;
-        next = r.next;
-        i += 1;
+    if !going {
+        return Step {
+            progress: Progress::Stopped,
+            next,
+        };
     }
-    plain
-}
-
-// What an assignment gives: its value, its variable, and the place after it.
-pub struct ValueField {
-    pub value: Value,
-    pub variable: u64,
-    pub next: Place,
-}
-
-// The value of the assignment at a place, which was read whole.
-fn statement_value(s: &[u8], p: Place, types: &[u8], values: &[u64]) -> ValueField
-    requires { ⌜ length (now types) ≤ 32 ⌝ }
-    requires { ⌜ WentOn (statementAt (now types) (now s) p .next) ⌝ }
-    requires { ⌜ plainStatement (statementOf (statementAt (now types) (now s) p)) ≡ true ⌝ }
-    ensures { λ r. ⌜ Valued r (now (types .entry)) (now (values .entry)) (statementAt (now (types .entry)) (now (s .entry)) p) ⌝ }
-{
-    let mut words = [0u64; 256];
-    let r = sheet_node::take_statement(s, p, types, &mut words);
-    let next = r.next;
-    let n = 2 * (r.records as usize);
     let x = value::integer(&words[..n], types, values);
     let v = x.value;
-    ValueField {
-        value: v,
-        variable: r.variable,
-        next,
+    match v {
+        Value::NoValue => Step {
+            progress: Progress::Stopped,
+            next,
+        },
+        Value::Of(k) => {
+            let at = r.variable as usize;
+            values[at] = k;
+            Step {
+                progress: Progress::Went,
+                next,
+            }
+        }
     }
 }
 
-// The n assignments from a place on, made in the lent values; false where one of them divides by zero.
-pub fn run_statements(s: &[u8], p: Place, types: &[u8], n: u64, values: &mut [u64]) -> bool
-    requires { ⌜ (length (now types) ≤ 32) × (length (now types) ≤ length (now values)) ⌝ }
-    requires { ⌜ WentOn (statementsFrom (now types) (now s) p n .next) ⌝ }
-    requires { ⌜ plainAll (statementsFrom (now types) (now s) p n .list) ≡ true ⌝ }
-    ensures { λ r. ⌜ Ran r (now (values .exit)) (assignedAll (now (types .entry)) (statementsFrom (now (types .entry)) (now (s .entry)) p n .list) (now (values .entry))) ⌝ }
+fn is_refused(p: Progress) -> bool
+    ensures { λ r. ⌜ r ≡ isRefused p ⌝ }
 {
+    match p {
+        Progress::NotPlain => true,
+        Progress::Went => false,
+        Progress::Stopped => false,
+    }
+}
+
+fn has_gone(p: Progress) -> bool
+    ensures { λ r. ⌜ r ≡ hasGone p ⌝ }
+{
+    match p {
+        Progress::Went => true,
+        Progress::Stopped => false,
+        Progress::NotPlain => false,
+    }
+}
+
+fn reached(going: bool) -> Progress
+    ensures { λ r. ⌜ r ≡ progressOf going ⌝ }
+{
+    if going {
+        Progress::Went
+    } else {
+        Progress::Stopped
+    }
+}
+
+// The n statements from a place on, which were read whole: each is checked, and made in the values while the run goes on.
+fn run_statements(
+    s: &[u8],
+    p: Place,
+    types: &[u8],
+    n: u64,
+    runs: bool,
+    values: &mut [u64],
+    words: &mut [u64],
+) -> Progress
+    requires { ⌜ (length (now types) ≤ 32) × (length (now types) ≤ length (now values)) × (256 ≤ length (now words)) ⌝ }
+    requires { ⌜ WentOn (statementsFrom (now types) (now s) p n .next) ⌝ }
+    ensures { λ r. ⌜ StateIs r (now (values .exit)) (plainAll (statementsFrom (now (types .entry)) (now (s .entry)) p n .list)) (assignedAll (now (types .entry)) (statementsFrom (now (types .entry)) (now (s .entry)) p n .list) (stateOf runs (now (values .entry)))) ⌝ }
+{
+    let mut going = runs;
     let mut next = p;
     let mut i: u64 = 0;
     while i < n {
-        let r = statement_value(s, next, types, values);
-        let v = r.value;
-        match v {
-            Value::NoValue => return false,
-            Value::Of(x) => {
-                let at = r.variable as usize;
-                values[at] = x;
-            }
+        let r = run_statement(s, next, types, going, values, words);
+        let state = r.progress;
+        if is_refused(state) {
+            return Progress::NotPlain;
         }
+        going = has_gone(state);
         next = r.next;
         i += 1;
     }
-    true
-}
-
-// Whether the condition at a place, which was read whole, has neither effect nor load.
-pub fn plain_condition(s: &[u8], p: Place, variables: u64) -> bool
-    requires { ⌜ variables ≤ 32 ⌝ }
-    requires { ⌜ WentOn (expressionAt variables (now s) p .next) ⌝ }
-    ensures { λ r. ⌜ r ≡ plainExpr (treeOf (expressionAt variables (now (s .entry)) p .words)) ⌝ }
-{
-    let mut words = [0u64; 256];
-    let r = sheet_expression::take_expression(s, p, variables, &mut words);
-    let n = 2 * (r.records as usize);
-    expr::is_plain(&words[..n])
-}
-
-// The condition at a place, which was read whole, on the values.
-pub fn condition_value(s: &[u8], p: Place, types: &[u8], values: &[u64]) -> Truth
-    requires { ⌜ length (now types) ≤ 32 ⌝ }
-    requires { ⌜ WentOn (expressionAt (length (now types)) (now s) p .next) ⌝ }
-    requires { ⌜ plainExpr (treeOf (expressionAt (length (now types)) (now s) p .words)) ≡ true ⌝ }
-    ensures { λ r. ⌜ r ≡ settled (now (types .entry)) (now (values .entry)) (treeOf (expressionAt (length (now (types .entry))) (now (s .entry)) p .words)) ⌝ }
-{
-    let mut words = [0u64; 256];
-    let r = sheet_expression::take_expression(s, p, types.len() as u64, &mut words);
-    let n = 2 * (r.records as usize);
-    value::condition(&words[..n], types, values)
+    reached(going)
 }
 
 // The first n of the values, at the front of 32 places.
-pub fn copy_values(values: &[u64], n: usize, room: &mut [u64])
+fn copy_values(values: &[u64], n: usize, room: &mut [u64])
     requires { ⌜ (n ≤ length (now values)) × (n ≤ length (now room)) ⌝ }
     ensures { λ _. ⌜ now (room .exit) ≡ take n (now (values .entry)) ++ drop n (now (room .entry)) ⌝ }
 {
@@ -196,22 +195,57 @@ fn outcome(t: Truth, place: usize) -> Evaluation
     }
 }
 
-// The run of a plain node on values that fit.
-fn run_node(s: &[u8], node: NodeField, types: &[u8], values: &[u64], place: usize) -> Evaluation
-    requires { ⌜ Running (now s) node (now types) (now values) ⌝ }
-    ensures { λ r. ⌜ r ≡ onTruth place (run (now (types .entry)) (nodeOf (now (s .entry)) node .statements) (nodeOf (now (s .entry)) node .condition) (onValues (length (now (types .entry))) (now (values .entry)))) ⌝ }
+// The values that a run starts from, where they fit; whether they do.
+fn start(fit: Fit, values: &[u64], n: usize, room: &mut [u64]) -> bool
+    requires { ⌜ (fit ≡ Fit.AllFit → n ≤ length (now values)) ⌝ }
+    requires { ⌜ n ≤ length (now room) ⌝ }
+    ensures { λ r. ⌜ Started r fit n (now (values .entry)) (now (room .entry)) (now (room .exit)) ⌝ }
 {
-    let mut room = [0u64; 32];
-    copy_values(values, types.len(), &mut room);
-    let body = node.body;
-    if !run_statements(s, body, types, node.statements, &mut room) {
-        return Evaluation::Refused(14, place);
+    match fit {
+        Fit::AllFit => {
+            copy_values(values, n, room);
+            true
+        }
+        Fit::Unfit(_) => false,
     }
-    let condition = node.condition;
-    outcome(condition_value(s, condition, types, &room), place)
 }
 
-// The node, read whole, that stands at a place.
+// What stops a run: a value that does not fit, or a division by zero.
+fn stopped(fit: Fit, place: usize) -> Evaluation
+    ensures { λ r. ⌜ r ≡ onFit fit (Evaluation.Refused 14 place) ⌝ }
+{
+    match fit {
+        Fit::Unfit(v) => Evaluation::Refused(16, v),
+        Fit::AllFit => Evaluation::Refused(14, place),
+    }
+}
+
+// The node, whose condition's words are plain.
+fn run_node(
+    s: &[u8],
+    node: NodeField,
+    place: usize,
+    types: &[u8],
+    values: &[u64],
+    condition: &[u64],
+) -> Evaluation
+    requires { ⌜ Running (now s) node (now types) (now condition) ⌝ }
+    ensures { λ r. ⌜ r ≡ evaluationOf (nodeOf (now (s .entry)) node) place (now (values .entry)) ⌝ }
+{
+    let fit = first_unfit(types, values);
+    let mut room = [0u64; 32];
+    let fits = start(fit, values, types.len(), &mut room);
+    let mut words = [0u64; 256];
+    let body = node.body;
+    let end = run_statements(s, body, types, node.statements, fits, &mut room, &mut words);
+    match end {
+        Progress::NotPlain => Evaluation::Refused(15, place),
+        Progress::Stopped => stopped(fit, place),
+        Progress::Went => outcome(value::condition(condition, types, &room), place),
+    }
+}
+
+// The node, read whole, that stands at a place. Its bytes are gone over once.
 pub fn evaluate_node(s: &[u8], node: NodeField, place: usize, values: &[u64]) -> Evaluation
     requires { ⌜ ReadNode (now s) node ⌝ }
     ensures { λ r. ⌜ r ≡ evaluationOf (nodeOf (now (s .entry)) node) place (now (values .entry)) ⌝ }
@@ -220,15 +254,12 @@ pub fn evaluate_node(s: &[u8], node: NodeField, place: usize, values: &[u64]) ->
     let at = sheet_field::start(types_at);
     let n = node.variables as usize;
     let types = sheet_node::types_of(s, Place::At(0), at, n);
-    let body = node.body;
+    let mut words = [0u64; 256];
     let condition = node.condition;
-    let plain = plain_statements(s, body, types, node.statements);
-    if !(plain & plain_condition(s, condition, node.variables)) {
+    let e = sheet_expression::take_expression(s, condition, node.variables, &mut words);
+    let m = 2 * (e.records as usize);
+    if !expr::is_plain(&words[..m]) {
         return Evaluation::Refused(15, place);
     }
-    let fit = first_unfit(types, values);
-    match fit {
-        Fit::Unfit(v) => Evaluation::Refused(16, v),
-        Fit::AllFit => run_node(s, node, types, values, place),
-    }
+    run_node(s, node, place, types, values, &words[..m])
 }

@@ -1,7 +1,7 @@
 -- The tables of numbers in expressions, each name once: kinds of records, types, operators.
 use Prim.Native.Nat.{ℕ}
 
--- 'Expression', kinds of records (S37 to S44)
+-- Kinds of records (S37, S38, S39, S40, S41, S42, S43, S44).
 abbrev pub kindVariable : ℕ
 kindVariable = 0
 
@@ -33,7 +33,7 @@ kindTernary = 8
 abbrev pub kindCount : ℕ
 kindCount = 9
 
--- 'Expression', types (S45)
+-- Types (S45).
 abbrev pub signed8 : ℕ
 signed8 = 0
 
@@ -72,7 +72,7 @@ typeCount = 10
 abbrev pub noType : ℕ
 noType = 10
 
--- 'Expression', operators, in `BinaryOp` order (S43)
+-- Operators, in `BinaryOp` order (S43).
 abbrev pub opAdd : ℕ
 opAdd = 0
 

@@ -55,7 +55,7 @@ isVariable v (cast t a) = false
 isVariable v (binary o a b) = false
 isVariable v (ternary c a b) = false
 
--- 'Expression', kind 4: an effect stands in the tree.
+-- An effect stands in the tree (S40).
 abbrev pub hasEffect : Expr → Bool
 hasEffect e = anyNode isEffect e
 
@@ -67,7 +67,7 @@ ownValue e = isEffect e
 abbrev pub hasOwnValue : Expr → Bool
 hasOwnValue e = anyNode ownValue e
 
--- 'Expression', kind 5: a load stands in the tree.
+-- A load stands in the tree (S41).
 abbrev pub hasLoad : Expr → Bool
 hasLoad e = anyNode isLoad e
 
@@ -75,7 +75,7 @@ hasLoad e = anyNode isLoad e
 abbrev pub plainExpr : Expr → Bool
 plainExpr e = not (hasOwnValue e || hasLoad e)
 
--- 'Expression', kind 0: the variable of number v stands in the tree, under a load too.
+-- The variable of number v stands in the tree, under a load too (S37).
 abbrev pub reads : ℕ → Expr → Bool
 reads v e = anyNode (isVariable v) e
 
@@ -100,6 +100,6 @@ sameWords [] (y ∷ ys) = false
 sameWords (x ∷ xs) [] = false
 sameWords (x ∷ xs) (y ∷ ys) = eqb x y && sameWords xs ys
 
--- 'Node verdicts', equal sides: two trees are the same where their records are, argument, width, type and value.
+-- Two trees are the same where their records are, argument, width, type and value.
 unfoldable pub sameTree : Expr → Expr → Bool
 sameTree d e = sameWords (flat d) (flat e)

@@ -2,7 +2,7 @@
 use Prim.Native.Nat.{ℕ}
 use Rattle.expr.specs.Tree.{Expr}
 
--- 'Node', statements: an assignment to a variable, or anything else (a 0-statement).
+-- A statement: an assignment to a variable, or anything else, a 0-statement (S31, S32).
 pub data Statement : Type 0 where
   assignment : (variable : ℕ) (value : Expr) → Statement
   other : Statement

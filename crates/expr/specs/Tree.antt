@@ -6,7 +6,7 @@ use Prim.Native.Nat.{ℕ, _+_, _*_, _/_, _%_, _-_, _≤_}
 use lib.ListN.{length, getD, drop}
 use Rattle.expr.specs.Codes.{kindVariable, kindConstant, kindTrue, kindFalse, kindEffect, kindLoad, kindCast, kindBinary, kindTernary}
 
--- 'Expression': the nine kinds of record, each with its argument and the trees below it.
+-- The kinds of record, each with its argument and the trees below it (S37, S38, S39, S40, S41, S42, S43, S44).
 pub data Expr : Type 0 where
   variable : (number : ℕ) → Expr
   constant : (width value : ℕ) → Expr
@@ -16,7 +16,7 @@ pub data Expr : Type 0 where
   binary : (operator : ℕ) → Expr → Expr → Expr
   ternary : (condition then otherwise : Expr) → Expr
 
--- 'Expression', the numbers of the kinds: the tag word of a tree's root.
+-- The tag word of a tree's root: the number of its kind, and its argument.
 unfoldable pub tagOf : Expr → ℕ
 tagOf (variable n) = kindVariable + 16 * n
 tagOf (constant w x) = kindConstant + 16 * w
@@ -28,7 +28,7 @@ tagOf (cast t a) = kindCast + 16 * t
 tagOf (binary o a b) = kindBinary + 16 * o
 tagOf (ternary c a b) = kindTernary
 
--- 'Expression', kind 1: the value word of a tree's root. Only a constant has a value.
+-- The value word of a tree's root. Only a constant has a value (S38).
 unfoldable pub valueOf : Expr → ℕ
 valueOf (variable n) = 0
 valueOf (constant w x) = x
@@ -44,7 +44,7 @@ valueOf (ternary c a b) = 0
 abbrev pub own : Expr → List ℕ
 own e = tagOf e ∷ valueOf e ∷ []
 
--- 'Expression', postfix order: a tree's words are its children's, first child first, and then its root's.
+-- A tree's words are its children's, first child first, and then its root's (S36).
 unfoldable pub flat : Expr → List ℕ
 flat (variable n) = own (variable n)
 flat (constant w x) = own (constant w x)
@@ -63,7 +63,8 @@ kindOf tag = tag % 16
 abbrev pub argumentOf : ℕ → ℕ
 argumentOf tag = tag / 16
 
--- 'Expression': how many children a record takes, by the kind in its tag word.
+-- How many children a record takes, by the kind in its tag word (S41, S42, S43, S44). A kind outside the table takes none; every record of a
+-- tree is in it: `proofs/Stack.antt fed-tree`.
 unfoldable pub arityOf : ℕ → ℕ
 arityOf tag = getD (0 ∷ 0 ∷ 0 ∷ 0 ∷ 0 ∷ 1 ∷ 1 ∷ 2 ∷ 3 ∷ []) (kindOf tag) 0
 
@@ -85,7 +86,8 @@ nodes n x st =
     ∷ ternary (child st 2) (child st 1) (child st 0)
     ∷ []
 
--- 'Expression': the tree that a record makes. A kind above 8 makes conditionTrue.
+-- The tree that a record makes. For a kind outside the table, and for a child that is lacking, conditionTrue stands in; records of a tree
+-- never meet it: `proofs/Stack.antt fed-tree`.
 unfoldable pub node : ℕ → ℕ → List Expr → Expr
 node tag value st = getD (nodes (argumentOf tag) value st) (kindOf tag) conditionTrue
 
@@ -93,7 +95,7 @@ node tag value st = getD (nodes (argumentOf tag) value st) (kindOf tag) conditio
 unfoldable pub push : ℕ → ℕ → List Expr → List Expr
 push tag value st = node tag value st ∷ drop (arityOf tag) st
 
--- 'Expression': reading records in order, on a stack of the trees that are complete so far. A last word without a partner is passed over.
+-- Reading records in order, on a stack of the trees that are complete so far. A last word without a partner is passed over.
 unfoldable pub parse : List Expr → List ℕ → List Expr
 parse st [] = st
 parse st (tag ∷ []) = st
@@ -103,7 +105,7 @@ parse st (tag ∷ value ∷ ws) = parse (push tag value st) ws
 unfoldable pub treeOf : List ℕ → Expr
 treeOf ws = child (parse [] ws) 0
 
--- 'Expression': the words are exactly one tree, every word of it used.
+-- The words are exactly one tree, every word of it used (S36).
 unfoldable pub Wf : List ℕ → Type 0
 Wf ws = flat (treeOf ws) ≡ ws
 
@@ -124,7 +126,7 @@ treeCount ws = length (parse [] ws)
 abbrev pub lastStart : List ℕ → ℕ
 lastStart ws = length ws - length (flat (treeOf ws))
 
--- 'Expression': two words that can be a record of a tree. The kind is one of the nine, true, false and ternary have no argument, and only
+-- Two words that can be a record of a tree. The kind is one of the nine, true, false and ternary have no argument, and only
 -- constants have a value.
 pub record Formed (tag value : ℕ) : Type 0 where
   pub kind : kindOf tag ≤ kindTernary

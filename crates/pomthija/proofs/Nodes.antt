@@ -16,7 +16,8 @@ use Rattle.sheet.specs.declared.Reading.the-variants as reading
 use Rattle.sheet.specs.Sheet.{nodesFrom, sheetAt, readingOf}
 use Rattle.sheet.proofs.Accepted.{accepted, nodes-back, nodes-next, nodes-nth, node-places-nth}
 use Rattle.evaluate_node.specs.declared.Evaluation.{Evaluation}
-use Rattle.evaluate_node.specs.Evaluate.{ReadNode, evaluationOf}
+use Rattle.evaluate_node.specs.Evaluate.{evaluationOf}
+use Rattle.evaluate_node.specs.Contracts.{ReadNode}
 use Rattle.pomthija.specs.Evaluation.{Evaluated, inNumbers, noNode, evaluatedNode, nodeOn, evaluationAnswer}
 use Rattle.pomthija.specs.Evaluation.Evaluated.{refused}
 

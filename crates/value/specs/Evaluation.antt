@@ -1,4 +1,4 @@
--- 'Values': what an expression means. Evaluation is a total function of all that is free, into an optional value of the expression's static type.
+-- What an expression means. Evaluation is a total function of all that is free, into an optional value of the expression's static type.
 use mathlib.Core.List.{List, [], _∷_}
 use Prim.Native.Nat.{ℕ}
 use lib.ListN.{getD}
@@ -24,7 +24,7 @@ ByPath A = List ℕ → A
 abbrev pub under : {A : Type 0} → ℕ → ByPath A → ByPath A
 under k f path = f (k ∷ path)
 
--- 'Values', effects: each occurrence has its own value.
+-- What each effect of a tree yields: every occurrence has a value of its own, and nothing but memory changes by it (V17, V18).
 abbrev pub Effects : Type 0
 Effects = ByPath ℕ
 
@@ -32,20 +32,20 @@ Effects = ByPath ℕ
 abbrev pub Contents : Type 0
 Contents = ℕ → ℕ → ℕ
 
--- 'Values', loads: what each load of a tree finds. Nothing makes two loads agree.
+-- What each load of a tree finds. Nothing makes two loads agree: an effect between them may have changed memory (V18).
 abbrev pub Memory : Type 0
 Memory = ByPath Contents
 
--- 'Values', loads: two loads of one address in one condition agree: all of its loads find the same contents.
+-- In a condition all loads find the same contents, so that two of one type and address agree (V16).
 abbrev pub shared : Contents → Memory
 shared m path = m
 
--- 'Values', a load of type t: what memory has at the address, a value of type s taken as a pointer
+-- a load of type t: what memory has at the address, a value of type s taken as a pointer
 abbrev pub loaded : ℕ → ℕ → Contents → Value → Value
 loaded t s m (Of x) = chosen t (m t (convert s pointer x))
 loaded t s m NoValue = NoValue
 
--- 'Values': the value of an expression over variables of these types. ρ gives the variables' values outside loads, σ from a load inwards, m what
+-- The value of an expression over variables of these types (V1, V5). ρ gives the variables' values outside loads, σ from a load inwards, m what
 -- its loads find in memory, f the effects' values.
 unfoldable pub ev : List ℕ → Values → Values → Memory → Effects → Expr → Value
 ev types ρ σ m f (variable n) = chosen (getD types n signed8) (ρ n)

@@ -1,4 +1,4 @@
--- 'Values': the operators on optional values. A value is the bit pattern of its type; a division by zero leaves none. What is lazy and what has
+-- The operators on optional values. A value is the bit pattern of its type; a division by zero leaves none. What is lazy and what has
 -- no value is said here, and nowhere else.
 use mathlib.Core.Bool.{Bool, cond, not, _||_}
 use mathlib.Core.List.{List, [], _∷_, _++_, map}
@@ -23,27 +23,27 @@ Typed t NoValue = Unit {0}
 abbrev pub chosen : ℕ → ℕ → Value
 chosen t x = Of (x % 2 ^ bits t)
 
--- 'Values': a condition may stand as an integer: 1 where it holds, 0 where it fails.
+-- A condition in the place of an integer: 1 where it holds, 0 where it fails (V12).
 abbrev pub integerOf : Truth → Value
 integerOf Holds = Of 1
 integerOf Fails = Of 0
 integerOf NoOutcome = NoValue
 
--- 'Values': an integer as a condition: nonzero holds.
+-- An integer in the place of a condition: it holds where it is not 0 (V13).
 abbrev pub truthOf : Value → Truth
 truthOf (Of x) = cond (eqb x 0) Fails Holds
 truthOf NoValue = NoOutcome
 
--- 'Values', comparisons are signed 32: 1 or 0
+-- A comparison's value, 1 or 0, of type signed 32 (V2).
 abbrev pub flag : Bool → Value
 flag b = cond b (Of 1) (Of 0)
 
--- 'Values': a value of type s taken at type t, by a cast, a promotion or as an arm of a ternary.
+-- A value of type s taken at type t, by a cast, a promotion or as an arm of a ternary (V5, V14).
 abbrev pub taken : ℕ → ℕ → Value → Value
 taken s t (Of x) = Of (convert s t x)
 taken s t NoValue = NoValue
 
--- 'Values', division: by zero there is no value.
+-- A division by zero leaves no value (V10).
 abbrev pub divides : ℕ → ℕ → Value
 divides y r = cond (eqb y 0) NoValue (Of r)
 
@@ -87,11 +87,11 @@ comparisons =
 abbrev pub Operator : Type 0
 Operator = ℕ → ℕ → ℕ → ℕ → Value
 
--- 'Values': both operands are promoted and taken at their common type.
+-- Both operands are taken at their type together (V3, V4).
 abbrev pub onCommon : Operation → Operator
 onCommon op ta tb a b = op (together ta tb) (convert ta (together ta tb) a) (convert tb (together ta tb) b)
 
--- 'Values': a shift takes the promoted left type, and its count modulo that type's width.
+-- A shift is at the promoted type of its left operand, and the right one gives a count below that type's width (V7).
 abbrev pub onLeft : Operation → Operator
 onLeft op ta tb a b = op (promoted ta) (convert ta (promoted ta) a) (count (promoted ta) tb b)
 
@@ -109,7 +109,7 @@ strict o ta tb (Of a) (Of b) = getD operators o noOperator ta tb a b
 strict o ta tb (Of a) NoValue = NoValue
 strict o ta tb NoValue v = NoValue
 
--- 'Values': && and || evaluate only the side they need: where the left side settles it, the right side plays no part.
+-- && and ||: where the left side settles it, the right side plays no part, not even by a division by zero (V11).
 abbrev pub bothHold : Truth → Truth → Truth
 bothHold Holds v = v
 bothHold Fails v = Fails
@@ -133,7 +133,7 @@ connect o u v = cond (eqb o opLogicalAnd) (bothHold u v) (eitherHolds u v)
 unfoldable pub operate : ℕ → ℕ → ℕ → Value → Value → Value
 operate o ta tb u v = cond (isLogic o) (integerOf (connect o (truthOf u) (truthOf v))) (strict o ta tb u v)
 
--- 'Values': the ternary evaluates only the arm it needs.
+-- A ternary: the arm that is not chosen plays no part (V11).
 abbrev pub choose : Truth → Value → Value → Value
 choose Holds u v = u
 choose Fails u v = v

@@ -1,4 +1,4 @@
--- 'Machine', last paragraph: a node's run, as a function of all that is free.
+-- A node's run, as a function of all that is free in it.
 use mathlib.Core.Bool.{cond}
 use mathlib.Core.List.{List, [], _∷_}
 use Prim.Native.Nat.{ℕ, suc}
@@ -13,9 +13,9 @@ use Rattle.value.specs.declared.Truth.the-variants.{NoOutcome}
 use Rattle.value.specs.Operators.{truthOf}
 use Rattle.value.specs.Evaluation.{Values, Contents, Memory, Effects, shared, ev}
 
--- 'Machine': what is free in a run: the variables' values at the start; and for the statement of each number, counted from 0, what its
+-- What is free in a run: the variables' values at the start; and for the statement of each number, counted from 0, what its
 -- loads find in memory, its effects, and, if it is a 0-statement, the variables' new values; for the condition what memory holds, and its effects,
--- by the count of statements as its number.
+-- by the count of statements as its number (N20, N22).
 pub record Choices : Type 0 where
   pub start : Values
   pub memory : ℕ → Memory
@@ -27,19 +27,19 @@ pub record Choices : Type 0 where
 abbrev pub update : ℕ → ℕ → Values → Values
 update v x ρ n = cond (eqb n v) x (ρ n)
 
--- Go on with a value, if there is one; a division by zero leaves the run without outcome.
+-- Go on with a value, if there is one; where an expression divides by zero the run has no outcome (V10).
 abbrev pub given : Value → (ℕ → Truth) → Truth
 given (Of x) next = next x
 given NoValue next = NoOutcome
 
--- 'Machine': the run from the statement of number i on, at the values ρ. An assignment sets its variable, a 0-statement sets each variable to any
--- value of its type; the outcome is whether the condition then holds.
+-- The run from the statement of number i on, at the values ρ: an assignment gives its variable the value of its expression, a 0-statement makes
+-- all of them new, and at the end the condition is the outcome (N21, N22, N23).
 unfoldable pub runFrom : List ℕ → Choices → Expr → ℕ → List Statement → Values → Truth
 runFrom types c condition i [] ρ = truthOf (ev types ρ ρ (shared (c .contents)) (c .effects i) condition)
 runFrom types c condition i (assignment v e ∷ rest) ρ =
     given (ev types ρ ρ (c .memory i) (c .effects i) e) (λ x. runFrom types c condition (suc i) rest (update v x ρ))
 runFrom types c condition i (other ∷ rest) ρ = runFrom types c condition (suc i) rest (c .renewed i)
 
--- 'Machine': a node's run starts from any values of its variables' types.
+-- The run of a node, from whatever values its variables have (N20).
 abbrev pub run : List ℕ → List Statement → Expr → Choices → Truth
 run types statements condition c = runFrom types c condition 0 statements (c .start)

@@ -1,18 +1,14 @@
-use Rattle.evaluate_node.proofs.Whole.{parts, these-few, these-statements, few-variables, this-condition, refuses-15, refuses-16, runs-here, evaluates}
+-- `evaluate_node::evaluate_node` meets its contract: a condition that is not plain is refused, and else the node is run. Assumes nothing.
+use mathlib.Core.Path.{sym}
 use native.Mathlib.Omega.{arith}
-use mathlib.Core.Bool.{_&&_}
+use lib.Seq.{length-take-le}
 use borrow.Author.Tests.{not-true, not-false}
+use Rattle.sheet_node.proofs.Statements.{took-fits}
+use Rattle.evaluate_node.proofs.Laws.{condition-tree}
+use Rattle.evaluate_node.proofs.Whole.{parts, few-variables, this-condition, condition-refused, running}
 use borrow.Author.Needs.{needs}
 use Rattle.evaluate_node.proofs.evaluate_node.Statement.{statement}
 use Rattle.evaluate_node.proofs.evaluate_node.Tie as tie
-use Rattle.evaluate_node.proofs.evaluate_node.Reads as reads
-use Rattle.evaluate_node.proofs.evaluate_node.Lts as lts
-use Rattle.evaluate_node.proofs.first_unfit.Reads as first-unfit-reads
-use Rattle.evaluate_node.proofs.plain_condition.Reads as plain-condition-reads
-use Rattle.evaluate_node.proofs.plain_statements.Reads as plain-statements-reads
-use Rattle.evaluate_node.proofs.run_node.Reads as run-node-reads
-use Rattle.sheet_field.proofs.start.Reads as start-reads
-use Rattle.sheet_node.proofs.types_of.Reads as types-of-reads
 
 start-requires : tie.Need-start-requires
 start-requires c κs = search needs
@@ -20,32 +16,38 @@ start-requires c κs = search needs
 types-of-requires : tie.Need-types-of-requires
 types-of-requires c κs = λ a e. omega (arith, parts (c .before .before .before .args .s .now) (c .before .before .before .args .node) (c .before .before .before .pre) .inside, c .start .ensures)
 
-plain-statements-requires : tie.Need-plain-statements-requires
-plain-statements-requires c κs = (these-few (c .before .before .before .before .args .s .now) (c .before .before .before .before .args .node) (c .before .before .before .before .pre) (c .before .start .ensures) (c .types-of .ensures), these-statements (c .before .before .before .before .args .s .now) (c .before .before .before .before .args .node) (c .before .before .before .before .pre) (c .before .start .ensures) (c .types-of .ensures))
+slice-aggregate-take-expression : tie.Need-slice-aggregate-take-expression
+slice-aggregate-take-expression c = search needs
 
-plain-condition-requires : tie.Need-plain-condition-requires
-plain-condition-requires c κs = (few-variables (c .before .before .before .before .before .args .s .now) (c .before .before .before .before .before .args .node) (c .before .before .before .before .before .pre) (c .before .before .start .ensures) (c .before .types-of .ensures), this-condition (c .before .before .before .before .before .args .s .now) (c .before .before .before .before .before .args .node) (c .before .before .before .before .before .pre) (c .before .before .start .ensures) (c .before .types-of .ensures))
+take-expression-requires : tie.Need-take-expression-requires
+take-expression-requires c κs = (few-variables (c .before .before .before .before .before .args .s .now) (c .before .before .before .before .before .args .node) (c .before .before .before .before .before .pre), omega arith)
+
+mul-m : tie.Need-mul-m
+mul-m c = omega (arith, took-fits (c .before .take-expression .ensures) (c .before .take-expression .kept .1 .1 .1 .0), (c .before .take-expression .kept .1 .1 .1 .0))
+
+array-share-prefix-words : tie.Need-array-share-prefix-words
+array-share-prefix-words c = omega (arith, took-fits (c .before .take-expression .ensures) (c .before .take-expression .kept .1 .1 .1 .0), (c .before .take-expression .kept .1 .1 .1 .0))
+
+slice-aggregate-is-plain : tie.Need-slice-aggregate-is-plain
+slice-aggregate-is-plain c = sym (length-take-le _ _ (omega (arith, took-fits (c .before .before .take-expression .ensures) (c .before .before .take-expression .kept .1 .1 .1 .0), (c .before .before .take-expression .kept .1 .1 .1 .0))))
+
+is-plain-requires : tie.Need-is-plain-requires
+is-plain-requires c κs = condition-tree _ _ _ (c .before .before .take-expression .ensures) (this-condition (c .before .before .before .before .before .before .before .before .args .s .now) (c .before .before .before .before .before .before .before .before .args .node) (c .before .before .before .before .before .before .before .before .pre))
 
 returns : tie.Need-returns
-returns c = refuses-15 (c .before .before .before .before .before .before .before .args .s .now) (c .before .before .before .before .before .before .before .args .node) (c .before .before .before .before .before .before .before .pre) (c .before .before .before .before .start .ensures) (c .before .before .before .types-of .ensures) (c .before .before .before .before .before .before .before .args .place) (c .before .before .before .before .before .before .before .args .values .now) (c .before .before .plain-statements .ensures) (c .before .plain-condition .ensures) (not-true (c .before .before .plain-statements .result && c .before .plain-condition .result) (c .if1 .taken))
+returns c = condition-refused (c .before .before .before .before .before .before .before .before .before .before .args .s .now) (c .before .before .before .before .before .before .before .before .before .before .args .node) (c .before .before .before .before .before .before .before .before .before .before .pre) (c .before .before .before .before .take-expression .ensures) (c .before .is-plain .ensures) (not-true _ (c .if1 .taken)) (c .before .before .before .before .before .before .before .before .before .before .args .place) (c .before .before .before .before .before .before .before .before .before .before .args .values .now)
 
-first-unfit-requires : tie.Need-first-unfit-requires
-first-unfit-requires c κs = search needs
+array-share-prefix-words-2 : tie.Need-array-share-prefix-words-2
+array-share-prefix-words-2 c = omega (arith, took-fits (c .before .before .before .before .take-expression .ensures) (c .before .before .before .before .take-expression .kept .1 .1 .1 .0), (c .before .before .before .before .take-expression .kept .1 .1 .1 .0))
 
-enum-known-fit : tie.Need-enum-known-fit
-enum-known-fit c = search needs
-
-enum-told : tie.Need-enum-told
-enum-told c = search needs
+slice-aggregate-run-node : tie.Need-slice-aggregate-run-node
+slice-aggregate-run-node c = sym (length-take-le _ _ (omega (arith, took-fits (c .before .before .before .before .before .take-expression .ensures) (c .before .before .before .before .before .take-expression .kept .1 .1 .1 .0), (c .before .before .before .before .before .take-expression .kept .1 .1 .1 .0))))
 
 run-node-requires : tie.Need-run-node-requires
-run-node-requires c κs = runs-here (c .before .before .before .before .before .before .before .before .before .before .args .s .now) (c .before .before .before .before .before .before .before .before .before .before .args .node) (c .before .before .before .before .before .before .before .before .before .before .pre) (c .before .before .before .before .before .before .before .start .ensures) (c .before .before .before .before .before .before .types-of .ensures) (c .before .before .before .before .before .before .before .before .before .before .args .place) (c .before .before .before .before .before .before .before .before .before .before .args .values .now) (c .before .before .before .before .before .plain-statements .ensures) (c .before .before .before .before .plain-condition .ensures) (not-false (c .before .before .before .before .before .plain-statements .result && c .before .before .before .before .plain-condition .result) (c .before .before .before .if1 .left)) (c .before .before .first-unfit .ensures) (c .enum-told .given .1)
+run-node-requires c κs = running (c .before .before .before .before .before .before .before .before .before .before .before .args .s .now) (c .before .before .before .before .before .before .before .before .before .before .before .args .node) (c .before .before .before .before .before .before .before .before .before .before .before .pre) (c .before .before .before .before .before .take-expression .ensures) (c .before .before .is-plain .ensures) (not-false _ (c .before .if1 .left)) (c .before .before .before .before .before .before .before .before .start .ensures) (c .before .before .before .before .before .before .before .types-of .ensures)
 
 returns-2 : tie.Need-returns-2
-returns-2 c = refuses-16 (c .before .before .before .before .before .before .before .before .before .before .before .args .s .now) (c .before .before .before .before .before .before .before .before .before .before .before .args .node) (c .before .before .before .before .before .before .before .before .before .before .before .pre) (c .before .before .before .before .before .before .before .before .start .ensures) (c .before .before .before .before .before .before .before .types-of .ensures) (c .before .before .before .before .before .before .before .before .before .before .before .args .place) (c .before .before .before .before .before .before .before .before .before .before .before .args .values .now) (c .before .before .before .before .before .before .plain-statements .ensures) (c .before .before .before .before .before .plain-condition .ensures) (not-false (c .before .before .before .before .before .before .plain-statements .result && c .before .before .before .before .before .plain-condition .result) (c .before .before .before .before .if1 .left)) (c .before .before .before .first-unfit .ensures) (c .before .fit .given .1)
-
-returns-3 : tie.Need-returns-3
-returns-3 c = evaluates (c .before .before .before .before .before .before .before .before .before .before .before .args .s .now) (c .before .before .before .before .before .before .before .before .before .before .before .args .node) (c .before .before .before .before .before .before .before .before .before .before .before .pre) (c .before .before .before .before .before .before .before .before .start .ensures) (c .before .before .before .before .before .before .before .types-of .ensures) (c .before .before .before .before .before .before .before .before .before .before .before .args .place) (c .before .before .before .before .before .before .before .before .before .before .before .args .values .now) (c .before .before .before .before .before .before .plain-statements .ensures) (c .before .before .before .before .before .plain-condition .ensures) (not-false (c .before .before .before .before .before .before .plain-statements .result && c .before .before .before .before .before .plain-condition .result) (c .before .before .before .before .if1 .left)) (c .before .before .before .first-unfit .ensures) (c .before .enum-told .given .1) (c .run-node .ensures)
+returns-2 c = search needs
 
 pub evaluate-node-spec : {M : Type 1} → statement M
 evaluate-node-spec =
@@ -53,12 +55,14 @@ evaluate-node-spec =
     (tie.spec
     start-requires
     types-of-requires
-    plain-statements-requires
-    plain-condition-requires
+    slice-aggregate-take-expression
+    take-expression-requires
+    mul-m
+    array-share-prefix-words
+    slice-aggregate-is-plain
+    is-plain-requires
     returns
-    first-unfit-requires
-    enum-known-fit
-    enum-told
+    array-share-prefix-words-2
+    slice-aggregate-run-node
     run-node-requires
-    returns-2
-    returns-3)
+    returns-2)
