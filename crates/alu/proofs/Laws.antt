@@ -1,6 +1,7 @@
--- What wraps at 64 bits and is then cut to a width wraps at that width.
+-- What wraps at 64 bits and is then cut to a width wraps at that width. For a difference: what is missing to 2 ^ 64 is
+-- what is missing to the width, and whole turns of it.
 use Prim.Native.Nat.{ℕ, _+_, _-_, _%_, _^_, _<_}
-use mathlib.Core.Path.{_≡_}
+use mathlib.Core.Path.{_≡_, sym}
 use native.Mathlib.Omega.{arith}
 use lib.Pow.{mod-mod-pow}
 use Rattle.alu.specs.declared.Width.{Width}
@@ -15,3 +16,9 @@ cut-wrapped Quad x = mod-mod-pow x 0 64
 
 pub difference : (a b s : ℕ) → a < 2 ^ 64 → b < 2 ^ 64 → s < 2 ^ 64 → (s + b) % 2 ^ 64 ≡ a → s ≡ (a + (2 ^ 64 - b)) % 2 ^ 64
 difference a b s ha hb hs e = omega arith
+
+pub turns : (w : Width) (a b : ℕ) → b < 2 ^ 64 → (a + (2 ^ 64 - b)) % 2 ^ bits w ≡ (a + (2 ^ bits w - b % 2 ^ bits w)) % 2 ^ bits w
+turns Byte a b h = omega arith
+turns Word a b h = omega arith
+turns Double a b h = omega arith
+turns Quad a b h = omega arith

@@ -9,22 +9,22 @@ use Rattle.alu.specs.declared.Flag.the-variants.{Known}
 use Rattle.alu.specs.declared.Flags.{Flags}
 use Rattle.alu.specs.declared.Operation.{Operation}
 use Rattle.alu.specs.declared.Operation.the-variants.{Add, Sub, And, Or, Xor}
-use Rattle.alu.specs.declared.Outcome.{Outcome}
+use Rattle.alu.specs.declared.Performed.{Performed}
 use Rattle.alu.specs.Width.{bits}
 
 -- the sign of a value of that width: its top bit
 abbrev pub negative : Width → ℕ → Bool
 negative w x = leb (2 ^ (bits w - 1)) x
 
--- PF: the low byte has an even count of ones
+-- PF: the low byte has an even count of ones (M11)
 abbrev pub evenParity : ℕ → Bool
 evenParity x = eqb (ones (x % 256) % 2) 0
 
--- Sums, differences and negations wrap at the operand's width. A difference is a sum with what is missing to 2 ^ 64, of
--- which 2 ^ 8, 2 ^ 16 and 2 ^ 32 are parts; a negation is the difference of zero and the value.
+-- A sum is taken modulo 2 ^ width; a difference is the sum with what the second value lacks to 2 ^ width; a negation is
+-- the difference of zero and the value (M10).
 unfoldable pub result : Operation → Width → ℕ → ℕ → ℕ
 result Add w a b = (a + b) % 2 ^ bits w
-result Sub w a b = (a + (2 ^ 64 - b)) % 2 ^ bits w
+result Sub w a b = (a + (2 ^ bits w - b % 2 ^ bits w)) % 2 ^ bits w
 result And w a b = bitAnd a b
 result Or w a b = bitOr a b
 result Xor w a b = bitXor a b
@@ -50,12 +50,13 @@ overflow And w a b r = false
 overflow Or w a b r = false
 overflow Xor w a b r = false
 
--- all five flags known: ZF, SF and PF from the result
+-- all five flags known: ZF, SF and PF from the result (M11)
 unfoldable pub resultFlags : Width → ℕ → Bool → Bool → Flags
 resultFlags w r cf of =
     record { cf = Known cf; pf = Known (evenParity r); zf = Known (eqb r 0); sf = Known (negative w r); of = Known of }
 
-unfoldable pub outcome : Operation → Width → ℕ → ℕ → Outcome
-outcome op w a b =
+-- an operation's result and all its flags (M10, M11)
+unfoldable pub performed : Operation → Width → ℕ → ℕ → Performed
+performed op w a b =
     let r = result op w a b in
     record { value = r; flags = resultFlags w r (carry op a b r) (overflow op w a b r) }

@@ -17,6 +17,10 @@ either (Known a) g = setOr a g
 either Unknown (Known b) = setOr b Unknown
 either Unknown Unknown = Unknown
 
+-- both are set: known where one is known to be clear, or both are known
+abbrev pub both : Flag → Flag → Flag
+both f g = opposite (either (opposite f) (opposite g))
+
 -- one is set and the other clear: known where both are known
 abbrev pub differ : Flag → Flag → Flag
 differ (Known a) (Known b) = Known (a && not b || not a && b)

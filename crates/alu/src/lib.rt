@@ -3,8 +3,8 @@
 ghost use mathlib.Core.Path.{_≡_};
 ghost use Prim.Native.Nat.{_%_, _^_};
 ghost use Rattle.alu.specs.Width.{bits, widthOf};
-ghost use Rattle.alu.specs.Arithmetic.{negative, evenParity, result, carry, signsOverflow, overflow, resultFlags, outcome};
-ghost use Rattle.alu.specs.Flags.{opposite, either, differ};
+ghost use Rattle.alu.specs.Arithmetic.{negative, evenParity, result, carry, signsOverflow, overflow, resultFlags, performed};
+ghost use Rattle.alu.specs.Flags.{opposite, either, both, differ};
 
 pub enum Width {
     Byte,
@@ -13,7 +13,7 @@ pub enum Width {
     Quad,
 }
 
-// The width of a size in bits; what is not 8, 16 or 32 is taken for 64.
+// The width of a size in bits: 8, 16, 32, else 64. The sizes of well-formed registers are these four.
 pub fn width_of(size: u64) -> Width
     ensures { λ r. ⌜ r ≡ widthOf size ⌝ }
 {
@@ -145,20 +145,21 @@ fn overflow_of(op: Operation, w: Width, a: u64, b: u64, r: u64) -> bool
     }
 }
 
-pub struct Outcome {
+// What an operation gives.
+pub struct Performed {
     pub value: u64,
     pub flags: Flags,
 }
 
 // The result of an operation and the flags that it settles.
-pub fn perform(op: Operation, w: Width, a: u64, b: u64) -> Outcome
-    ensures { λ o. ⌜ o ≡ outcome op w a b ⌝ }
+pub fn perform(op: Operation, w: Width, a: u64, b: u64) -> Performed
+    ensures { λ o. ⌜ o ≡ performed op w a b ⌝ }
 {
     let value = result_of(op, w, a, b);
     let cf = carry_of(op, a, b, value);
     let of = overflow_of(op, w, a, b, value);
     let flags = result_flags(w, value, cf, of);
-    Outcome { value, flags }
+    Performed { value, flags }
 }
 
 pub fn not(f: Flag) -> Flag
@@ -181,6 +182,13 @@ pub fn or(f: Flag, g: Flag) -> Flag
             Flag::Unknown => Flag::Unknown,
         },
     }
+}
+
+// Both are set: not that one of them is clear.
+pub fn and(f: Flag, g: Flag) -> Flag
+    ensures { λ r. ⌜ r ≡ both f g ⌝ }
+{
+    not(or(not(f), not(g)))
 }
 
 pub fn differ_in(f: Flag, g: Flag) -> Flag

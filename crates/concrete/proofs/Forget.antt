@@ -1,6 +1,6 @@
 -- Forgetting what is declared keeps agreement with whatever the declared registers and flags become.
 use Prim.{tt}
-use Prim.Native.Nat.{ℕ, zero, suc, min, _/_, _%_}
+use Prim.Native.Nat.{ℕ, zero, suc, min}
 use mathlib.Core.Path.{_≡_, refl, sym, _∙_}
 use mathlib.Core.Logic.{_⊎_, inl, inr, _≢_}
 use mathlib.Core.Bool.{Bool, true, false, _&&_}
@@ -12,18 +12,17 @@ use Rattle.isa.specs.declared.Register.{Register}
 use Rattle.isa.specs.declared.Instruction.{Instruction}
 use Rattle.alu.specs.declared.Flag.{Flag}
 use Rattle.alu.specs.declared.Flags.{Flags}
-use Rattle.alu.specs.declared.Width.{Width}
-use Rattle.alu.specs.declared.Width.the-variants.{Byte, Word, Double, Quad}
 use Rattle.machine.specs.declared.State.{State}
 use Rattle.known.specs.declared.Value.{Value}
 use Rattle.known.specs.declared.Value.the-variants.{Known, Unknown}
 use Rattle.known.specs.Operations.{forgetFlag, forgetFlags}
-use Rattle.known.specs.Values.{merged}
-use Rattle.machine.specs.Registers.{wholeOf, written, noRegister, forgetRegisters, forgotten}
+use Rattle.known.specs.Registers.{unmarked}
+use Rattle.isa.specs.FlagBits as bit
+use Rattle.machine.specs.Registers.{slotAt, wholeOf, noRegister, forgetRegister, forgetRegisters, forgotten}
 use Rattle.concrete.specs.Concrete.{Status, Processor, Choice, declares, chosen, declaredStatus, byDeclaration}
 use Rattle.concrete.specs.Agreement.{Allows, AllowsValue, FlagsAgree, Agrees}
 use Rattle.concrete.proofs.Arithmetic.{byTest}
-use Rattle.concrete.proofs.Registers.{replaced-same, replaced-other, written-flags, and-left, and-right, never}
+use Rattle.concrete.proofs.Registers.{replaced-same, replaced-other, replaced-flags, and-left, and-right, never}
 use Rattle.alu.specs.declared.Flag.the-variants as flag
 
 -- no more is known
@@ -43,33 +42,30 @@ less-unknown : (v u : Value) → Less v u → u ≡ Unknown → v ≡ Unknown
 less-unknown v u (inl e) h = e
 less-unknown v u (inr e) h = e ∙ h
 
-merged-unknown : (w : Width) (offset : ℕ) (old : Value) → merged w offset old Unknown ≡ Unknown
-unfolding merged
-merged-unknown Byte offset old = refl
-merged-unknown Word offset old = refl
-merged-unknown Double offset old = refl
-merged-unknown Quad offset old = refl
-
 -- what allows 0 and 1 is unknown
 open-value : (v : Value) → AllowsValue v 0 → AllowsValue v 1 → v ≡ Unknown
 open-value (Known x) a b = let z : _≡_ {A = ℕ} 0 1 = sym a ∙ b in cc
 open-value Unknown a b = refl
 
-forget-here : (s : State) (r : Register) → eqb (r .class) 1 ≡ true → wholeOf (written s r Unknown) (r .index) ≡ Unknown
-unfolding written
+forget-here : (s : State) (r : Register) → eqb (r .class) 1 ≡ true → wholeOf (forgetRegister s r) (r .index) ≡ Unknown
+unfolding forgetRegister
 forget-here s r one =
-    rw (one, merged-unknown) (open-value _ (replaced-same s (r .index) Unknown 0 tt) (replaced-same s (r .index) Unknown 1 tt))
+    rw one (open-value _ (replaced-same s (r .index) unmarked 0 tt) (replaced-same s (r .index) unmarked 1 tt))
 
-forget-elsewhere : (s : State) (r : Register) (k : ℕ) → k ≢ r .index → wholeOf (written s r Unknown) k ≡ wholeOf s k
-unfolding written
+forget-elsewhere : (s : State) (r : Register) (k : ℕ) → k ≢ r .index → wholeOf (forgetRegister s r) k ≡ wholeOf s k
+unfolding forgetRegister
 forget-elsewhere s r k other =
-    byTest (eqb (r .class) 1) (λ t. rw (t, replaced-other s (r .index) k _ other)) (λ t. rw t)
+    byTest (eqb (r .class) 1) (λ t. rw (t, replaced-other s (r .index) k unmarked other)) (λ t. rw t)
 
-forget-outside : (s : State) (r : Register) (k : ℕ) → eqb (r .class) 1 ≡ false → wholeOf (written s r Unknown) k ≡ wholeOf s k
-unfolding written
+forget-outside : (s : State) (r : Register) (k : ℕ) → eqb (r .class) 1 ≡ false → wholeOf (forgetRegister s r) k ≡ wholeOf s k
+unfolding forgetRegister
 forget-outside s r k other = rw other
 
-forget-there : (s : State) (r : Register) (k : ℕ) → Less (wholeOf (written s r Unknown) k) (wholeOf s k)
+forget-flags-kept : (s : State) (r : Register) → forgetRegister s r .flags ≡ s .flags
+unfolding forgetRegister
+forget-flags-kept s r = byTest (eqb (r .class) 1) (λ t. rw (t, replaced-flags s (r .index) unmarked)) (λ t. rw t)
+
+forget-there : (s : State) (r : Register) (k : ℕ) → Less (wholeOf (forgetRegister s r) k) (wholeOf s k)
 forget-there s r k =
     byTest (eqb (r .class) 1)
     (λ one. byTest (eqb k (r .index))
@@ -97,25 +93,26 @@ forgot s rs (suc n) k h =
 pub forgetting-flags : (s : State) (rs : List Register) (n : ℕ) → forgetRegisters s rs n .flags ≡ s .flags
 unfolding forgetRegisters
 forgetting-flags s rs zero = refl
-forgetting-flags s rs (suc n) = written-flags (forgetRegisters s rs n) (getD rs n noRegister) Unknown ∙ forgetting-flags s rs n
+forgetting-flags s rs (suc n) = forget-flags-kept (forgetRegisters s rs n) (getD rs n noRegister) ∙ forgetting-flags s rs n
 
-flag-law : (bit : ℕ) (f : Flag) (new old : Bool) → Allows f old → Allows (forgetFlag bit f) (chosen bit new old)
-flag-law bit f new old h = byTest (eqb bit 1) (λ t. rw t tt) (λ t. rw t h)
+flag-law : (declared : Bool) (f : Flag) (new old : Bool) → Allows f old → Allows (forgetFlag declared f) (chosen declared new old)
+flag-law true f new old h = tt
+flag-law false f new old h = h
 
 declared-flags : (d : ℕ) (f : Flags) (new old : Status) → FlagsAgree f old → FlagsAgree (forgetFlags d f) (declaredStatus d new old)
 unfolding forgetFlags declaredStatus
 declared-flags d f new old h =
     record {
-      cf = flag-law (d % 2) (f .cf) (new .cf) (old .cf) (h .cf);
-      pf = flag-law (d / 2 % 2) (f .pf) (new .pf) (old .pf) (h .pf);
-      zf = flag-law (d / 4 % 2) (f .zf) (new .zf) (old .zf) (h .zf);
-      sf = flag-law (d / 8 % 2) (f .sf) (new .sf) (old .sf) (h .sf);
-      of = flag-law (d / 16 % 2) (f .of) (new .of) (old .of) (h .of);
+      cf = flag-law (bit.declares d bit.CF) (f .cf) (new .cf) (old .cf) (h .cf);
+      pf = flag-law (bit.declares d bit.PF) (f .pf) (new .pf) (old .pf) (h .pf);
+      zf = flag-law (bit.declares d bit.ZF) (f .zf) (new .zf) (old .zf) (h .zf);
+      sf = flag-law (bit.declares d bit.SF) (f .sf) (new .sf) (old .sf) (h .sf);
+      of = flag-law (bit.declares d bit.OF) (f .of) (new .of) (old .of) (h .of);
     }
 
 -- all that is not modelled
 pub forgotten-agrees : (s : State) (p : Processor) (i : Instruction) (free : Choice) → Agrees s p → Agrees (forgotten s i) (byDeclaration p i free)
-unfolding forgotten byDeclaration wholeOf
+unfolding forgotten byDeclaration slotAt
 forgotten-agrees s p i free agrees =
     record {
       registers = λ k.

@@ -1,27 +1,29 @@
 -- What is known of a jump is exact: it allows just the outcomes that the jump has in the states that agree.
 use Prim.{tt}
-use Prim.Native.Nat.{ℕ, _/_, _%_, _^_, _≤_}
+use Prim.Native.Nat.{ℕ, _/_, _%_, _^_}
 use mathlib.Core.Path.{_≡_, refl, sym, ap, subst, _∙_}
 use mathlib.Core.Bool.{Bool, true, false, not, _&&_, _||_}
 use native.Mathlib.Nat.{mod-mod, div-one}
-use native.Mathlib.Omega.{arith}
 use borrow.Author.Tests.{eqb-true}
 use lib.Dec.{eqb}
+use Rattle.isa.specs.declared.Condition.{Condition}
+use Rattle.isa.specs.declared.Condition.the-variants.{E, Ne, L, Ge, Le, G, B, Ae, Be, A, S, Ns, P, Np, O, No}
+use Rattle.isa.specs.declared.Counter.{Counter}
+use Rattle.isa.specs.declared.Counter.the-variants.{Rcx, Ecx, Cx}
 use Rattle.isa.specs.Register.{wellFormed}
 use Rattle.alu.specs.declared.Flag.{Flag}
 use Rattle.alu.specs.declared.Flag.the-variants.{Known, Unknown}
 use Rattle.alu.specs.declared.Flags.{Flags}
-use Rattle.alu.specs.Flags.{opposite, either, differ}
+use Rattle.alu.specs.Flags.{opposite, either, both, differ}
 use Rattle.machine.specs.declared.State.{State}
 use Rattle.known.specs.declared.Value.{Value}
 use Rattle.machine.specs.Registers.{readOf}
-use Rattle.known.specs.Conditions.{tested, flagCondition, isZero}
-use Rattle.machine.specs.Conditions.{countRegister, verdictOf, decided}
-use Rattle.concrete.specs.Concrete.{Status, Processor, value as valueOf, part, update, withStatus, jumps}
+use Rattle.known.specs.Conditions.{flagCondition, isZero}
+use Rattle.machine.specs.Conditions.{countRegister}
+use Rattle.concrete.specs.Concrete.{Status, Processor, value as valueOf, part, update, withStatus, jumpsOn, jumpsAt}
 use Rattle.concrete.specs.Agreement.{Allows, AllowsValue, FlagsAgree, Agrees}
 use Rattle.concrete.proofs.Arithmetic.{byTest}
 use Rattle.concrete.proofs.Registers.{reads}
-use Rattle.concrete.proofs.Effects.{case}
 use Rattle.concrete.proofs.Sound.{opposite-allows, unread}
 use Rattle.known.specs.declared.Value.the-variants as value
 
@@ -188,20 +190,56 @@ module _ (f : Flags) (g : Status) (h : FlagsAgree f g) where
             };
       }
 
+opposite-twice : (f : Flag) → opposite (opposite f) ≡ f
+opposite-twice (Known a) = ap Known (not-not a)
+opposite-twice Unknown = refl
+
+-- what is known of 'neither' is the opposite of what is known of 'either'
+both-is : (f g : Flag) → both (opposite f) (opposite g) ≡ opposite (either f g)
+both-is f g = rw (opposite-twice f, opposite-twice g)
+
+exact-neither : (f : Flags) (g : Status) (x y : Flag) (c d : Status → Bool) → ExactFlags f g (either x y) (λ h. c h || d h)
+    → ExactFlags f g (both (opposite x) (opposite y)) (λ h. not (c h) && not (d h))
+exact-neither f g x y c d exact =
+    let opposed = exact-opposite f g (either x y) (λ h. c h || d h) exact in
+    record {
+      sound = rw (both-is x y, neither (c g) (d g)) (opposed .sound);
+      reached = λ b k.
+          let r = opposed .reached b (rw (both-is x y) at k) in
+          record { status = r .status; agrees = r .agrees; is = neither (c (r .status)) (d (r .status)) ∙ r .is };
+    }
+
+exact-flags : (f : Flags) (g : Status) → FlagsAgree f g → (c : Condition) → ExactFlags f g (flagCondition c f) (jumpsOn c)
+unfolding flagCondition jumpsOn
+exact-flags f g h E = exact-zf f g h
+exact-flags f g h Ne = exact-opposite f g _ _ (exact-zf f g h)
+exact-flags f g h L = exact-less f g h
+exact-flags f g h Ge = exact-opposite f g _ _ (exact-less f g h)
+exact-flags f g h Le = exact-less-equal f g h
+exact-flags f g h G = exact-neither f g (f .zf) (differ (f .sf) (f .of)) (λ s. s .zf) (λ s. differs (s .sf) (s .of)) (exact-less-equal f g h)
+exact-flags f g h B = exact-cf f g h
+exact-flags f g h Ae = exact-opposite f g _ _ (exact-cf f g h)
+exact-flags f g h Be = exact-below-equal f g h
+exact-flags f g h A = exact-neither f g (f .cf) (f .zf) (λ s. s .cf) (λ s. s .zf) (exact-below-equal f g h)
+exact-flags f g h S = exact-sf f g h
+exact-flags f g h Ns = exact-opposite f g _ _ (exact-sf f g h)
+exact-flags f g h P = exact-pf f g h
+exact-flags f g h Np = exact-opposite f g _ _ (exact-pf f g h)
+exact-flags f g h O = exact-of f g h
+exact-flags f g h No = exact-opposite f g _ _ (exact-of f g h)
+
 -- ---- jumps
 
--- A jump m, of which the flag `answer` is known: it is decided by it, it allows what the jump does in the state p, and what
--- it allows the jump does in some state that agrees.
-pub record Reached (s : State) (m : ℕ) (b : Bool) : Type 0 where
+-- A jump that jumps as `test` says, of which the flag t is known: t allows what the jump does in the state p, and what it
+-- allows the jump does in some state that agrees.
+pub record Reached (s : State) (test : Processor → Bool) (b : Bool) : Type 0 where
   pub state : Processor
   pub agrees : Agrees s state
-  pub is : jumps m state ≡ b
+  pub is : test state ≡ b
 
-pub record Exact (s : State) (p : Processor) (m : ℕ) : Type 0 where
-  pub answer : Flag
-  pub decides : decided s m ≡ verdictOf answer
-  pub sound : Allows answer (jumps m p)
-  pub reached : (b : Bool) → Allows answer b → Reached s m b
+pub record Exact (s : State) (p : Processor) (t : Flag) (test : Processor → Bool) : Type 0 where
+  pub sound : Allows t (test p)
+  pub reached : (b : Bool) → Allows t b → Reached s test b
 
 zero-allows : (v : Value) (x : ℕ) → AllowsValue v x → Allows (isZero v) (eqb x 0)
 zero-allows (value.Known y) x h = ap (λ (n : ℕ). eqb n 0) h
@@ -216,85 +254,51 @@ low-bits : (n x : ℕ) → x % 2 ^ n ≡ x / 2 ^ 0 % 2 ^ n
 low-bits n x = ap (λ (y : ℕ). y % 2 ^ n) (sym (div-one x))
 
 module _ (s : State) (p : Processor) (agrees : Agrees s p) where
-  by-flags : (m : ℕ) (t : Flag) (c : Status → Bool) → decided s m ≡ verdictOf t → ((q : Processor) → jumps m q ≡ c (q .status))
-      → ExactFlags (s .flags) (p .status) t c → Exact s p m
-  by-flags m t c decides is exact =
+  pub exact-jump : (c : Condition) → Exact s p (flagCondition c (s .flags)) (λ q. jumpsOn c (q .status))
+  exact-jump c =
+      let exact = exact-flags (s .flags) (p .status) (agrees .flags) c in
       record {
-        answer = t;
-        decides = decides;
-        sound = rw (is p) (exact .sound);
+        sound = exact .sound;
         reached = λ b h.
             let r = exact .reached b h in
             record {
               state = withStatus p (r .status);
               agrees = record { registers = agrees .registers; flags = r .agrees };
-              is = is (withStatus p (r .status)) ∙ r .is;
+              is = r .is;
             };
       }
 
   -- the count-register jumps
-  by-count : (m : ℕ) → wellFormed (countRegister m) ≡ true → decided s m ≡ verdictOf (isZero (readOf s (countRegister m)))
-      → ((q : Processor) → jumps m q ≡ eqb (part q (countRegister m)) 0)
-      → jumps m (counting p 0) ≡ true → jumps m (counting p 1) ≡ false
-      → Exact s p m
-  by-count m ok decides is jumps-at-0 stays-at-1 =
-      let r = countRegister m in
+  by-count : (c : Counter) → wellFormed (countRegister c) ≡ true
+      → ((q : Processor) → jumpsAt c q ≡ eqb (part q (countRegister c)) 0)
+      → jumpsAt c (counting p 0) ≡ true → jumpsAt c (counting p 1) ≡ false
+      → Exact s p (isZero (readOf s (countRegister c))) (jumpsAt c)
+  by-count c ok is jumps-at-0 stays-at-1 =
+      let r = countRegister c in
       record {
-        answer = isZero (readOf s r);
-        decides = decides;
         sound = rw (is p) (zero-allows (readOf s r) (part p r) (reads s p r agrees ok));
         reached = λ b h. at (readOf s r) refl b h;
       }
     where
-      free : readOf s (countRegister m) ≡ value.Unknown → (x : ℕ) → Agrees s (counting p x)
+      free : readOf s (countRegister c) ≡ value.Unknown → (x : ℕ) → Agrees s (counting p x)
       free e x =
           record {
             registers = λ k.
                 byTest (eqb k 1)
-                (λ t. rw (eqb-true k 1 t, unread s (countRegister m) refl e) tt)
+                (λ t. rw (eqb-true k 1 t, unread s (countRegister c) refl e) tt)
                 (λ t. rw t (agrees .registers k));
             flags = agrees .flags;
           }
 
-      at : (v : Value) → readOf s (countRegister m) ≡ v → (b : Bool) → Allows (isZero v) b → Reached s m b
+      at : (v : Value) → readOf s (countRegister c) ≡ v → (b : Bool) → Allows (isZero v) b → Reached s (jumpsAt c) b
       at (value.Known y) e b h =
-          let same : y ≡ part p (countRegister m) = rw e at (reads s p (countRegister m) agrees ok) in
+          let same : y ≡ part p (countRegister c) = rw e at (reads s p (countRegister c) agrees ok) in
           record { state = p; agrees = agrees; is = is p ∙ ap (λ (x : ℕ). eqb x 0) (sym same) ∙ h }
       at value.Unknown e true h = record { state = counting p 0; agrees = free e 0; is = jumps-at-0 }
       at value.Unknown e false h = record { state = counting p 1; agrees = free e 1; is = stays-at-1 }
 
-  pub exact : (m : ℕ) → 16 ≤ m → m ≤ 34 → Exact s p m
-  unfolding decided flagCondition tested jumps part
-  exact m from to =
-      let f = s .flags in
-      let g = p .status in
-      let h = agrees .flags in
-      let zf = exact-zf f g h in
-      let less = exact-less f g h in
-      let less-equal = exact-less-equal f g h in
-      let cf = exact-cf f g h in
-      let below-equal = exact-below-equal f g h in
-      let sf = exact-sf f g h in
-      let pf = exact-pf f g h in
-      let of = exact-of f g h in
-      case (Exact s p) 16 m (by-flags 16 _ _ refl (λ q. refl) zf)
-      (case (Exact s p) 17 m (by-flags 17 _ _ refl (λ q. refl) (exact-opposite f g _ _ zf))
-      (case (Exact s p) 18 m (by-flags 18 _ _ refl (λ q. refl) less)
-      (case (Exact s p) 19 m (by-flags 19 _ _ refl (λ q. refl) (exact-opposite f g _ _ less))
-      (case (Exact s p) 20 m (by-flags 20 _ _ refl (λ q. refl) less-equal)
-      (case (Exact s p) 21 m (by-flags 21 _ _ refl (λ q. neither (q .status .zf) _) (exact-opposite f g _ _ less-equal))
-      (case (Exact s p) 22 m (by-flags 22 _ _ refl (λ q. refl) cf)
-      (case (Exact s p) 23 m (by-flags 23 _ _ refl (λ q. refl) (exact-opposite f g _ _ cf))
-      (case (Exact s p) 24 m (by-flags 24 _ _ refl (λ q. refl) below-equal)
-      (case (Exact s p) 25 m (by-flags 25 _ _ refl (λ q. neither (q .status .cf) _) (exact-opposite f g _ _ below-equal))
-      (case (Exact s p) 26 m (by-flags 26 _ _ refl (λ q. refl) sf)
-      (case (Exact s p) 27 m (by-flags 27 _ _ refl (λ q. refl) (exact-opposite f g _ _ sf))
-      (case (Exact s p) 28 m (by-flags 28 _ _ refl (λ q. refl) pf)
-      (case (Exact s p) 29 m (by-flags 29 _ _ refl (λ q. refl) (exact-opposite f g _ _ pf))
-      (case (Exact s p) 30 m (by-flags 30 _ _ refl (λ q. refl) of)
-      (case (Exact s p) 31 m (by-flags 31 _ _ refl (λ q. refl) (exact-opposite f g _ _ of))
-      (case (Exact s p) 32 m (by-count 32 refl refl (λ q. ap (λ (x : ℕ). eqb x 0) (sym (mod-mod (q .register 1) (2 ^ 64)) ∙ low-bits 64 (valueOf q 1))) refl refl)
-      (case (Exact s p) 33 m (by-count 33 refl refl (λ q. ap (λ (x : ℕ). eqb x 0) (low-bits 32 (valueOf q 1))) refl refl)
-      (case (Exact s p) 34 m (by-count 34 refl refl (λ q. ap (λ (x : ℕ). eqb x 0) (low-bits 16 (valueOf q 1))) refl refl)
-      (λ h. absurd (omega arith))))))))))))))))))))
-      from
+  pub exact-count : (c : Counter) → Exact s p (isZero (readOf s (countRegister c))) (jumpsAt c)
+  unfolding jumpsAt part
+  exact-count Rcx = by-count Rcx refl (λ q. ap (λ (x : ℕ). eqb x 0) (sym (mod-mod (q .register 1) (2 ^ 64)) ∙ low-bits 64 (valueOf q 1))) refl refl
+  exact-count Ecx = by-count Ecx refl (λ q. ap (λ (x : ℕ). eqb x 0) (low-bits 32 (valueOf q 1))) refl refl
+  exact-count Cx = by-count Cx refl (λ q. ap (λ (x : ℕ). eqb x 0) (low-bits 16 (valueOf q 1))) refl refl

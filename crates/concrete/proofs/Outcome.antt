@@ -14,11 +14,11 @@ use Rattle.alu.specs.declared.Width.{Width}
 use Rattle.alu.specs.declared.Width.the-variants.{Byte, Word, Double, Quad}
 use Rattle.alu.specs.declared.Operation.{Operation}
 use Rattle.alu.specs.declared.Operation.the-variants.{Add, Sub}
-use Rattle.alu.specs.declared.Outcome.{Outcome}
+use Rattle.alu.specs.declared.Performed.{Performed}
 use Rattle.alu.specs.Width.{bits}
 use Rattle.concrete.specs.Concrete.{Result, lifted, sum, difference, onesBelow, statusOf}
 use Rattle.concrete.specs.Agreement.{FlagsAgree}
-use Rattle.concrete.proofs.Arithmetic.{byTest, carry-law, sum-overflow-law, difference-overflow-law}
+use Rattle.concrete.proofs.Arithmetic.{byTest, wrap-below, carry-law, sum-overflow-law, difference-overflow-law}
 use Rattle.alu.specs.Arithmetic as rules
 
 -- half of a width's numbers, and all of them
@@ -44,7 +44,7 @@ ones-below (suc k) x =
     rw (ones-step (x % 2 ^ suc k), ← (add-one k), mod-mod-pow x k 1, field x k 1, ← (ones-below k (x / 2)))
 
 -- an outcome of the rules is a result of the manual, at a size
-pub record Matches (n : ℕ) (o : Outcome) (r : Result) : Type 0 where
+pub record Matches (n : ℕ) (o : Performed) (r : Result) : Type 0 where
   pub value : o .value ≡ r .value
   pub flags : FlagsAgree (o .flags) (statusOf n r)
 
@@ -52,8 +52,8 @@ pub matches : (op : Operation) (w : Width) (a b : ℕ) (r : Result)
     → rules.result op w a b ≡ r .value
     → rules.carry op a b (rules.result op w a b) ≡ r .carry
     → rules.overflow op w a b (rules.result op w a b) ≡ r .overflow
-    → Matches (bits w) (rules.outcome op w a b) r
-unfolding rules.outcome rules.resultFlags statusOf
+    → Matches (bits w) (rules.performed op w a b) r
+unfolding rules.performed rules.resultFlags statusOf
 matches op w a b r value-is carry-is overflow-is =
     record {
       value = value-is;
@@ -66,12 +66,9 @@ matches op w a b r value-is carry-is overflow-is =
       };
     }
 
--- what is missing to 2 ^ 64 is what is missing to the width, and whole turns of it
-pub turns : (w : Width) (a b : ℕ) → b < 2 ^ bits w → (a + (2 ^ 64 - b)) % 2 ^ bits w ≡ (a + (2 ^ bits w - b)) % 2 ^ bits w
-turns Byte a b h = omega arith
-turns Word a b h = omega arith
-turns Double a b h = omega arith
-turns Quad a b h = refl
+-- a value of the width is its own remainder
+pub within : (w : Width) (a b : ℕ) → b < 2 ^ bits w → (a + (2 ^ bits w - b % 2 ^ bits w)) % 2 ^ bits w ≡ (a + (2 ^ bits w - b)) % 2 ^ bits w
+within w a b h = rw (wrap-below h)
 
 -- zero minus a: out of range only for the least number
 pub negation-overflow : (h a : ℕ) → 0 < h → a < h + h
@@ -99,26 +96,26 @@ module _ (w : Width) (a b : ℕ) (ha : a < 2 ^ bits w) (hb : b < 2 ^ bits w) whe
   hb' : b < half w + half w
   hb' = rw (halves w) at hb
 
-  pub add-matches : Matches (bits w) (rules.outcome Add w a b) (sum (bits w) a b)
+  pub add-matches : Matches (bits w) (rules.performed Add w a b) (sum (bits w) a b)
   unfolding rules.result rules.carry rules.overflow sum
   add-matches =
       matches Add w a b (sum (bits w) a b) refl
       (carry-law (2 ^ bits w) a b ha hb)
       (rw (halves w) (sum-overflow-law (half w) a b ha' hb'))
 
-  pub sub-matches : Matches (bits w) (rules.outcome Sub w a b) (difference (bits w) a b)
+  pub sub-matches : Matches (bits w) (rules.performed Sub w a b) (difference (bits w) a b)
   unfolding rules.result rules.carry rules.overflow difference
   sub-matches =
-      matches Sub w a b (difference (bits w) a b) (turns w a b hb) refl
-      (rw (turns w a b hb, halves w) (difference-overflow-law (half w) a b ha' hb'))
+      matches Sub w a b (difference (bits w) a b) (within w a b hb) refl
+      (rw (within w a b hb, halves w) (difference-overflow-law (half w) a b ha' hb'))
 
 -- neg: zero minus the value
 pub neg-matches : (w : Width) (a : ℕ) → a < 2 ^ bits w
-    → Matches (bits w) (rules.outcome Sub w 0 a)
+    → Matches (bits w) (rules.performed Sub w 0 a)
     (record { value = (2 ^ bits w - a) % 2 ^ bits w; carry = not (eqb a 0); overflow = eqb a (2 ^ (bits w - 1)) })
 unfolding rules.result rules.carry rules.overflow
 neg-matches w a ha =
     let ha' : a < half w + half w = rw (halves w) at ha in
     let out : rules.overflow Sub w 0 a (rules.result Sub w 0 a) ≡ eqb a (half w) =
-    rw (turns w 0 a ha, halves w) (difference-overflow-law (half w) 0 a (omega (arith, half-pos w)) ha' ∙ negation-overflow (half w) a (half-pos w) ha') in
-    matches Sub w 0 a _ (turns w 0 a ha ∙ rw zero-add) (zero-test a) out
+    rw (within w 0 a ha, halves w) (difference-overflow-law (half w) 0 a (omega (arith, half-pos w)) ha' ∙ negation-overflow (half w) a (half-pos w) ha') in
+    matches Sub w 0 a _ (within w 0 a ha ∙ rw zero-add) (zero-test a) out

@@ -13,12 +13,15 @@ use lib.Pow.{pow-pos}
 use lib.Seq.{getD-set-same, getD-set-other}
 use Rattle.isa.specs.declared.Register.{Register}
 use Rattle.isa.specs.Register.{wellFormed}
+use Rattle.alu.specs.declared.Width.{Width}
 use Rattle.alu.specs.Width.{bits, widthOf}
 use Rattle.machine.specs.declared.State.{State}
 use Rattle.known.specs.declared.Value.{Value}
 use Rattle.known.specs.declared.Value.the-variants.{Known, Unknown}
 use Rattle.known.specs.Values.{extracted, inserted, onValue, merged}
-use Rattle.machine.specs.Registers.{unmarked, contents, slotOf, wholeOf, replaced, readOf, written}
+use Rattle.known.specs.declared.Slot.{Slot}
+use Rattle.known.specs.Registers.{unmarked, contents, slotOf, partOf, withPart}
+use Rattle.machine.specs.Registers.{slotAt, wholeOf, replaced, readOf, written}
 use Rattle.concrete.specs.Concrete.{Processor, value, part, stored, assign}
 use Rattle.concrete.specs.Agreement.{AllowsValue, Agrees}
 use Rattle.concrete.proofs.Arithmetic.{byTest}
@@ -87,7 +90,7 @@ on-value f g e (Known x) y h = e x ∙ ap g h
 on-value f g e Unknown y h = tt
 
 pub reads : (s : State) (p : Processor) (r : Register) → Agrees s p → wellFormed r ≡ true → AllowsValue (readOf s r) (part p r)
-unfolding readOf part
+unfolding readOf partOf part
 reads s p r agrees ok =
     byTest (eqb (r .class) 1)
     (λ one. rw one
@@ -170,29 +173,29 @@ contents-slot : (v : Value) → contents (slotOf v) ≡ v
 contents-slot (Known x) = refl
 contents-slot Unknown = refl
 
--- a slot that was set holds what was put there, or does not exist and is unknown
-pub replaced-same : (s : State) (index : ℕ) (v : Value) (y : ℕ) → AllowsValue v y → AllowsValue (wholeOf (replaced s index v) index) y
-unfolding wholeOf replaced
-replaced-same s index v y h =
+-- a register that was set is what was put there, or does not exist and is unknown
+pub replaced-same : (s : State) (index : ℕ) (slot : Slot) (y : ℕ) → AllowsValue (contents slot) y → AllowsValue (wholeOf (replaced s index slot) index) y
+unfolding slotAt replaced
+replaced-same s index slot y h =
     byTest (ltb index 16)
     (λ t. byTest (ltb index (length (s .registers)))
-    (λ u. rw (t, getD-set-same (s .registers) index (slotOf v) unmarked (ltb-true index (length (s .registers)) u), contents-slot v) h)
+    (λ u. rw (t, getD-set-same (s .registers) index slot unmarked (ltb-true index (length (s .registers)) u)) h)
     (λ u.
-    let past : length (set (s .registers) index (slotOf v)) ≤ index =
+    let past : length (set (s .registers) index slot) ≤ index =
     rw length-set (ltb-false index (length (s .registers)) u) in
-    rw (t, List·getD-eq-default (set (s .registers) index (slotOf v)) unmarked past) tt))
+    rw (t, List·getD-eq-default (set (s .registers) index slot) unmarked past) tt))
     (λ t. rw t tt)
 
-pub replaced-other : (s : State) (index k : ℕ) (v : Value) → k ≢ index → wholeOf (replaced s index v) k ≡ wholeOf s k
-unfolding wholeOf replaced
-replaced-other s index k v other =
+pub replaced-other : (s : State) (index k : ℕ) (slot : Slot) → k ≢ index → slotAt (replaced s index slot) k ≡ slotAt s k
+unfolding slotAt replaced
+replaced-other s index k slot other =
     byTest (ltb index 16)
-    (λ t. rw (t, getD-set-other (s .registers) index k (slotOf v) unmarked other))
+    (λ t. rw (t, getD-set-other (s .registers) index k slot unmarked other))
     (λ t. rw t)
 
-pub replaced-flags : (s : State) (index : ℕ) (v : Value) → replaced s index v .flags ≡ s .flags
+pub replaced-flags : (s : State) (index : ℕ) (slot : Slot) → replaced s index slot .flags ≡ s .flags
 unfolding replaced
-replaced-flags s index v = byTest (ltb index 16) (λ t. rw t) (λ t. rw t)
+replaced-flags s index slot = byTest (ltb index 16) (λ t. rw t) (λ t. rw t)
 
 pub written-flags : (s : State) (r : Register) (v : Value) → written s r v .flags ≡ s .flags
 unfolding written
@@ -201,6 +204,11 @@ written-flags s r v = byTest (eqb (r .class) 1) (λ t. rw t (replaced-flags s _ 
 assign-status : (p : Processor) (r : Register) (x : ℕ) → assign p r x .status ≡ p .status
 unfolding assign
 assign-status p r x = byTest (eqb (r .class) 1) (λ t. rw t) (λ t. rw t)
+
+with-part : (w : Width) (offset : ℕ) (slot : Slot) (v : Value) (y : ℕ) → AllowsValue (merged w offset (contents slot) v) y
+    → AllowsValue (contents (withPart w offset slot v)) y
+unfolding withPart
+with-part w offset slot v y h = rw (contents-slot (merged w offset (contents slot) v)) h
 
 -- what the registers are after a write
 write-at : (s : State) (p : Processor) (r : Register) (v : Value) (x : ℕ) → Agrees s p → wellFormed r ≡ true
@@ -211,12 +219,12 @@ write-at s p r v x agrees ok what k =
     byTest (eqb (r .class) 1)
     (λ one. byTest (eqb k (r .index))
     (λ t.
-    let new = merged (widthOf (r .size)) (r .offset) (wholeOf s (r .index)) v in
+    let new = withPart (widthOf (r .size)) (r .offset) (slotAt s (r .index)) v in
     let here = merge-law (form r ok one) (wholeOf s (r .index)) v (value p (r .index)) x (mod-lt _ (pow-pos 64)) (agrees .registers (r .index)) (what one) in
     rw (one, eqb-true k (r .index) t, eq-eqb (r .index) (r .index) refl)
-    (replaced-same s (r .index) new _ here))
+    (replaced-same s (r .index) new _ (with-part (widthOf (r .size)) (r .offset) (slotAt s (r .index)) v _ here)))
     (λ t.
-    let e = replaced-other s (r .index) k (merged (widthOf (r .size)) (r .offset) (wholeOf s (r .index)) v) (eqb-false k (r .index) t) in
+    let e = replaced-other s (r .index) k (withPart (widthOf (r .size)) (r .offset) (slotAt s (r .index)) v) (eqb-false k (r .index) t) in
     rw (one, t, e) (agrees .registers k)))
     (λ other. rw other (agrees .registers k))
 

@@ -15,9 +15,18 @@ use lib.Pow.{pow-pos, not-mod}
 use Rattle.isa.specs.declared.Register.{Register}
 use Rattle.isa.specs.declared.Operand.{Operand}
 use Rattle.isa.specs.declared.Operand.the-variants.{Absent, Reg, Imm, Mem}
+use Rattle.isa.specs.declared.CarryChange.{CarryChange}
+use Rattle.isa.specs.declared.CarryChange.the-variants.{Stc, Clc, Cmc}
+use Rattle.isa.specs.declared.Binary.{Binary}
+use Rattle.isa.specs.declared.Binary.the-variants.{Add, Sub, Cmp, And, Or, Xor, Test}
+use Rattle.isa.specs.declared.Unary.{Unary}
+use Rattle.isa.specs.declared.Unary.the-variants.{Inc, Dec, Neg}
+use Rattle.isa.specs.declared.Mnemonic.{Mnemonic}
+use Rattle.isa.specs.declared.Mnemonic.the-variants.{Other, Carry, Mov, Not, TwoOperand, OneOperand, Jump, CountJump}
 use Rattle.isa.specs.declared.Instruction.{Instruction}
+use Rattle.isa.specs.FlagBits as bit
 use Rattle.isa.specs.Register.{wellFormed}
-use Rattle.isa.specs.Modelled.{isRegister, isAbsent, modelled, sizesDiffer, outside, undeclared}
+use Rattle.isa.specs.Modelled.{modelled, sizesDiffer, outside, isMov, declaresResult, declaresOwn, undeclared}
 use Rattle.alu.specs.declared.Flag.{Flag}
 use Rattle.alu.specs.declared.Flags.{Flags}
 use Rattle.alu.specs.Width.{bits, widthOf}
@@ -26,17 +35,18 @@ use Rattle.machine.specs.declared.State.{State}
 use Rattle.known.specs.declared.Effect.{Effect}
 use Rattle.known.specs.declared.Value.{Value}
 use Rattle.known.specs.declared.Value.the-variants.{Known, Unknown}
-use Rattle.known.specs.Operations.{withCarry, forgetFlag, forgetFlags, unknownCarry, carryRule, complement, arithEffect, unaryOutcome, unaryEffect}
+use Rattle.known.specs.Operations.{withCarry, forgetFlag, forgetFlags, unknownCarry, carryRule, complement, arithEffect, unaryEffect, alone as performAlone}
 use Rattle.known.specs.Values.{onValue}
-use Rattle.machine.specs.Registers.{nothingKnown, unmarked, wholeOf, readOf, written, operandOf, forgetRegisters, forgotten}
-use Rattle.machine.specs.Rules.{sameRegister, finished, arithStep, unaryUnknown, unaryOn, unaryStep, registerStep, onFirst, modelledStep, stepped, steppedAll}
-use Rattle.concrete.specs.Concrete.{Status, Processor, Choice, value, part, assign, argument, computed, computedAlone, withStatus, withCf, carryAfter, binary, alone, onRegister, onOperand, byManual, byDeclaration, executed, executedAll}
+use Rattle.known.specs.Registers.{unmarked, partOf}
+use Rattle.machine.specs.Registers.{nothingKnown, slotAt, wholeOf, readOf, written, operandOf, forgetRegisters, forgotten}
+use Rattle.machine.specs.Rules.{writes as writesResult, sameRegister, finished, carryStep, arithStep, unaryUnknown, unaryOn, unaryStep, registerStep, onFirst, modelledStep, stepped, steppedAll}
+use Rattle.concrete.specs.Concrete.{Status, Processor, Choice, value, part, assign, argument, computed, computedAlone, withStatus, withOwnCarry, carryAfter, keeps, binary, alone, onRegister, onOperand, byManual, byDeclaration, executed, executedAll}
 use Rattle.concrete.specs.Agreement.{Allows, AllowsValue, FlagsAgree, Agrees, operandWellFormed, Accepted, AllAccepted}
 use Rattle.concrete.proofs.Arithmetic.{byTest}
 use Rattle.concrete.proofs.Outcome.{Matches}
 use Rattle.concrete.proofs.Registers.{Form, low-byte, high-byte, word, double, quad, form, bits-law, reads, part-below, Stores, stores-known, writes, never, and-left, and-right}
 use Rattle.concrete.proofs.Forget.{less-known, less-both, forgets, forgotten-agrees}
-use Rattle.concrete.proofs.Effects.{right, right-alone, EffectAgrees, arith-agrees, kept-agrees}
+use Rattle.concrete.proofs.Effects.{right, alone-matches, alone-below, EffectAgrees, arith-agrees, kept-agrees}
 use Rattle.alu.specs.declared.Flag.the-variants as flag
 
 -- ---- operands
@@ -109,7 +119,7 @@ finish-agrees : (s : State) (p : Processor) (d : Register) (there : Bool) (e : E
     → Agrees s p → wellFormed d ≡ true → eqb (d .class) 1 ≡ true
     → AllowsValue (e .value) x → x < 2 ^ d .size → FlagsAgree (e .flags) g
     → Agrees (finished s there d e) (withStatus (cond there (assign p d x) p) g)
-unfolding finished wholeOf
+unfolding finished slotAt
 finish-agrees s p d true e x g agrees ok one v below flags =
     record {
       registers = writes s p d (e .value) x agrees ok (λ c. stores-known (form d ok one) (e .value) x v below) .registers;
@@ -123,11 +133,11 @@ on-unknown f (Known x) h = cc
 on-unknown f Unknown h = refl
 
 pub unread : (s : State) (r : Register) → eqb (r .class) 1 ≡ true → readOf s r ≡ Unknown → wholeOf s (r .index) ≡ Unknown
-unfolding readOf
+unfolding readOf partOf
 unread s r one h = on-unknown _ (wholeOf s (r .index)) (rw one at h)
 
-forgot-flag : (bit : ℕ) (f : Flag) (b : Bool) → bit ≡ 1 → Allows (forgetFlag bit f) b
-forgot-flag bit f b h = rw h tt
+forgot-flag : (declared : Bool) (f : Flag) (b : Bool) → declared ≡ true → Allows (forgetFlag declared f) b
+forgot-flag declared f b h = rw h tt
 
 or-false-left : (a b : Bool) → (a || b) ≡ false → a ≡ false
 or-false-left true b h = h
@@ -137,20 +147,45 @@ or-false-right : (a b : Bool) → (a || b) ≡ false → b ≡ false
 or-false-right true b h = never (sym h)
 or-false-right false b h = h
 
--- inc, dec and neg declare PF, ZF, SF and OF: all that they set, but CF
-unknown-flags : (m d : ℕ) (cf : Flag) (c : Bool) (f : Flags) (g : Status) → 13 ≤ m → m ≤ 15 → undeclared m d ≡ false → Allows cf c
-    → FlagsAgree (withCarry (forgetFlags d f) (unknownCarry m cf)) (cond (eqb m 15) g (withCf g c))
+-- all that inc, dec and neg set, but CF, is declared
+result-declared : (op : Unary) (d : ℕ) → declaresOwn op d ≡ true → declaresResult d ≡ true
+result-declared Inc d h = h
+result-declared Dec d h = h
+result-declared Neg d h = and-left (declaresResult d) (bit.declares d bit.CF) h
+
+forgot-result : (d : ℕ) (f : Flags) (carry : Flag) (g : Status) → Allows carry (g .cf) → declaresResult d ≡ true
+    → FlagsAgree (withCarry (forgetFlags d f) carry) g
 unfolding forgetFlags
-unknown-flags m d cf c f g from to declared h =
-    let missing = or-false-left (leb 13 m && leb m 15 && not (eqb (d / 2 % 16) 15)) _ declared in
-    let four : d / 2 % 16 ≡ 15 = eqb-true (d / 2 % 16) 15 (not-false _ (rw (le-leb 13 m from, le-leb m 15 to) at missing)) in
-    let pf = forgot-flag (d / 2 % 2) (f .pf) (g .pf) (omega arith) in
-    let zf = forgot-flag (d / 4 % 2) (f .zf) (g .zf) (omega arith) in
-    let sf = forgot-flag (d / 8 % 2) (f .sf) (g .sf) (omega arith) in
-    let of = forgot-flag (d / 16 % 2) (f .of) (g .of) (omega arith) in
-    byTest (eqb m 15)
-    (λ t. rw t (record { cf = tt; pf = pf; zf = zf; sf = sf; of = of }))
-    (λ t. rw t (record { cf = h; pf = pf; zf = zf; sf = sf; of = of }))
+forgot-result d f carry g h declared =
+    let pf = bit.declares d bit.PF in
+    let zf = bit.declares d bit.ZF in
+    let sf = bit.declares d bit.SF in
+    let three = and-left (pf && zf && sf) (bit.declares d bit.OF) declared in
+    let two = and-left (pf && zf) sf three in
+    record {
+      cf = h;
+      pf = forgot-flag pf (f .pf) (g .pf) (and-left pf zf two);
+      zf = forgot-flag zf (f .zf) (g .zf) (and-right pf zf two);
+      sf = forgot-flag sf (f .sf) (g .sf) (and-right (pf && zf) sf three);
+      of = forgot-flag (bit.declares d bit.OF) (f .of) (g .of) (and-right (pf && zf && sf) (bit.declares d bit.OF) declared);
+    }
+
+-- inc and dec keep CF, neg leaves it unknown
+unknown-flags : (op : Unary) (d : ℕ) (cf : Flag) (c : Bool) (f : Flags) (g : Status) → declaresOwn op d ≡ true → Allows cf c
+    → FlagsAgree (withCarry (forgetFlags d f) (unknownCarry op cf)) (withOwnCarry op g c)
+unknown-flags Inc d cf c f g declared h = forgot-result d f cf (withOwnCarry Inc g c) h (result-declared Inc d declared)
+unknown-flags Dec d cf c f g declared h = forgot-result d f cf (withOwnCarry Dec g c) h (result-declared Dec d declared)
+unknown-flags Neg d cf c f g declared h = forgot-result d f flag.Unknown g tt (result-declared Neg d declared)
+
+-- rules and manual agree on what is written
+same-writes : (op : Binary) → writesResult op ≡ keeps op
+same-writes Add = refl
+same-writes Sub = refl
+same-writes Cmp = refl
+same-writes And = refl
+same-writes Or = refl
+same-writes Xor = refl
+same-writes Test = refl
 
 module _ (s : State) (p : Processor) (free : Choice) (agrees : Agrees s p) (d : Register) (ok : wellFormed d ≡ true) where
   -- mov
@@ -174,37 +209,35 @@ module _ (s : State) (p : Processor) (free : Choice) (agrees : Agrees s p) (d : 
     width-is = bits-law (form d ok one)
 
     -- add to test
-    binary-agrees : (m : ℕ) (o : Operand) → 6 ≤ m → m ≤ 12 → operandWellFormed o ≡ true → SizeFits (d .size) o
-        → Agrees (arithStep s m d o) (binary p free m d o)
+    binary-agrees : (op : Binary) (o : Operand) → operandWellFormed o ≡ true → SizeFits (d .size) o
+        → Agrees (arithStep s op d o) (binary p free op d o)
     unfolding arithStep binary
-    binary-agrees m o from to ok-o fits =
+    binary-agrees op o ok-o fits =
         let x = part p d in
         let y = argument p free (d .size) o in
         let hx : x < 2 ^ d .size = part-below p d in
         let hy : y < 2 ^ d .size = argument-below p free (d .size) o fits in
-        let effect = arith-agrees m from to (widthOf (d .size)) (sameRegister d o) (readOf s d) (operandOf s (d .size) o) x y
+        let effect = arith-agrees op (widthOf (d .size)) (sameRegister d o) (readOf s d) (operandOf s (d .size) o) x y
         (rw width-is hx) (rw width-is hy) (reads s p d agrees ok) (operand-agrees s p free (form d ok one) o agrees ok-o)
         (same-argument p free (d .size) d o one) in
-        let there : EffectAgrees (arithEffect m (widthOf (d .size)) (sameRegister d o) (readOf s d) (operandOf s (d .size) o))
-        (d .size) (computed m (d .size) x y) = rw width-is at effect in
-        let below = right m from to .below (d .size) x y hx hy in
-        byTest (eqb m 8 || eqb m 12)
-        (λ t. rw t (finish-agrees s p d false _ _ _ agrees ok one (there .value) below (there .flags)))
-        (λ t. rw t (finish-agrees s p d true _ _ _ agrees ok one (there .value) below (there .flags)))
+        let there : EffectAgrees (arithEffect op (widthOf (d .size)) (sameRegister d o) (readOf s d) (operandOf s (d .size) o))
+        (d .size) (computed op (d .size) x y) = rw width-is at effect in
+        let below = right op .below (d .size) x y hx hy in
+        rw (same-writes op) (finish-agrees s p d (keeps op) _ _ _ agrees ok one (there .value) below (there .flags))
 
     -- inc, dec, neg of a known value
-    known-agrees : (m a : ℕ) → 13 ≤ m → m ≤ 15 → readOf s d ≡ Known a
-        → Agrees (finished s true d (unaryEffect m (widthOf (d .size)) (s .flags .cf) a)) (alone p m d)
+    known-agrees : (op : Unary) (a : ℕ) → readOf s d ≡ Known a
+        → Agrees (finished s true d (unaryEffect op (widthOf (d .size)) (s .flags .cf) a)) (alone p op d)
     unfolding unaryEffect alone
-    known-agrees m a from to read-is =
+    known-agrees op a read-is =
         let x = part p d in
         let e : a ≡ x = rw read-is at (reads s p d agrees ok) in
         let hx : x < 2 ^ d .size = part-below p d in
-        let same = right-alone m from to .known (widthOf (d .size)) x (rw width-is hx) in
-        let there : Matches (d .size) (unaryOutcome m (widthOf (d .size)) x) (computedAlone m (d .size) x) = rw width-is at same in
+        let same = alone-matches op (widthOf (d .size)) x (rw width-is hx) in
+        let there : Matches (d .size) (performAlone op (widthOf (d .size)) x) (computedAlone op (d .size) x) = rw width-is at same in
         rw e
-        (finish-agrees s p d true _ _ _ agrees ok one (there .value) (right-alone m from to .below (d .size) x)
-        (kept-agrees m (s .flags .cf) (p .status .cf) _ _ (agrees .flags .cf) (there .flags)))
+        (finish-agrees s p d true _ _ _ agrees ok one (there .value) (alone-below op (d .size) x)
+        (kept-agrees op (s .flags .cf) (p .status .cf) _ _ (agrees .flags .cf) (there .flags)))
 
     -- inc, dec, neg of an unknown register, with their flags declared
     unknown-register : (rs : List Register) (n k x : ℕ) → readOf s d ≡ Unknown
@@ -215,14 +248,13 @@ module _ (s : State) (p : Processor) (free : Choice) (agrees : Agrees s p) (d : 
         (λ t. less-known _ Unknown _ (less-both _ _ _ (forgets s rs n k) (inr (rw (eqb-true k (d .index) t) (unread s d one read-is)))) tt)
         (λ t. rw (one, t) (less-known _ (wholeOf s k) _ (forgets s rs n k) (agrees .registers k)))
 
-    unknown-agrees : (i : Instruction) → 13 ≤ i .mnemonic → i .mnemonic ≤ 15 → undeclared (i .mnemonic) (i .flags) ≡ false
-        → readOf s d ≡ Unknown
-        → Agrees (unaryUnknown s i) (alone p (i .mnemonic) d)
-    unfolding unaryUnknown forgotten alone wholeOf
-    unknown-agrees i from to declared read-is =
+    unknown-agrees : (i : Instruction) (op : Unary) → declaresOwn op (i .flags) ≡ true → readOf s d ≡ Unknown
+        → Agrees (unaryUnknown s i op) (alone p op d)
+    unfolding unaryUnknown forgotten alone slotAt
+    unknown-agrees i op declared read-is =
         record {
           registers = λ k. unknown-register (i .written) (min (i .count) 8) k _ read-is;
-          flags = unknown-flags (i .mnemonic) (i .flags) (s .flags .cf) (p .status .cf) _ _ from to declared (agrees .flags .cf);
+          flags = unknown-flags op (i .flags) (s .flags .cf) (p .status .cf) _ _ declared (agrees .flags .cf);
         }
 
 -- ---- a modelled instruction
@@ -237,118 +269,88 @@ pub opposite-allows : (f : Flag) (b : Bool) → Allows f b → Allows (opposite 
 opposite-allows (flag.Known a) b h = ap not h
 opposite-allows flag.Unknown b h = tt
 
-carry-allows : (m : ℕ) (f : Flag) (b : Bool) → Allows f b → Allows (carryRule m f) (carryAfter m b)
-unfolding carryRule
-carry-allows m f b h =
-    byTest (eqb m 1)
-    (λ t. rw t refl)
-    (λ t. byTest (eqb m 2) (λ u. rw (t, u) refl) (λ u. rw (t, u) (opposite-allows f b h)))
-
--- a modelled mnemonic above test is inc, dec or neg
-last-mnemonic : (m : ℕ) (called register two absent : Bool)
-    → (not called
-    && (leb 1 m && leb m 3
-    || (register
-    && ((eqb m 4 || leb 6 m && leb m 12) && two || (eqb m 5 || leb 13 m && leb m 15) && absent)))) ≡ true
-    → 12 < m
-    → m ≤ 15
-last-mnemonic m called register two absent h above =
-    byTest (leb m 15)
-    (λ t. leb-true m 15 t)
-    (λ t.
-    never
-    (and-right register false
-    (rw (
-      le-leb 1 m (omega arith),
-      lt-leb m 3 (omega arith),
-      ne-eqb m 4 (λ e. omega arith),
-      ne-eqb m 5 (λ e. omega arith),
-      le-leb 6 m (omega arith),
-      lt-leb m 12 (omega arith),
-      le-leb 13 m (omega arith),
-      t,
-    )
-    at (and-right (not called) _ h))))
-
--- a modelled mnemonic above cmc has a register first
-register-first : (m : ℕ) (called register rest : Bool) → (not called && (leb 1 m && leb m 3 || (register && rest))) ≡ true
-    → leb m 3 ≡ false → register ≡ true
-register-first m called register rest h t =
-    byTest (leb 1 m)
-    (λ u. and-left register rest (rw (u, t) at (and-right (not called) _ h)))
-    (λ u. and-left register rest (rw u at (and-right (not called) _ h)))
+carry-allows : (c : CarryChange) (f : Flag) (b : Bool) → Allows f b → Allows (carryRule c f) (carryAfter c b)
+carry-allows Stc f b h = refl
+carry-allows Clc f b h = refl
+carry-allows Cmc f b h = opposite-allows f b h
 
 and-false : (a b : Bool) → (a && b) ≡ false → a ≡ true → b ≡ false
 and-false true b h t = h
 and-false false b h t = never t
 
+-- a register first that is not outside class 1
+inside : (d : Register) (o : Operand) → (true && (outside (Reg d) || outside o)) ≡ false → eqb (d .class) 1 ≡ true
+inside d o h = not-false _ (or-false-left (outside (Reg d)) (outside o) h)
+
+-- the three faults that a modelled instruction does not have
+record Faultless (m : Mnemonic) (a b : Operand) (flags : ℕ) : Type 0 where
+  first : operandWellFormed a ≡ true
+  second : operandWellFormed b ≡ true
+  sizes : sizesDiffer a b ≡ false
+  classes : (not (isMov m) && (outside a || outside b)) ≡ false
+  declared : undeclared m flags ≡ false
+
 module _ (s : State) (p : Processor) (free : Choice) (agrees : Agrees s p) (i : Instruction) where
-  unary-agrees : (d : Register) → wellFormed d ≡ true → eqb (d .class) 1 ≡ true → 13 ≤ i .mnemonic → i .mnemonic ≤ 15
-      → undeclared (i .mnemonic) (i .flags) ≡ false
-      → (v : Value) → readOf s d ≡ v → Agrees (unaryOn s i d v) (alone p (i .mnemonic) d)
-  unary-agrees d ok one from to declared (Known a) e = known-agrees s p free agrees d ok one (i .mnemonic) a from to e
-  unary-agrees d ok one from to declared Unknown e = unknown-agrees s p free agrees d ok one i from to declared e
+  unary-agrees : (op : Unary) (d : Register) → wellFormed d ≡ true → eqb (d .class) 1 ≡ true → declaresOwn op (i .flags) ≡ true
+      → (v : Value) → readOf s d ≡ v → Agrees (unaryOn s i op d v) (alone p op d)
+  unary-agrees op d ok one declared (Known a) e = known-agrees s p free agrees d ok one op a e
+  unary-agrees op d ok one declared Unknown e = unknown-agrees s p free agrees d ok one i op declared e
 
-  register-agrees : (d : Register) → wellFormed d ≡ true → operandWellFormed (i .second) ≡ true
-      → leb (i .mnemonic) 3 ≡ false → (12 < i .mnemonic → i .mnemonic ≤ 15)
-      → sizesDiffer (Reg d) (i .second) ≡ false
-      → (not (eqb (i .mnemonic) 4) && (outside (Reg d) || outside (i .second))) ≡ false
-      → undeclared (i .mnemonic) (i .flags) ≡ false
-      → Agrees (registerStep s i d) (onRegister p i free d)
+  register-agrees : (m : Mnemonic) (d : Register) → Faultless m (Reg d) (i .second) (i .flags) → Agrees (registerStep s i m d) (onRegister p i free m d)
   unfolding registerStep onRegister unaryStep
-  register-agrees d ok ok-o later last sizes inside declared =
-      let m = i .mnemonic in
-      byTest (eqb m 4)
-      (λ t. rw t (mov-agrees s p free agrees d ok (i .second) ok-o (fits-law d (i .second) sizes)))
-      (λ t.
-      let one : eqb (d .class) 1 ≡ true = not-false _ (or-false-left _ (outside (i .second)) (rw t at inside)) in
-      byTest (eqb m 5)
-      (λ u. rw (t, u) (not-agrees s p free agrees d ok))
-      (λ u.
-      let h3 : 3 < m = leb-false m 3 later in
-      let h4 : m ≢ 4 = eqb-false m 4 t in
-      let h5 : m ≢ 5 = eqb-false m 5 u in
-      byTest (leb m 12)
-      (λ v. rw (t, u, v)
-      (binary-agrees s p free agrees d ok one m (i .second) (omega arith) (leb-true m 12 v) ok-o (fits-law d (i .second) sizes one)))
-      (λ v. let above : 12 < m = leb-false m 12 v in
-      rw (t, u, v) (unary-agrees d ok one above (last above) declared (readOf s d) refl))))
+  register-agrees Other d f = forgotten-agrees s p i free agrees
+  register-agrees (Carry c) d f = forgotten-agrees s p i free agrees
+  register-agrees Mov d f = mov-agrees s p free agrees d (f .first) (i .second) (f .second) (fits-law d (i .second) (f .sizes))
+  register-agrees Not d f = not-agrees s p free agrees d (f .first)
+  register-agrees (TwoOperand op) d f =
+      let one = inside d (i .second) (f .classes) in
+      binary-agrees s p free agrees d (f .first) one op (i .second) (f .second) (fits-law d (i .second) (f .sizes) one)
+  register-agrees (OneOperand op) d f =
+      unary-agrees op d (f .first) (inside d (i .second) (f .classes)) (not-false (declaresOwn op (i .flags)) (f .declared)) (readOf s d) refl
+  register-agrees (Jump c) d f = forgotten-agrees s p i free agrees
+  register-agrees (CountJump c) d f = forgotten-agrees s p i free agrees
 
-  first-agrees : (o : Operand) → isRegister o ≡ true → operandWellFormed o ≡ true → operandWellFormed (i .second) ≡ true
-      → leb (i .mnemonic) 3 ≡ false → (12 < i .mnemonic → i .mnemonic ≤ 15)
-      → sizesDiffer o (i .second) ≡ false
-      → (not (eqb (i .mnemonic) 4) && (outside o || outside (i .second))) ≡ false
-      → undeclared (i .mnemonic) (i .flags) ≡ false
-      → Agrees (onFirst s i o) (onOperand p i free o)
-  first-agrees Absent there ok ok-o later last sizes inside declared = never there
-  first-agrees (Reg d) there ok ok-o later last sizes inside declared = register-agrees d ok ok-o later last sizes inside declared
-  first-agrees (Imm x) there ok ok-o later last sizes inside declared = never there
-  first-agrees Mem there ok ok-o later last sizes inside declared = never there
+  first-agrees : (m : Mnemonic) (o : Operand) → Faultless m o (i .second) (i .flags) → Agrees (onFirst s i m o) (onOperand p i free m o)
+  first-agrees m Absent f = forgotten-agrees s p i free agrees
+  first-agrees m (Reg d) f = register-agrees m d f
+  first-agrees m (Imm x) f = forgotten-agrees s p i free agrees
+  first-agrees m Mem f = forgotten-agrees s p i free agrees
 
-  modelled-agrees : Accepted i → modelled i ≡ true → Agrees (modelledStep s i) (byManual p i free)
-  unfolding modelledStep byManual wholeOf
+  carry-agrees : (c : CarryChange) → Agrees (carryStep s c) (byManual p i free (Carry c))
+  unfolding carryStep byManual slotAt
+  carry-agrees c =
+      let f = agrees .flags in
+      record {
+        registers = agrees .registers;
+        flags = record { cf = carry-allows c (s .flags .cf) (p .status .cf) (f .cf); pf = f .pf; zf = f .zf; sf = f .sf; of = f .of };
+      }
+
+  by-mnemonic : (m : Mnemonic) → Faultless m (i .first) (i .second) (i .flags) → Agrees (modelledStep s i m) (byManual p i free m)
+  unfolding modelledStep byManual
+  by-mnemonic Other f = forgotten-agrees s p i free agrees
+  by-mnemonic (Carry c) f = carry-agrees c
+  by-mnemonic Mov f = first-agrees Mov (i .first) f
+  by-mnemonic Not f = first-agrees Not (i .first) f
+  by-mnemonic (TwoOperand op) f = first-agrees (TwoOperand op) (i .first) f
+  by-mnemonic (OneOperand op) f = first-agrees (OneOperand op) (i .first) f
+  by-mnemonic (Jump c) f = forgotten-agrees s p i free agrees
+  by-mnemonic (CountJump c) f = forgotten-agrees s p i free agrees
+
+  modelled-agrees : Accepted i → modelled i ≡ true → Agrees (modelledStep s i (i .mnemonic)) (byManual p i free (i .mnemonic))
   modelled-agrees accepted is =
-      let m = i .mnemonic in
       let differ : Bool = sizesDiffer (i .first) (i .second) in
-      let other : Bool = not (eqb m 4) && (outside (i .first) || outside (i .second)) in
-      let lacking : Bool = undeclared m (i .flags) in
+      let other : Bool = not (isMov (i .mnemonic)) && (outside (i .first) || outside (i .second)) in
+      let lacking : Bool = undeclared (i .mnemonic) (i .flags) in
       let none : (differ || other || lacking) ≡ false = and-false (modelled i) (differ || other || lacking) (accepted .sound) is in
       let both : (differ || other) ≡ false = or-false-left (differ || other) lacking none in
-      byTest (leb m 3)
-      (λ t.
-      let f = agrees .flags in
-      rw t
+      by-mnemonic (i .mnemonic)
       (record {
-        registers = agrees .registers;
-        flags = record { cf = carry-allows m (s .flags .cf) (p .status .cf) (f .cf); pf = f .pf; zf = f .zf; sf = f .sf; of = f .of };
-      }))
-      (λ t.
-      rw t
-      (first-agrees (i .first)
-      (register-first m (i .call) (isRegister (i .first)) _ is t)
-      (accepted .first) (accepted .second) t
-      (last-mnemonic m (i .call) (isRegister (i .first)) (not (isAbsent (i .second))) (isAbsent (i .second)) is)
-      (or-false-left differ other both) (or-false-right differ other both) (or-false-right (differ || other) lacking none)))
+        first = accepted .first;
+        second = accepted .second;
+        sizes = or-false-left differ other both;
+        classes = or-false-right differ other both;
+        declared = or-false-right (differ || other) lacking none;
+      })
 
 replicated : (n k : ℕ) → getD (replicate n unmarked) k unmarked ≡ unmarked
 replicated zero k = refl
@@ -357,7 +359,7 @@ replicated (suc n) (suc k) = replicated n k
 
 -- nothing known agrees with every state
 pub nothing-known : (p : Processor) → Agrees nothingKnown p
-unfolding nothingKnown wholeOf
+unfolding nothingKnown slotAt
 nothing-known p =
     record {
       registers = λ k. byTest (ltb k 16) (λ t. rw (t, replicated 16 k) tt) (λ t. rw t tt);
@@ -374,7 +376,7 @@ picked false false s₁ s₂ s₃ p₁ p₂ p₃ h₁ h₂ h₃ = h₃ refl
 pub step-sound : (s : State) (p : Processor) (i : Instruction) (free : Choice) → Accepted i → Agrees s p → Agrees (stepped s i) (executed p i free)
 unfolding stepped executed
 step-sound s p i free accepted agrees =
-    picked (i .call) (modelled i) nothingKnown (modelledStep s i) (forgotten s i) _ (byManual p i free) (byDeclaration p i free)
+    picked (i .call) (modelled i) nothingKnown (modelledStep s i (i .mnemonic)) (forgotten s i) _ (byManual p i free (i .mnemonic)) (byDeclaration p i free)
     (nothing-known _)
     (modelled-agrees s p free agrees i accepted)
     (λ u. forgotten-agrees s p i free agrees)

@@ -9,7 +9,20 @@ use lib.Bits.{bitAnd, bitOr, bitXor}
 use Rattle.isa.specs.declared.Register.{Register}
 use Rattle.isa.specs.declared.Operand.{Operand}
 use Rattle.isa.specs.declared.Operand.the-variants.{Absent, Reg, Imm, Mem}
+use Rattle.isa.specs.declared.CarryChange.{CarryChange}
+use Rattle.isa.specs.declared.CarryChange.the-variants.{Stc, Clc, Cmc}
+use Rattle.isa.specs.declared.Binary.{Binary}
+use Rattle.isa.specs.declared.Binary.the-variants.{Add, Sub, Cmp, And, Or, Xor, Test}
+use Rattle.isa.specs.declared.Unary.{Unary}
+use Rattle.isa.specs.declared.Unary.the-variants.{Inc, Dec, Neg}
+use Rattle.isa.specs.declared.Condition.{Condition}
+use Rattle.isa.specs.declared.Condition.the-variants.{E, Ne, L, Ge, Le, G, B, Ae, Be, A, S, Ns, P, Np, O, No}
+use Rattle.isa.specs.declared.Counter.{Counter}
+use Rattle.isa.specs.declared.Counter.the-variants.{Rcx, Ecx, Cx}
+use Rattle.isa.specs.declared.Mnemonic.{Mnemonic}
+use Rattle.isa.specs.declared.Mnemonic.the-variants.{Other, Carry, Mov, Not, TwoOperand, OneOperand, Jump, CountJump}
 use Rattle.isa.specs.declared.Instruction.{Instruction}
+use Rattle.isa.specs.FlagBits as bit
 use Rattle.isa.specs.Modelled.{modelled}
 
 pub record Status : Type 0 where
@@ -117,22 +130,22 @@ statusOf n r =
       of = r .overflow;
     }
 
--- add 6, sub 7, cmp 8, and 9, or 10, xor 11, test 12
-unfoldable pub computed : ℕ → ℕ → ℕ → ℕ → Result
-computed m n a b =
-    cond (eqb m 6) (sum n a b)
-    (cond (eqb m 7) (difference n a b)
-    (cond (eqb m 8) (difference n a b)
-    (cond (eqb m 9) (bitwise (bitAnd a b))
-    (cond (eqb m 10) (bitwise (bitOr a b))
-    (cond (eqb m 11) (bitwise (bitXor a b)) (bitwise (bitAnd a b)))))))
+-- add, sub, cmp, and, or, xor, test
+abbrev pub computed : Binary → ℕ → ℕ → ℕ → Result
+computed Add n a b = sum n a b
+computed Sub n a b = difference n a b
+computed Cmp n a b = difference n a b
+computed And n a b = bitwise (bitAnd a b)
+computed Or n a b = bitwise (bitOr a b)
+computed Xor n a b = bitwise (bitXor a b)
+computed Test n a b = bitwise (bitAnd a b)
 
--- inc 13, dec 14, neg 15: neg's CF is set unless the operand is 0
-unfoldable pub computedAlone : ℕ → ℕ → ℕ → Result
-computedAlone m n a =
-    cond (eqb m 13) (sum n a 1)
-    (cond (eqb m 14) (difference n a 1)
-    (record { value = (2 ^ n - a) % 2 ^ n; carry = not (eqb a 0); overflow = eqb a (2 ^ (n - 1)) }))
+-- inc, dec, neg: neg's CF is set unless the operand is 0
+abbrev pub computedAlone : Unary → ℕ → ℕ → Result
+computedAlone Inc n a = sum n a 1
+computedAlone Dec n a = difference n a 1
+computedAlone Neg n a =
+    record { value = (2 ^ n - a) % 2 ^ n; carry = not (eqb a 0); overflow = eqb a (2 ^ (n - 1)) }
 
 -- ---- instructions. Of the five flags the manual leaves none undefined after a modelled instruction.
 
@@ -142,29 +155,39 @@ withStatus p f = record { register = p .register; status = f }
 abbrev pub withCf : Status → Bool → Status
 withCf f b = record { cf = b; pf = f .pf; zf = f .zf; sf = f .sf; of = f .of }
 
--- stc 1, clc 2, cmc 3
-abbrev pub carryAfter : ℕ → Bool → Bool
-carryAfter m cf = cond (eqb m 1) true (cond (eqb m 2) false (not cf))
+-- stc, clc, cmc
+abbrev pub carryAfter : CarryChange → Bool → Bool
+carryAfter Stc cf = true
+carryAfter Clc cf = false
+carryAfter Cmc cf = not cf
 
--- two operands: cmp (8) and test (12) keep no result
-unfoldable pub binary : Processor → Choice → ℕ → Register → Operand → Processor
-binary p free m d o =
-    let r = computed m (d .size) (part p d) (argument p free (d .size) o) in
-    withStatus (cond (eqb m 8 || eqb m 12) p (assign p d (r .value))) (statusOf (d .size) r)
+-- cmp and test keep no result
+abbrev pub keeps : Binary → Bool
+keeps Add = true
+keeps Sub = true
+keeps Cmp = false
+keeps And = true
+keeps Or = true
+keeps Xor = true
+keeps Test = false
 
--- one operand: inc (13) and dec (14) leave CF as it is
-unfoldable pub alone : Processor → ℕ → Register → Processor
-alone p m d =
-    let r = computedAlone m (d .size) (part p d) in
-    withStatus (assign p d (r .value))
-    (cond (eqb m 15) (statusOf (d .size) r) (withCf (statusOf (d .size) r) (p .status .cf)))
+-- two operands (M25)
+unfoldable pub binary : Processor → Choice → Binary → Register → Operand → Processor
+binary p free op d o =
+    let r = computed op (d .size) (part p d) (argument p free (d .size) o) in
+    withStatus (cond (keeps op) (assign p d (r .value)) p) (statusOf (d .size) r)
 
--- mov (4), not (5), and those above; mov and not leave the flags as they are
-unfoldable pub onRegister : Processor → Instruction → Choice → Register → Processor
-onRegister p i free d =
-    cond (eqb (i .mnemonic) 4) (assign p d (argument p free (d .size) (i .second)))
-    (cond (eqb (i .mnemonic) 5) (assign p d (2 ^ d .size - 1 - part p d))
-    (cond (leb (i .mnemonic) 12) (binary p free (i .mnemonic) d (i .second)) (alone p (i .mnemonic) d)))
+-- inc and dec leave CF as it is
+abbrev pub withOwnCarry : Unary → Status → Bool → Status
+withOwnCarry Inc f cf = withCf f cf
+withOwnCarry Dec f cf = withCf f cf
+withOwnCarry Neg f cf = f
+
+-- one operand (M25)
+unfoldable pub alone : Processor → Unary → Register → Processor
+alone p op d =
+    let r = computedAlone op (d .size) (part p d) in
+    withStatus (assign p d (r .value)) (withOwnCarry op (statusOf (d .size) r) (p .status .cf))
 
 -- the register k is one of the first n that are declared
 unfoldable pub declares : List Register → ℕ → ℕ → Bool
@@ -173,21 +196,21 @@ declares rs (suc n) k =
     let r = getD rs n (record { class = 0; index = 0; size = 0; offset = 0 }) in
     eqb (r .class) 1 && eqb k (r .index) || declares rs n k
 
-abbrev pub chosen : ℕ → Bool → Bool → Bool
-chosen bit new old = cond (eqb bit 1) new old
+abbrev pub chosen : Bool → Bool → Bool → Bool
+chosen declared new old = cond declared new old
 
--- the declared flags change: CF 1, PF 2, ZF 4, SF 8, OF 16
+-- the declared flags change (M28)
 unfoldable pub declaredStatus : ℕ → Status → Status → Status
 declaredStatus flags new old =
     record {
-      cf = chosen (flags % 2) (new .cf) (old .cf);
-      pf = chosen (flags / 2 % 2) (new .pf) (old .pf);
-      zf = chosen (flags / 4 % 2) (new .zf) (old .zf);
-      sf = chosen (flags / 8 % 2) (new .sf) (old .sf);
-      of = chosen (flags / 16 % 2) (new .of) (old .of);
+      cf = chosen (bit.declares flags bit.CF) (new .cf) (old .cf);
+      pf = chosen (bit.declares flags bit.PF) (new .pf) (old .pf);
+      zf = chosen (bit.declares flags bit.ZF) (new .zf) (old .zf);
+      sf = chosen (bit.declares flags bit.SF) (new .sf) (old .sf);
+      of = chosen (bit.declares flags bit.OF) (new .of) (old .of);
     }
 
--- all else changes only memory, the declared flags and the whole of each declared register
+-- all else changes only memory, the declared flags and the whole of each declared register (M28)
 unfoldable pub byDeclaration : Processor → Instruction → Choice → Processor
 byDeclaration p i free =
     record {
@@ -195,24 +218,40 @@ byDeclaration p i free =
       status = declaredStatus (i .flags) (free .status) (p .status);
     }
 
-abbrev pub onOperand : Processor → Instruction → Choice → Operand → Processor
-onOperand p i free Absent = byDeclaration p i free
-onOperand p i free (Reg d) = onRegister p i free d
-onOperand p i free (Imm x) = byDeclaration p i free
-onOperand p i free Mem = byDeclaration p i free
+-- With a register first: mov, not, and those above; mov and not leave the flags as they are. What is not among them does
+-- what it declares (M25, M28).
+unfoldable pub onRegister : Processor → Instruction → Choice → Mnemonic → Register → Processor
+onRegister p i free Other d = byDeclaration p i free
+onRegister p i free (Carry c) d = byDeclaration p i free
+onRegister p i free Mov d = assign p d (argument p free (d .size) (i .second))
+onRegister p i free Not d = assign p d (2 ^ d .size - 1 - part p d)
+onRegister p i free (TwoOperand op) d = binary p free op d (i .second)
+onRegister p i free (OneOperand op) d = alone p op d
+onRegister p i free (Jump c) d = byDeclaration p i free
+onRegister p i free (CountJump c) d = byDeclaration p i free
 
--- a modelled instruction, by the manual
-unfoldable pub byManual : Processor → Instruction → Choice → Processor
-byManual p i free =
-    cond (leb (i .mnemonic) 3)
-    (withStatus p (withCf (p .status) (carryAfter (i .mnemonic) (p .status .cf))))
-    (onOperand p i free (i .first))
+abbrev pub onOperand : Processor → Instruction → Choice → Mnemonic → Operand → Processor
+onOperand p i free m Absent = byDeclaration p i free
+onOperand p i free m (Reg d) = onRegister p i free m d
+onOperand p i free m (Imm x) = byDeclaration p i free
+onOperand p i free m Mem = byDeclaration p i free
 
--- one instruction: a call, or what is like one, changes anything
+-- A modelled instruction, by the manual (M25).
+unfoldable pub byManual : Processor → Instruction → Choice → Mnemonic → Processor
+byManual p i free Other = byDeclaration p i free
+byManual p i free (Carry c) = withStatus p (withCf (p .status) (carryAfter c (p .status .cf)))
+byManual p i free Mov = onOperand p i free Mov (i .first)
+byManual p i free Not = onOperand p i free Not (i .first)
+byManual p i free (TwoOperand op) = onOperand p i free (TwoOperand op) (i .first)
+byManual p i free (OneOperand op) = onOperand p i free (OneOperand op) (i .first)
+byManual p i free (Jump c) = byDeclaration p i free
+byManual p i free (CountJump c) = byDeclaration p i free
+
+-- one instruction: a call, or what is like one, changes anything (M1, M27)
 unfoldable pub executed : Processor → Instruction → Choice → Processor
 executed p i free =
     cond (i .call) (record { register = free .registers; status = free .status })
-    (cond (modelled i) (byManual p i free) (byDeclaration p i free))
+    (cond (modelled i) (byManual p i free (i .mnemonic)) (byDeclaration p i free))
 
 -- instructions in order, each with its choice
 unfoldable pub executedAll : Processor → List Instruction → (ℕ → Choice) → Processor
@@ -221,31 +260,38 @@ executedAll p (i ∷ is) free = executedAll (executed p i (free 0)) is (λ k. fr
 
 -- ---- jumps
 
--- The condition under which a jump is taken: e 16, ne 17, l 18, ge 19, le 20, g 21, b 22, ae 23, be 24, a 25, s 26, ns 27,
--- p 28, np 29, o 30, no 31; jrcxz 32, jecxz 33, jcxz 34 on the low 64, 32, 16 bits of register 1.
-unfoldable pub jumps : ℕ → Processor → Bool
-jumps m p =
-    let f = p .status in
-    let less = f .sf && not (f .of) || not (f .sf) && f .of in
-    cond (eqb m 16) (f .zf)
-    (cond (eqb m 17) (not (f .zf))
-    (cond (eqb m 18) less
-    (cond (eqb m 19) (not less)
-    (cond (eqb m 20) (f .zf || less)
-    (cond (eqb m 21) (not (f .zf) && not less)
-    (cond (eqb m 22) (f .cf)
-    (cond (eqb m 23) (not (f .cf))
-    (cond (eqb m 24) (f .cf || f .zf)
-    (cond (eqb m 25) (not (f .cf) && not (f .zf))
-    (cond (eqb m 26) (f .sf)
-    (cond (eqb m 27) (not (f .sf))
-    (cond (eqb m 28) (f .pf)
-    (cond (eqb m 29) (not (f .pf))
-    (cond (eqb m 30) (f .of)
-    (cond (eqb m 31) (not (f .of))
-    (cond (eqb m 32) (eqb (value p 1) 0)
-    (cond (eqb m 33) (eqb (value p 1 % 2 ^ 32) 0) (eqb (value p 1 % 2 ^ 16) 0))))))))))))))))))
+-- The condition under which a jump on flags is taken (M29).
+unfoldable pub jumpsOn : Condition → Status → Bool
+jumpsOn E f = f .zf
+jumpsOn Ne f = not (f .zf)
+jumpsOn L f = f .sf && not (f .of) || not (f .sf) && f .of
+jumpsOn Ge f = not (f .sf && not (f .of) || not (f .sf) && f .of)
+jumpsOn Le f = f .zf || (f .sf && not (f .of) || not (f .sf) && f .of)
+jumpsOn G f = not (f .zf) && not (f .sf && not (f .of) || not (f .sf) && f .of)
+jumpsOn B f = f .cf
+jumpsOn Ae f = not (f .cf)
+jumpsOn Be f = f .cf || f .zf
+jumpsOn A f = not (f .cf) && not (f .zf)
+jumpsOn S f = f .sf
+jumpsOn Ns f = not (f .sf)
+jumpsOn P f = f .pf
+jumpsOn Np f = not (f .pf)
+jumpsOn O f = f .of
+jumpsOn No f = not (f .of)
 
--- whether a conditional branch jumps: mnemonics 16 to 34 by the manual, any other as it is chosen
-unfoldable pub outcome : ℕ → Processor → Bool → Bool
-outcome m p free = cond (leb 16 m && leb m 34) (jumps m p) free
+-- jrcxz, jecxz, jcxz jump where the low 64, 32, 16 bits of register 1 are 0 (M29).
+unfoldable pub jumpsAt : Counter → Processor → Bool
+jumpsAt Rcx p = eqb (value p 1) 0
+jumpsAt Ecx p = eqb (value p 1 % 2 ^ 32) 0
+jumpsAt Cx p = eqb (value p 1 % 2 ^ 16) 0
+
+-- Whether a conditional branch jumps: the jumps by the manual, any other as it is chosen (M20, M29).
+unfoldable pub outcome : Mnemonic → Processor → Bool → Bool
+outcome Other p free = free
+outcome (Carry c) p free = free
+outcome Mov p free = free
+outcome Not p free = free
+outcome (TwoOperand op) p free = free
+outcome (OneOperand op) p free = free
+outcome (Jump c) p free = jumpsOn c (p .status)
+outcome (CountJump c) p free = jumpsAt c p

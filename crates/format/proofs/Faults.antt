@@ -4,7 +4,7 @@ use Prim.Native.Nat.{ℕ, _+_, _*_, _/_, _%_, _<_, _≤_}
 use mathlib.Core.Path.{_≡_, refl, sym, _∙_}
 use mathlib.Core.Logic.{_⊎_, inl, inr, ⊎-elim}
 use mathlib.Core.Option.{Option, none, some}
-use mathlib.Core.Bool.{Bool, true, false, not, _&&_, _||_, or-true}
+use mathlib.Core.Bool.{Bool, true, false, cond, not, _&&_, _||_, or-true}
 use native.Mathlib.Omega.{arith}
 use lib.Dec.{eqb, leb}
 use borrow.Author.Tests.{eqb-true, eq-eqb, ne-eqb, not-false}
@@ -48,7 +48,7 @@ abbrev asked : Bool → Option Operand → Option Operand → ℕ → Bool
 asked call a b m = modelled (meansInstruction (record { address = 0; mnemonic = m; target = none; call = call; first = a; second = b; written = none; flags = none }))
 
 asked-is : (call : Bool) (a b : Option Operand) (m : ℕ) → m < 35 → asked call a b m ≡ needs call a b m
-unfolding table meansInstruction
+unfolding table meansInstruction Rattle.isa.specs.Mnemonics.named Rattle.isa.specs.Mnemonics.table
 asked-is true a b m lt = same-table (asked true a b) (needs true a b) 35 refl m lt
 asked-is false none b m lt = same-table (asked false none b) (needs false none b) 35 refl m lt
 asked-is false (some (imm v)) b m lt = same-table (asked false (some (imm v)) b) (needs false (some (imm v)) b) 35 refl m lt
@@ -88,8 +88,11 @@ modelled-is i le =
     record { holds = λ e. back i (i .call) (i .first) (i .second) refl refl refl (sym same ∙ e); passes = λ h. same ∙ needed i h }
 
 -- the fault itself, of an instruction that is modelled
+abbrev four : ℕ → Bool
+four f = eqb (f / 2 % 2) 1 && eqb (f / 4 % 2) 1 && eqb (f / 8 % 2) 1 && eqb (f / 16 % 2) 1
+
 abbrev undeclared : ℕ → ℕ → Bool
-undeclared m f = ((eqb m 13 || (eqb m 14 || eqb m 15)) && not (eqb (f / 2 % 16) 15)) || (eqb m 15 && not (eqb (f % 2) 1))
+undeclared m f = cond (eqb m 15) (not (four f && eqb (f / 1 % 2) 1)) (cond (eqb m 13 || eqb m 14) (not (four f)) false)
 
 abbrev faulty : Option Operand → Option Operand → Option ℕ → ℕ → Bool
 faulty a b f m =
@@ -100,8 +103,12 @@ abbrev judgedAt : Bool → Option Operand → Option Operand → Option ℕ → 
 judgedAt call a b f m = atFault (meansInstruction (record { address = 0; mnemonic = m; target = none; call = call; first = a; second = b; written = none; flags = f }))
 
 fault-is : (call : Bool) (a b : Option Operand) (f : Option ℕ) (m : ℕ) → m < 35 → judgedAt call a b f m ≡ (asked call a b m && faulty a b f m)
-unfolding table meansInstruction
+unfolding table meansInstruction Rattle.isa.specs.Mnemonics.named Rattle.isa.specs.Mnemonics.table
 fault-is call a b f m lt = same-table (judgedAt call a b f) (λ m. asked call a b m && faulty a b f m) 35 refl m lt
+
+both-true : (a b : Bool) → (a && b) ≡ true → (a ≡ true) × (b ≡ true)
+both-true true b e = (refl, e)
+both-true false b e = never e
 
 or-false : (a b : Bool) → (a || b) ≡ false → (a ≡ false) × (b ≡ false)
 or-false true b e = (e, cc)
@@ -151,34 +158,34 @@ declares (some f) flag some′ e = (f, refl, e)
 abbrev Counts : ℕ → Type 0
 Counts m = (m ≡ 13) ⊎ ((m ≡ 14) ⊎ (m ≡ 15))
 
-is-count : (m : ℕ) → Tests (eqb m 13 || (eqb m 14 || eqb m 15)) (Counts m)
-is-count m = of-or (of-eq m 13) (of-or (of-eq m 14) (of-eq m 15))
+is-four : (f : ℕ) → Tests (four f) ((((f / 2 % 2 ≡ 1) × (f / 4 % 2 ≡ 1)) × (f / 8 % 2 ≡ 1)) × (f / 16 % 2 ≡ 1))
+is-four f = of-and (of-and (of-and (of-eq (f / 2 % 2) 1) (of-eq (f / 4 % 2) 1)) (of-eq (f / 8 % 2) 1)) (of-eq (f / 16 % 2) 1)
 
-four-bits : (v : ℕ) → v / 2 % 2 ≡ 1 → v / 4 % 2 ≡ 1 → v / 8 % 2 ≡ 1 → v / 16 % 2 ≡ 1 → v / 2 % 16 ≡ 15
-four-bits v p z s o =
-    let e4 : v / 16 ≡ v / 16 % 2 + 2 * (v / 16 / 2) = omega arith in
-    let e3 : v / 8 ≡ v / 8 % 2 + 2 * (v / 16) = omega arith in
-    let e2 : v / 4 ≡ v / 4 % 2 + 2 * (v / 8) = omega arith in
-    let e1 : v / 2 ≡ v / 2 % 2 + 2 * (v / 4) = omega arith in
-    let e0 : v / 2 ≡ 16 * (v / 16 / 2) + 15 = omega arith in
-    omega arith
+four-of : (m f : ℕ) → undeclared m f ≡ false → Counts m → four f ≡ true
+four-of m f e (inl q) = not-false _ (rw q at e)
+four-of m f e (inr (inl q)) = not-false _ (rw q at e)
+four-of m f e (inr (inr q)) = both-true (four f) (eqb (f / 1 % 2) 1) (not-false _ (rw q at e)) .0
+
+carry-of : (m f : ℕ) → undeclared m f ≡ false → m ≡ 15 → f / 1 % 2 ≡ 1
+carry-of m f e q = eqb-true (f / 1 % 2) 1 (both-true (four f) (eqb (f / 1 % 2) 1) (not-false _ (rw q at e)) .1)
 
 all-declared : (i : Instruction) → Sound i → undeclared (i .mnemonic) (valueOf (i .flags)) ≡ false
 all-declared i h =
     let m = i .mnemonic in
     let v = valueOf (i .flags) in
-    let four : (eqb m 13 || (eqb m 14 || eqb m 15)) ≡ true → not (eqb (v / 2 % 16) 15) ≡ false = λ e.
-    let d = h .declared (is-count m .holds e) in
-    let p = bit-of (i .flags) 2 (d .0) in
-    let z = bit-of (i .flags) 4 (d .1) in
-    let s = bit-of (i .flags) 8 (d .2) in
-    let o = bit-of (i .flags) 16 (d .3) in
-    rw (eq-eqb (v / 2 % 16) 15 (four-bits v p z s o)) in
-    let carry : eqb m 15 ≡ true → not (eqb (v % 2) 1) ≡ false = λ e.
-    let c = bit-of (i .flags) 1 (h .carry (eqb-true m 15 e)) in
-    let low : v % 2 ≡ 1 = omega arith in
-    rw (eq-eqb (v % 2) 1 low) in
-    rw (both-false (eqb m 13 || (eqb m 14 || eqb m 15)) (not (eqb (v / 2 % 16) 15)) four, both-false (eqb m 15) (not (eqb (v % 2) 1)) carry)
+    let all : Counts m → four v ≡ true = λ n.
+    let d = h .declared n in
+    is-four v .passes (((bit-of (i .flags) 2 (d .0), bit-of (i .flags) 4 (d .1)), bit-of (i .flags) 8 (d .2)), bit-of (i .flags) 16 (d .3)) in
+    by-count m v (eqb m 15) (eqb m 13 || eqb m 14) refl refl all (λ q. bit-of (i .flags) 1 (h .carry q))
+  where
+    by-count : (m v : ℕ) (t u : Bool) → eqb m 15 ≡ t → (eqb m 13 || eqb m 14) ≡ u → (Counts m → four v ≡ true) → (m ≡ 15 → v / 1 % 2 ≡ 1) → undeclared m v ≡ false
+    by-count m v true u p q all carry =
+        let e : m ≡ 15 = eqb-true m 15 p in
+        rw (p, all (inr (inr e)), eq-eqb (v / 1 % 2) 1 (carry e))
+    by-count m v false true p q all carry =
+        let n : Counts m = ⊎-elim (λ e. inl e) (λ e. inr (inl e)) (of-or (of-eq m 13) (of-eq m 14) .holds q) in
+        rw (p, q, all n)
+    by-count m v false false p q all carry = rw (p, q)
 
 -- Sound as the tests have it
 sound-passes : (i : Instruction) → Sound i → faulty (i .first) (i .second) (i .flags) (i .mnemonic) ≡ false
@@ -195,19 +202,19 @@ sound-holds i e =
     let v = valueOf (i .flags) in
     let parts = or-false _ (undeclared m v) e in
     let front = or-false (sizesDiffer (meansOptional (i .first)) (meansOptional (i .second))) _ (parts .0) in
-    let flags = or-false _ (eqb m 15 && not (eqb (v % 2) 1)) (parts .1) in
     record {
       sizes = same-size (i .first) (i .second) (front .0);
       classes = λ other r.
           let o = or-false (outside (meansOptional (i .first))) (outside (meansOptional (i .second))) (after-true (not (eqb m 4)) _ (front .1) (rw (ne-eqb m 4 other))) in
           ⊎-elim (λ p. of-class (i .first) (o .0) r p) (λ p. of-class (i .second) (o .1) r p);
       declared = λ n.
-          let all : v / 2 % 16 ≡ 15 = eqb-true (v / 2 % 16) 15 (not-false _ (after-true (eqb m 13 || (eqb m 14 || eqb m 15)) _ (flags .0) (is-count m .passes n))) in
+          let all = is-four v .holds (four-of m v (parts .1) n) in
+          let pf : v / 2 % 2 ≡ 1 = all .0 .0 .0 in
           let some′ : v ≡ 0 → ⊥ = omega arith in
-          (declares (i .flags) 2 some′ (omega arith), declares (i .flags) 4 some′ (omega arith), declares (i .flags) 8 some′ (omega arith), declares (i .flags) 16 some′ (omega arith));
+          (declares (i .flags) 2 some′ pf, declares (i .flags) 4 some′ (all .0 .0 .1), declares (i .flags) 8 some′ (all .0 .1), declares (i .flags) 16 some′ (all .1));
       carry = λ n.
-          let low : v % 2 ≡ 1 = eqb-true (v % 2) 1 (not-false _ (after-true (eqb m 15) _ (flags .1) (eq-eqb m 15 n))) in
-          declares (i .flags) 1 (omega arith) (omega arith);
+          let low : v / 1 % 2 ≡ 1 = carry-of m v (parts .1) n in
+          declares (i .flags) 1 (omega arith) low;
     }
 
 fault-at : (i : Instruction) → i .mnemonic ≤ 34 → atFault (meansInstruction i) ≡ (modelled (meansInstruction i) && faulty (i .first) (i .second) (i .flags) (i .mnemonic))

@@ -1,2 +1,4 @@
 pub mod Register
+pub mod Mnemonics
+pub mod FlagBits
 pub mod Modelled

@@ -1,11 +1,16 @@
 -- Which instructions are modelled (a term of the scope document), and which modelled ones are at fault.
-use Prim.Native.Nat.{ℕ, _/_, _%_}
+use Prim.Native.Nat.{ℕ}
 use mathlib.Core.Bool.{Bool, true, false, not, _&&_, _||_}
-use lib.Dec.{leb, eqb}
+use lib.Dec.{eqb}
 use Rattle.isa.specs.declared.Register.{Register}
 use Rattle.isa.specs.declared.Operand.{Operand}
 use Rattle.isa.specs.declared.Operand.the-variants.{Absent, Reg, Imm, Mem}
+use Rattle.isa.specs.declared.Unary.{Unary}
+use Rattle.isa.specs.declared.Unary.the-variants.{Inc, Dec, Neg}
+use Rattle.isa.specs.declared.Mnemonic.{Mnemonic}
+use Rattle.isa.specs.declared.Mnemonic.the-variants.{Other, Carry, Mov, Not, TwoOperand, OneOperand, Jump, CountJump}
 use Rattle.isa.specs.declared.Instruction.{Instruction}
+use Rattle.isa.specs.FlagBits.{CF, PF, ZF, SF, OF, declares}
 
 abbrev pub isRegister : Operand → Bool
 isRegister Absent = false
@@ -19,18 +24,23 @@ isAbsent (Reg r) = false
 isAbsent (Imm v) = false
 isAbsent Mem = false
 
--- Machine: modelled, if not call-like (a call, an indirect call, a syscall or an interrupt): stc, clc, cmc (1 to 3); with
--- two operands, the first a register, mov (4) and add to test (6 to 12); with one operand, a register, not (5) and inc,
--- dec, neg (13 to 15).
-abbrev pub modelled : Instruction → Bool
-modelled i =
-    not (i .call)
-    && (leb 1 (i .mnemonic) && leb (i .mnemonic) 3
-    || (isRegister (i .first)
-    && ((eqb (i .mnemonic) 4 || leb 6 (i .mnemonic) && leb (i .mnemonic) 12) && not (isAbsent (i .second))
-    || (eqb (i .mnemonic) 5 || leb 13 (i .mnemonic) && leb (i .mnemonic) 15) && isAbsent (i .second))))
+-- Which operands a mnemonic is modelled with: `register` says that the first one is a register, `alone` that there is no
+-- second. stc, clc, cmc take any; mov and add to test two; not and inc, dec, neg one (M6).
+abbrev pub takes : Mnemonic → Bool → Bool → Bool
+takes Other register alone = false
+takes (Carry c) register alone = true
+takes Mov register alone = register && not alone
+takes Not register alone = register && alone
+takes (TwoOperand op) register alone = register && not alone
+takes (OneOperand op) register alone = register && alone
+takes (Jump c) register alone = false
+takes (CountJump c) register alone = false
 
--- Turned back, 6: both operands are registers of class 1, and their sizes differ
+-- Modelled: not call-like (a call, an indirect call, a syscall or an interrupt), and with such operands (M6).
+abbrev pub modelled : Instruction → Bool
+modelled i = not (i .call) && takes (i .mnemonic) (isRegister (i .first)) (isAbsent (i .second))
+
+-- Both operands are registers of class 1, and their sizes differ (R14).
 abbrev pub sizesDiffer : Operand → Operand → Bool
 sizesDiffer Absent b = false
 sizesDiffer (Reg x) Absent = false
@@ -40,24 +50,49 @@ sizesDiffer (Reg x) Mem = false
 sizesDiffer (Imm v) b = false
 sizesDiffer Mem b = false
 
--- Turned back, 6: a register outside class 1
+-- A register outside class 1 (R15).
 abbrev pub outside : Operand → Bool
 outside Absent = false
 outside (Reg x) = not (eqb (x .class) 1)
 outside (Imm v) = false
 outside Mem = false
 
--- Turned back, 6: inc, dec, neg (13 to 15) declare PF, ZF, SF and OF (bits 1 to 4), and neg (15) declares CF (bit 0) too
-abbrev pub undeclared : ℕ → ℕ → Bool
-undeclared m flags =
-    leb 13 m && leb m 15 && not (eqb (flags / 2 % 16) 15)
-    || eqb m 15 && not (eqb (flags % 2) 1)
+-- Only mov may have one (R15).
+abbrev pub isMov : Mnemonic → Bool
+isMov Other = false
+isMov (Carry c) = false
+isMov Mov = true
+isMov Not = false
+isMov (TwoOperand op) = false
+isMov (OneOperand op) = false
+isMov (Jump c) = false
+isMov (CountJump c) = false
 
--- Turned back, 6: a modelled instruction whose register operands of class 1 differ in size, or that is no mov (4) and has
--- a register outside class 1, or that leaves flags undeclared
+-- PF, ZF, SF and OF are declared (R16).
+abbrev pub declaresResult : ℕ → Bool
+declaresResult flags = declares flags PF && declares flags ZF && declares flags SF && declares flags OF
+
+-- inc and dec declare these, neg declares CF too (R16).
+abbrev pub declaresOwn : Unary → ℕ → Bool
+declaresOwn Inc flags = declaresResult flags
+declaresOwn Dec flags = declaresResult flags
+declaresOwn Neg flags = declaresResult flags && declares flags CF
+
+-- inc, dec or neg leaves one of them out; nothing else must declare a flag (R16).
+abbrev pub undeclared : Mnemonic → ℕ → Bool
+undeclared Other flags = false
+undeclared (Carry c) flags = false
+undeclared Mov flags = false
+undeclared Not flags = false
+undeclared (TwoOperand op) flags = false
+undeclared (OneOperand op) flags = not (declaresOwn op flags)
+undeclared (Jump c) flags = false
+undeclared (CountJump c) flags = false
+
+-- A modelled instruction with one of these three faults (R14, R15, R16).
 abbrev pub atFault : Instruction → Bool
 atFault i =
     modelled i
     && (sizesDiffer (i .first) (i .second)
-    || not (eqb (i .mnemonic) 4) && (outside (i .first) || outside (i .second))
+    || not (isMov (i .mnemonic)) && (outside (i .first) || outside (i .second))
     || undeclared (i .mnemonic) (i .flags))

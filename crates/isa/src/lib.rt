@@ -1,8 +1,11 @@
-// Instructions as values: registers, operands, mnemonics by number; which instructions are
+// Instructions as values: registers, operands, mnemonics by name; which instructions are
 // modelled, and which of those are at fault. Nothing here knows how a sheet writes them.
 ghost use mathlib.Core.Path.{_≡_};
+ghost use Prim.Native.Nat.{_<_};
 ghost use Rattle.isa.specs.Register.{wellFormed};
-ghost use Rattle.isa.specs.Modelled.{isRegister, isAbsent, modelled, sizesDiffer, outside, undeclared, atFault};
+ghost use Rattle.isa.specs.Mnemonics.{named};
+ghost use Rattle.isa.specs.FlagBits.{declares};
+ghost use Rattle.isa.specs.Modelled.{isRegister, isAbsent, takes, modelled, sizesDiffer, outside, isMov, declaresResult, declaresOwn, undeclared, atFault};
 
 // Class 1 are the general registers; index, size in bits and offset in bits name the part.
 pub struct Register {
@@ -19,9 +22,73 @@ pub enum Operand {
     Mem,
 }
 
+// The instructions that change CF alone.
+pub enum CarryChange {
+    Stc,
+    Clc,
+    Cmc,
+}
+
+// The operations on two operands that set flags.
+pub enum Binary {
+    Add,
+    Sub,
+    Cmp,
+    And,
+    Or,
+    Xor,
+    Test,
+}
+
+// The operations on one operand that set flags.
+pub enum Unary {
+    Inc,
+    Dec,
+    Neg,
+}
+
+// The conditions of jumps on flags.
+pub enum Condition {
+    E,
+    Ne,
+    L,
+    Ge,
+    Le,
+    G,
+    B,
+    Ae,
+    Be,
+    A,
+    S,
+    Ns,
+    P,
+    Np,
+    O,
+    No,
+}
+
+// The register that a count-register jump tests.
+pub enum Counter {
+    Rcx,
+    Ecx,
+    Cx,
+}
+
+// A mnemonic by what the rules make of it; `Other` is any that they do not name.
+pub enum Mnemonic {
+    Other,
+    Carry(CarryChange),
+    Mov,
+    Not,
+    TwoOperand(Binary),
+    OneOperand(Unary),
+    Jump(Condition),
+    CountJump(Counter),
+}
+
 pub struct Instruction {
     pub address: u64,
-    pub mnemonic: u64,
+    pub mnemonic: Mnemonic,
     // a conditional branch, to target
     pub branch: bool,
     pub target: u64,
@@ -32,8 +99,74 @@ pub struct Instruction {
     // the registers that it declares as written: the first count of these
     pub written: [Register; 8],
     pub count: u64,
-    // the flags that it declares as written: CF 1, PF 2, ZF 4, SF 8, OF 16
+    // the flags that it declares as written
     pub flags: u64,
+}
+
+const MNEMONICS: [Mnemonic; 35] = [
+    Mnemonic::Other,
+    Mnemonic::Carry(CarryChange::Stc),
+    Mnemonic::Carry(CarryChange::Clc),
+    Mnemonic::Carry(CarryChange::Cmc),
+    Mnemonic::Mov,
+    Mnemonic::Not,
+    Mnemonic::TwoOperand(Binary::Add),
+    Mnemonic::TwoOperand(Binary::Sub),
+    Mnemonic::TwoOperand(Binary::Cmp),
+    Mnemonic::TwoOperand(Binary::And),
+    Mnemonic::TwoOperand(Binary::Or),
+    Mnemonic::TwoOperand(Binary::Xor),
+    Mnemonic::TwoOperand(Binary::Test),
+    Mnemonic::OneOperand(Unary::Inc),
+    Mnemonic::OneOperand(Unary::Dec),
+    Mnemonic::OneOperand(Unary::Neg),
+    Mnemonic::Jump(Condition::E),
+    Mnemonic::Jump(Condition::Ne),
+    Mnemonic::Jump(Condition::L),
+    Mnemonic::Jump(Condition::Ge),
+    Mnemonic::Jump(Condition::Le),
+    Mnemonic::Jump(Condition::G),
+    Mnemonic::Jump(Condition::B),
+    Mnemonic::Jump(Condition::Ae),
+    Mnemonic::Jump(Condition::Be),
+    Mnemonic::Jump(Condition::A),
+    Mnemonic::Jump(Condition::S),
+    Mnemonic::Jump(Condition::Ns),
+    Mnemonic::Jump(Condition::P),
+    Mnemonic::Jump(Condition::Np),
+    Mnemonic::Jump(Condition::O),
+    Mnemonic::Jump(Condition::No),
+    Mnemonic::CountJump(Counter::Rcx),
+    Mnemonic::CountJump(Counter::Ecx),
+    Mnemonic::CountJump(Counter::Cx),
+];
+
+// The mnemonic of a number.
+pub fn mnemonic_of(number: u64) -> Mnemonic
+    requires { ⌜ number < 35 ⌝ }
+    ensures { λ r. ⌜ r ≡ named number ⌝ }
+{
+    let table = MNEMONICS;
+    table[number as usize]
+}
+
+// The bits of the declared flags.
+pub const CF: u64 = 1;
+
+pub const PF: u64 = 2;
+
+pub const ZF: u64 = 4;
+
+pub const SF: u64 = 8;
+
+pub const OF: u64 = 16;
+
+// Whether that flag is among the declared ones.
+pub fn is_declared(flags: u64, flag: u64) -> bool
+    requires { ⌜ 0 < flag ⌝ }
+    ensures { λ r. ⌜ r ≡ declares flags flag ⌝ }
+{
+    flags / flag % 2 == 1
 }
 
 pub fn well_formed(r: Register) -> bool
@@ -69,6 +202,22 @@ pub fn is_absent(o: Operand) -> bool
     }
 }
 
+// Whether the rules cover the mnemonic with such operands.
+fn is_taken(m: Mnemonic, register: bool, alone: bool) -> bool
+    ensures { λ r. ⌜ r ≡ takes m register alone ⌝ }
+{
+    match m {
+        Mnemonic::Other => false,
+        Mnemonic::Carry(_) => true,
+        Mnemonic::Mov => register & !alone,
+        Mnemonic::Not => register & alone,
+        Mnemonic::TwoOperand(_) => register & !alone,
+        Mnemonic::OneOperand(_) => register & alone,
+        Mnemonic::Jump(_) => false,
+        Mnemonic::CountJump(_) => false,
+    }
+}
+
 // Whether the machine's rules cover the instruction beyond what it declares.
 pub fn is_modelled(i: Instruction) -> bool
     ensures { λ r. ⌜ r ≡ modelled i ⌝ }
@@ -76,11 +225,7 @@ pub fn is_modelled(i: Instruction) -> bool
     let m = i.mnemonic;
     let first = i.first;
     let second = i.second;
-    let one = is_absent(second);
-    let two_operands = (m == 4) | ((6 <= m) & (m <= 12));
-    let one_operand = (m == 5) | ((13 <= m) & (m <= 15));
-    let carry = (1 <= m) & (m <= 3);
-    !i.call & (carry | (is_register(first) & ((two_operands & !one) | (one_operand & one))))
+    !i.call & is_taken(m, is_register(first), is_absent(second))
 }
 
 fn sizes_differ(a: Operand, b: Operand) -> bool
@@ -110,10 +255,56 @@ fn is_outside(o: Operand) -> bool
     }
 }
 
-fn is_undeclared(m: u64, flags: u64) -> bool
+fn is_mov(m: Mnemonic) -> bool
+    ensures { λ r. ⌜ r ≡ isMov m ⌝ }
+{
+    match m {
+        Mnemonic::Other => false,
+        Mnemonic::Carry(_) => false,
+        Mnemonic::Mov => true,
+        Mnemonic::Not => false,
+        Mnemonic::TwoOperand(_) => false,
+        Mnemonic::OneOperand(_) => false,
+        Mnemonic::Jump(_) => false,
+        Mnemonic::CountJump(_) => false,
+    }
+}
+
+// Whether the flags that a result sets beside CF are declared.
+fn declares_result(flags: u64) -> bool
+    ensures { λ r. ⌜ r ≡ declaresResult flags ⌝ }
+{
+    is_declared(flags, PF)
+        & is_declared(flags, ZF)
+        & is_declared(flags, SF)
+        & is_declared(flags, OF)
+}
+
+// Whether the flags that the operation sets are declared.
+fn declares_own(op: Unary, flags: u64) -> bool
+    ensures { λ r. ⌜ r ≡ declaresOwn op flags ⌝ }
+{
+    let four = declares_result(flags);
+    match op {
+        Unary::Inc => four,
+        Unary::Dec => four,
+        Unary::Neg => four & is_declared(flags, CF),
+    }
+}
+
+fn is_undeclared(m: Mnemonic, flags: u64) -> bool
     ensures { λ r. ⌜ r ≡ undeclared m flags ⌝ }
 {
-    ((13 <= m) & (m <= 15) & (flags / 2 % 16 != 15)) | ((m == 15) & (flags % 2 != 1))
+    match m {
+        Mnemonic::Other => false,
+        Mnemonic::Carry(_) => false,
+        Mnemonic::Mov => false,
+        Mnemonic::Not => false,
+        Mnemonic::TwoOperand(_) => false,
+        Mnemonic::OneOperand(op) => !declares_own(op, flags),
+        Mnemonic::Jump(_) => false,
+        Mnemonic::CountJump(_) => false,
+    }
 }
 
 // Refusal 6.
@@ -123,6 +314,6 @@ pub fn is_at_fault(i: Instruction) -> bool
     let m = i.mnemonic;
     let first = i.first;
     let second = i.second;
-    let other_class = (m != 4) & (is_outside(first) | is_outside(second));
+    let other_class = !is_mov(m) & (is_outside(first) | is_outside(second));
     is_modelled(i) & (sizes_differ(first, second) | other_class | is_undeclared(m, i.flags))
 }

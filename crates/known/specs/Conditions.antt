@@ -1,30 +1,34 @@
 -- Machine: what is known of the conditions of jumps.
-use Prim.Native.Nat.{ℕ, _/_, _%_}
-use mathlib.Core.Bool.{cond}
 use lib.Dec.{eqb}
+use Rattle.isa.specs.declared.Condition.{Condition}
+use Rattle.isa.specs.declared.Condition.the-variants.{E, Ne, L, Ge, Le, G, B, Ae, Be, A, S, Ns, P, Np, O, No}
 use Rattle.alu.specs.declared.Flag.{Flag}
 use Rattle.alu.specs.declared.Flags.{Flags}
-use Rattle.alu.specs.Flags.{opposite, either, differ}
+use Rattle.alu.specs.Flags.{opposite, either, both, differ}
 use Rattle.known.specs.declared.Value.{Value}
 use Rattle.known.specs.declared.Value.the-variants.{Known, Unknown}
 use Rattle.alu.specs.declared.Flag.the-variants as flag
 
--- The jumps 16 to 31 stand in pairs, a condition and its opposite: e, l, le, b, be, s, p, o. The condition of a pair:
-unfoldable pub tested : ℕ → Flags → Flag
-tested pair f =
-    cond (eqb pair 8) (f .zf)
-    (cond (eqb pair 9) (differ (f .sf) (f .of))
-    (cond (eqb pair 10) (either (f .zf) (differ (f .sf) (f .of)))
-    (cond (eqb pair 11) (f .cf)
-    (cond (eqb pair 12) (either (f .cf) (f .zf))
-    (cond (eqb pair 13) (f .sf)
-    (cond (eqb pair 14) (f .pf) (f .of)))))))
+-- What is known of a condition of flags, case by case as the Rust's `holds` has it (M18, S23).
+unfoldable pub flagCondition : Condition → Flags → Flag
+flagCondition E f = f .zf
+flagCondition Ne f = opposite (f .zf)
+flagCondition L f = differ (f .sf) (f .of)
+flagCondition Ge f = opposite (differ (f .sf) (f .of))
+flagCondition Le f = either (f .zf) (differ (f .sf) (f .of))
+flagCondition G f = both (opposite (f .zf)) (opposite (differ (f .sf) (f .of)))
+flagCondition B f = f .cf
+flagCondition Ae f = opposite (f .cf)
+flagCondition Be f = either (f .cf) (f .zf)
+flagCondition A f = both (opposite (f .cf)) (opposite (f .zf))
+flagCondition S f = f .sf
+flagCondition Ns f = opposite (f .sf)
+flagCondition P f = f .pf
+flagCondition Np f = opposite (f .pf)
+flagCondition O f = f .of
+flagCondition No f = opposite (f .of)
 
--- e 16, ne 17, l 18, ge 19, le 20, g 21, b 22, ae 23, be 24, a 25, s 26, ns 27, p 28, np 29, o 30, no 31
-unfoldable pub flagCondition : ℕ → Flags → Flag
-flagCondition m f = cond (eqb (m % 2) 1) (opposite (tested (m / 2) f)) (tested (m / 2) f)
-
--- the condition of a count-register jump, on the part of the register that it reads
+-- The condition of a count-register jump, on the part of the register that it reads (M19).
 abbrev pub isZero : Value → Flag
 isZero (Known x) = flag.Known (eqb x 0)
 isZero Unknown = flag.Unknown

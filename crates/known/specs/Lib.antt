@@ -1,3 +1,4 @@
 pub mod Values
+pub mod Registers
 pub mod Operations
 pub mod Conditions

@@ -1,14 +1,20 @@
 -- Machine: what an instruction leaves, as far as values and flags go, in the order of the scope document.
-use Prim.Native.Nat.{ℕ, _-_, _/_, _%_, _^_}
-use mathlib.Core.Bool.{Bool, true, false, cond, _&&_, _||_}
-use lib.Dec.{leb, eqb}
+use Prim.Native.Nat.{ℕ, _-_, _^_}
+use mathlib.Core.Bool.{Bool, true, false, cond, _&&_}
+use Rattle.isa.specs.declared.CarryChange.{CarryChange}
+use Rattle.isa.specs.declared.CarryChange.the-variants.{Stc, Clc, Cmc}
+use Rattle.isa.specs.declared.Binary.{Binary}
+use Rattle.isa.specs.declared.Binary.the-variants.{Add, Sub, Cmp, And, Or, Xor, Test}
+use Rattle.isa.specs.declared.Unary.{Unary}
+use Rattle.isa.specs.declared.Unary.the-variants.{Inc, Dec, Neg}
+use Rattle.isa.specs.FlagBits.{CF, PF, ZF, SF, OF, declares}
 use Rattle.alu.specs.declared.Width.{Width}
 use Rattle.alu.specs.declared.Flag.{Flag}
 use Rattle.alu.specs.declared.Flags.{Flags}
 use Rattle.alu.specs.declared.Operation.{Operation}
-use Rattle.alu.specs.declared.Operation.the-variants.{Add, Sub, And, Or, Xor}
-use Rattle.alu.specs.declared.Outcome.{Outcome}
-use Rattle.alu.specs.Arithmetic.{outcome, resultFlags}
+use Rattle.alu.specs.declared.Operation.the-variants as operation
+use Rattle.alu.specs.declared.Performed.{Performed}
+use Rattle.alu.specs.Arithmetic.{performed, resultFlags}
 use Rattle.alu.specs.Flags.{opposite}
 use Rattle.known.specs.declared.Value.{Value}
 use Rattle.known.specs.declared.Value.the-variants.{Known, Unknown}
@@ -16,94 +22,113 @@ use Rattle.known.specs.declared.Effect.{Effect}
 use Rattle.known.specs.Values.{onValue}
 use Rattle.alu.specs.declared.Flag.the-variants as flag
 
--- stc (1) sets CF, clc (2) clears it, cmc (3) turns it round where it is known.
-unfoldable pub carryRule : ℕ → Flag → Flag
-carryRule m cf = cond (eqb m 1) (flag.Known true) (cond (eqb m 2) (flag.Known false) (opposite cf))
+-- stc sets CF, clc clears it, cmc turns it round where it is known (S22).
+abbrev pub carryRule : CarryChange → Flag → Flag
+carryRule Stc cf = flag.Known true
+carryRule Clc cf = flag.Known false
+carryRule Cmc cf = opposite cf
 
--- not (5): the complement at 64 bits, which the write cuts to size.
+-- not: the complement at 64 bits, which the write cuts to size (S22).
 abbrev pub complement : Value → Value
 complement v = onValue (λ x. 2 ^ 64 - 1 - x) v
 
--- the operation behind add 6, sub 7, cmp 8, and 9, or 10, xor 11, test 12
-unfoldable pub operationOf : ℕ → Operation
-operationOf m =
-    cond (eqb m 6) Add (cond (eqb m 7 || eqb m 8) Sub (cond (eqb m 9 || eqb m 12) And (cond (eqb m 10) Or Xor)))
+-- the operation of each instruction: cmp is sub and test is and, as far as flags go (S22)
+abbrev pub operationOf : Binary → Operation
+operationOf Add = operation.Add
+operationOf Sub = operation.Sub
+operationOf Cmp = operation.Sub
+operationOf And = operation.And
+operationOf Or = operation.Or
+operationOf Xor = operation.Xor
+operationOf Test = operation.And
 
--- and, or, xor, test
-abbrev pub isLogical : ℕ → Bool
-isLogical m = leb 9 m
+-- xor, sub, cmp have the same result for a register with itself, whatever it holds (M12)
+abbrev pub isIdiom : Binary → Bool
+isIdiom Add = false
+isIdiom Sub = true
+isIdiom Cmp = true
+isIdiom And = false
+isIdiom Or = false
+isIdiom Xor = true
+isIdiom Test = false
 
--- sub, cmp, xor of a register with itself
-abbrev pub isIdiom : ℕ → Bool → Bool
-isIdiom m same = (eqb m 7 || eqb m 8 || eqb m 11) && same
-
--- A register with itself: the result is 0 and all five flags are settled, also with the value unknown.
-unfoldable pub settled : Width → Effect
-settled w = record { value = Known 0; flags = resultFlags w 0 false false }
+-- A register with itself: the result is 0, and so all five flags are known, also with the value unknown (M12).
+unfoldable pub ofItself : Width → Effect
+ofItself w = record { value = Known 0; flags = resultFlags w 0 false false }
 
 -- no flag known
 abbrev pub noFlags : Flags
 noFlags = record { cf = flag.Unknown; pf = flag.Unknown; zf = flag.Unknown; sf = flag.Unknown; of = flag.Unknown }
 
--- With an unknown operand and, or, xor, test clear CF and OF and forget the rest; add, sub, cmp forget all five.
-unfoldable pub unsettled : ℕ → Effect
-unsettled m =
-    cond (isLogical m)
-    (record {
-      value = Unknown;
-      flags = record { cf = flag.Known false; pf = flag.Unknown; zf = flag.Unknown; sf = flag.Unknown; of = flag.Known false };
-    })
-    (record { value = Unknown; flags = noFlags })
+-- CF and OF known to be clear
+abbrev pub bitwiseFlags : Flags
+bitwiseFlags = record { cf = flag.Known false; pf = flag.Unknown; zf = flag.Unknown; sf = flag.Unknown; of = flag.Known false }
 
--- both operands known
-unfoldable pub performed : ℕ → Width → ℕ → ℕ → Effect
-performed m w a b =
-    let o = outcome (operationOf m) w a b in
+-- The flags after an unknown operand: and, or, xor, test clear CF and OF; the rest, and all of add, sub, cmp, is unknown
+-- (M13, M14).
+abbrev pub ofUnknown : Binary → Flags
+ofUnknown Add = noFlags
+ofUnknown Sub = noFlags
+ofUnknown Cmp = noFlags
+ofUnknown And = bitwiseFlags
+ofUnknown Or = bitwiseFlags
+ofUnknown Xor = bitwiseFlags
+ofUnknown Test = bitwiseFlags
+
+-- both operands known (M10, M11)
+unfoldable pub ofKnown : Binary → Width → ℕ → ℕ → Effect
+ofKnown op w a b =
+    let o = performed (operationOf op) w a b in
     record { value = Known (o .value); flags = o .flags }
 
--- known where both operands are
-abbrev pub onOperands : ℕ → Width → Value → Value → Effect
-onOperands m w (Known a) (Known b) = performed m w a b
-onOperands m w (Known a) Unknown = unsettled m
-onOperands m w Unknown b = unsettled m
+-- known where both operands are (M13, M14)
+abbrev pub onOperands : Binary → Width → Value → Value → Effect
+onOperands op w (Known a) (Known b) = ofKnown op w a b
+onOperands op w (Known a) Unknown = record { value = Unknown; flags = ofUnknown op }
+onOperands op w Unknown b = record { value = Unknown; flags = ofUnknown op }
 
--- The effect of add to test: the register with itself first, then by what is known of the operands.
-unfoldable pub arithEffect : ℕ → Width → Bool → Value → Value → Effect
-arithEffect m w same a b = cond (isIdiom m same) (settled w) (onOperands m w a b)
+-- The effect of add to test: the register with itself first, then by what is known of the operands (M12, M13, M14).
+unfoldable pub arithEffect : Binary → Width → Bool → Value → Value → Effect
+arithEffect op w same a b = cond (isIdiom op && same) (ofItself w) (onOperands op w a b)
 
 -- flags with another CF
 abbrev pub withCarry : Flags → Flag → Flags
 withCarry f cf = record { cf = cf; pf = f .pf; zf = f .zf; sf = f .sf; of = f .of }
 
--- inc (13) adds 1, dec (14) takes 1 away, both keep CF; neg (15) is zero minus the value, CF its borrow.
-unfoldable pub unaryOutcome : ℕ → Width → ℕ → Outcome
-unaryOutcome m w a = cond (eqb m 13) (outcome Add w a 1) (cond (eqb m 14) (outcome Sub w a 1) (outcome Sub w 0 a))
+-- inc adds 1, dec takes 1 away, neg is zero minus the value, CF its borrow (M10).
+abbrev pub alone : Unary → Width → ℕ → Performed
+alone Inc w a = performed operation.Add w a 1
+alone Dec w a = performed operation.Sub w a 1
+alone Neg w a = performed operation.Sub w 0 a
 
--- inc and dec keep CF, neg sets its own
-unfoldable pub keptCarry : ℕ → Flag → Flags → Flags
-keptCarry m cf f = cond (eqb m 15) f (withCarry f cf)
+-- inc and dec keep CF, neg sets its own (M15, M16)
+abbrev pub keptCarry : Unary → Flag → Flags → Flags
+keptCarry Inc cf f = withCarry f cf
+keptCarry Dec cf f = withCarry f cf
+keptCarry Neg cf f = f
 
 -- inc, dec, neg of a known value
-unfoldable pub unaryEffect : ℕ → Width → Flag → ℕ → Effect
-unaryEffect m w cf a =
-    let o = unaryOutcome m w a in
-    record { value = Known (o .value); flags = keptCarry m cf (o .flags) }
+unfoldable pub unaryEffect : Unary → Width → Flag → ℕ → Effect
+unaryEffect op w cf a =
+    let o = alone op w a in
+    record { value = Known (o .value); flags = keptCarry op cf (o .flags) }
 
--- inc and dec of an unknown register keep CF; neg forgets it.
-abbrev pub unknownCarry : ℕ → Flag → Flag
-unknownCarry m cf = cond (eqb m 15) flag.Unknown cf
+-- inc and dec of an unknown register keep CF; neg forgets it (M15, M16).
+abbrev pub unknownCarry : Unary → Flag → Flag
+unknownCarry Inc cf = cf
+unknownCarry Dec cf = cf
+unknownCarry Neg cf = flag.Unknown
 
--- a flag is forgotten where its bit of the declared flags is set
-abbrev pub forgetFlag : ℕ → Flag → Flag
-forgetFlag bit f = cond (eqb bit 1) flag.Unknown f
+abbrev pub forgetFlag : Bool → Flag → Flag
+forgetFlag declared f = cond declared flag.Unknown f
 
--- Flags that are declared as written are forgotten: CF 1, PF 2, ZF 4, SF 8, OF 16.
+-- Flags that are declared as written are forgotten (M17, S12).
 unfoldable pub forgetFlags : ℕ → Flags → Flags
 forgetFlags declared f =
     record {
-      cf = forgetFlag (declared % 2) (f .cf);
-      pf = forgetFlag (declared / 2 % 2) (f .pf);
-      zf = forgetFlag (declared / 4 % 2) (f .zf);
-      sf = forgetFlag (declared / 8 % 2) (f .sf);
-      of = forgetFlag (declared / 16 % 2) (f .of);
+      cf = forgetFlag (declares declared CF) (f .cf);
+      pf = forgetFlag (declares declared PF) (f .pf);
+      zf = forgetFlag (declares declared ZF) (f .zf);
+      sf = forgetFlag (declares declared SF) (f .sf);
+      of = forgetFlag (declares declared OF) (f .of);
     }

@@ -29,13 +29,13 @@ abbrev pub onValue : (ℕ → ℕ) → Value → Value
 onValue f (Known x) = Known (f x)
 onValue f Unknown = Unknown
 
--- a known part in a whole register that is known; in one that is not, the whole stays unknown
+-- a known part in a whole register that is known; in one that is not, the whole stays unknown (M8)
 abbrev pub onto : Width → ℕ → ℕ → Value → Value
 onto w offset x (Known old) = Known (inserted w offset old x)
 onto w offset x Unknown = Unknown
 
 -- The whole after a write: unknown after an unknown one; a known 64-bit one is the whole, a known 32-bit one clears the
--- upper half, a known 8- or 16-bit one leaves an unknown register unknown and keeps the rest of a known one.
+-- upper half, a known 8- or 16-bit one leaves an unknown register unknown and keeps the rest of a known one (M7, M8, M9).
 unfoldable pub merged : Width → ℕ → Value → Value → Value
 merged w offset old Unknown = Unknown
 merged Byte offset old (Known x) = onto Byte offset x old

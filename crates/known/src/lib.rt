@@ -1,19 +1,30 @@
-// What instructions leave of values and flags, each known or not: the parts of a register, the effect of an operation, the
-// conditions of jumps. Where values stand, in registers or in memory, is not known here.
+// What is known of values, of registers by their parts, and of flags, and what operations leave of it. Which register an
+// instruction means is not known here.
 use alu::Flag;
 use alu::Flags;
 use alu::Operation;
-use alu::Outcome;
+use alu::Performed;
 use alu::Width;
+use isa::Binary;
+use isa::CarryChange;
+use isa::Condition;
+use isa::Unary;
 ghost use mathlib.Core.Path.{_≡_};
 ghost use Rattle.known.specs.Values.{extracted, inserted, onValue, onto, merged};
-ghost use Rattle.known.specs.Operations.{carryRule, complement, operationOf, settled, unsettled, performed, onOperands, arithEffect, withCarry, unaryOutcome, keptCarry, unknownCarry, unaryEffect, forgetFlag, forgetFlags};
-ghost use Rattle.known.specs.Conditions.{tested, flagCondition, isZero};
+ghost use Rattle.known.specs.Registers.{unmarked, contents, slotOf, partOf, withPart};
+ghost use Rattle.known.specs.Operations.{carryRule, complement, operationOf, isIdiom, ofItself, noFlags, bitwiseFlags, ofUnknown, ofKnown, onOperands, arithEffect, withCarry, alone, keptCarry, unknownCarry, unaryEffect, forgetFlag, forgetFlags};
+ghost use Rattle.known.specs.Conditions.{flagCondition, isZero};
 
 // A value that is read or written: known or not.
 pub enum Value {
     Known(u64),
     Unknown,
+}
+
+// What is known of a register: its value, which means nothing where it is not marked as known; then it is 0.
+pub struct Slot {
+    pub known: bool,
+    pub value: u64,
 }
 
 // The part of a whole register that a width and an offset name. Offset 8 counts at 8 bits alone.
@@ -46,8 +57,7 @@ fn insert(w: Width, offset: u64, old: u64, x: u64) -> u64
     }
 }
 
-// The part of a whole register, where the whole is known.
-pub fn part(w: Width, offset: u64, v: Value) -> Value
+fn part(w: Width, offset: u64, v: Value) -> Value
     ensures { λ r. ⌜ r ≡ onValue (extracted w offset) v ⌝ }
 {
     match v {
@@ -67,7 +77,7 @@ fn onto_whole(w: Width, offset: u64, x: u64, old: Value) -> Value
 }
 
 // The whole register after a write to it.
-pub fn merge(w: Width, offset: u64, old: Value, v: Value) -> Value
+fn merge(w: Width, offset: u64, old: Value, v: Value) -> Value
     ensures { λ r. ⌜ r ≡ merged w offset old v ⌝ }
 {
     match v {
@@ -81,17 +91,59 @@ pub fn merge(w: Width, offset: u64, old: Value, v: Value) -> Value
     }
 }
 
-// stc, clc, cmc.
-pub fn carry_rule(m: u64, cf: Flag) -> Flag
-    ensures { λ f. ⌜ f ≡ carryRule m cf ⌝ }
+// A register of which nothing is known.
+pub fn unknown() -> Slot
+    ensures { λ r. ⌜ r ≡ unmarked ⌝ }
 {
-    if m == 1 {
-        return Flag::Known(true);
+    Slot {
+        known: false,
+        value: 0,
     }
-    if m == 2 {
-        return Flag::Known(false);
+}
+
+fn contents_of(s: Slot) -> Value
+    ensures { λ r. ⌜ r ≡ contents s ⌝ }
+{
+    if s.known {
+        Value::Known(s.value)
+    } else {
+        Value::Unknown
     }
-    alu::not(cf)
+}
+
+fn slot_of(v: Value) -> Slot
+    ensures { λ r. ⌜ r ≡ slotOf v ⌝ }
+{
+    match v {
+        Value::Known(value) => Slot { known: true, value },
+        Value::Unknown => unknown(),
+    }
+}
+
+// What is known of a part of a register.
+pub fn read(w: Width, offset: u64, s: Slot) -> Value
+    ensures { λ r. ⌜ r ≡ partOf w offset s ⌝ }
+{
+    part(w, offset, contents_of(s))
+}
+
+// What is known of a register after a write to a part of it.
+pub fn write(w: Width, offset: u64, s: Slot, v: Value) -> Slot
+    ensures { λ r. ⌜ r ≡ withPart w offset s v ⌝ }
+{
+    let old = contents_of(s);
+    slot_of(merge(w, offset, old, v))
+}
+
+// stc, clc, cmc.
+pub fn carry_rule(c: CarryChange, cf: Flag) -> Flag
+    ensures { λ f. ⌜ f ≡ carryRule c cf ⌝ }
+{
+    match c {
+        CarryChange::Stc => Flag::Known(true),
+        CarryChange::Clc => Flag::Known(false),
+        CarryChange::Cmc => alu::not(cf),
+    }
 }
 
 // not.
@@ -104,23 +156,19 @@ pub fn complement_of(v: Value) -> Value
     }
 }
 
-// The operation behind add to test.
-fn operation(m: u64) -> Operation
-    ensures { λ op. ⌜ op ≡ operationOf m ⌝ }
+// The operation of add to test.
+fn operation(op: Binary) -> Operation
+    ensures { λ r. ⌜ r ≡ operationOf op ⌝ }
 {
-    if m == 6 {
-        return Operation::Add;
+    match op {
+        Binary::Add => Operation::Add,
+        Binary::Sub => Operation::Sub,
+        Binary::Cmp => Operation::Sub,
+        Binary::And => Operation::And,
+        Binary::Or => Operation::Or,
+        Binary::Xor => Operation::Xor,
+        Binary::Test => Operation::And,
     }
-    if (m == 7) | (m == 8) {
-        return Operation::Sub;
-    }
-    if (m == 9) | (m == 12) {
-        return Operation::And;
-    }
-    if m == 10 {
-        return Operation::Or;
-    }
-    Operation::Xor
 }
 
 // What an instruction leaves: a value for its register, and the flags.
@@ -129,74 +177,103 @@ pub struct Effect {
     pub flags: Flags,
 }
 
+// Whether the operation of a register with itself has the same result for every value.
+fn is_idiom(op: Binary) -> bool
+    ensures { λ r. ⌜ r ≡ isIdiom op ⌝ }
+{
+    match op {
+        Binary::Add => false,
+        Binary::Sub => true,
+        Binary::Cmp => true,
+        Binary::And => false,
+        Binary::Or => false,
+        Binary::Xor => true,
+        Binary::Test => false,
+    }
+}
+
 // A register with itself.
-fn settle(w: Width) -> Effect
-    ensures { λ e. ⌜ e ≡ settled w ⌝ }
+fn of_itself(w: Width) -> Effect
+    ensures { λ e. ⌜ e ≡ ofItself w ⌝ }
 {
     let flags = alu::result_flags(w, 0, false, false);
     let value = Value::Known(0);
     Effect { value, flags }
 }
 
-// An operand is unknown.
-fn unsettle(m: u64) -> Effect
-    ensures { λ e. ⌜ e ≡ unsettled m ⌝ }
+// No flag is known.
+pub fn no_flags() -> Flags
+    ensures { λ f. ⌜ f ≡ noFlags ⌝ }
 {
-    let value = Value::Unknown;
-    if 9 <= m {
-        let cleared = Flags {
-            cf: Flag::Known(false),
-            pf: Flag::Unknown,
-            zf: Flag::Unknown,
-            sf: Flag::Unknown,
-            of: Flag::Known(false),
-        };
-        return Effect {
-            value,
-            flags: cleared,
-        };
-    }
-    let none = Flags {
+    Flags {
         cf: Flag::Unknown,
         pf: Flag::Unknown,
         zf: Flag::Unknown,
         sf: Flag::Unknown,
         of: Flag::Unknown,
-    };
-    Effect { value, flags: none }
+    }
+}
+
+// CF and OF are clear, the other flags are unknown.
+fn bitwise_flags() -> Flags
+    ensures { λ f. ⌜ f ≡ bitwiseFlags ⌝ }
+{
+    Flags {
+        cf: Flag::Known(false),
+        pf: Flag::Unknown,
+        zf: Flag::Unknown,
+        sf: Flag::Unknown,
+        of: Flag::Known(false),
+    }
+}
+
+// The flags after an operation with an unknown operand.
+fn of_unknown(op: Binary) -> Flags
+    ensures { λ f. ⌜ f ≡ ofUnknown op ⌝ }
+{
+    match op {
+        Binary::Add => no_flags(),
+        Binary::Sub => no_flags(),
+        Binary::Cmp => no_flags(),
+        Binary::And => bitwise_flags(),
+        Binary::Or => bitwise_flags(),
+        Binary::Xor => bitwise_flags(),
+        Binary::Test => bitwise_flags(),
+    }
 }
 
 // Both operands are known.
-fn perform_on(m: u64, w: Width, a: u64, b: u64) -> Effect
-    ensures { λ e. ⌜ e ≡ performed m w a b ⌝ }
+fn of_known(op: Binary, w: Width, a: u64, b: u64) -> Effect
+    ensures { λ e. ⌜ e ≡ ofKnown op w a b ⌝ }
 {
-    let op = operation(m);
-    let o = alu::perform(op, w, a, b);
+    let o = alu::perform(operation(op), w, a, b);
     let flags = o.flags;
     let value = Value::Known(o.value);
     Effect { value, flags }
 }
 
-fn on_operands(m: u64, w: Width, a: Value, b: Value) -> Effect
-    ensures { λ e. ⌜ e ≡ onOperands m w a b ⌝ }
+fn on_operands(op: Binary, w: Width, a: Value, b: Value) -> Effect
+    ensures { λ e. ⌜ e ≡ onOperands op w a b ⌝ }
 {
+    let value = Value::Unknown;
+    let flags = of_unknown(op);
     match a {
         Value::Known(x) => match b {
-            Value::Known(y) => perform_on(m, w, x, y),
-            Value::Unknown => unsettle(m),
+            Value::Known(y) => of_known(op, w, x, y),
+            Value::Unknown => Effect { value, flags },
         },
-        Value::Unknown => unsettle(m),
+        Value::Unknown => Effect { value, flags },
     }
 }
 
 // add, sub, cmp, and, or, xor, test.
-pub fn arith_effect(m: u64, w: Width, same: bool, a: Value, b: Value) -> Effect
-    ensures { λ e. ⌜ e ≡ arithEffect m w same a b ⌝ }
+pub fn arith_effect(op: Binary, w: Width, same: bool, a: Value, b: Value) -> Effect
+    ensures { λ e. ⌜ e ≡ arithEffect op w same a b ⌝ }
 {
-    if ((m == 7) | (m == 8) | (m == 11)) & same {
-        settle(w)
+    if is_idiom(op) & same {
+        of_itself(w)
     } else {
-        on_operands(m, w, a, b)
+        on_operands(op, w, a, b)
     }
 }
 
@@ -211,47 +288,53 @@ pub fn with_carry(f: Flags, cf: Flag) -> Flags
 }
 
 // inc, dec, neg.
-fn unary_outcome(m: u64, w: Width, a: u64) -> Outcome
-    ensures { λ o. ⌜ o ≡ unaryOutcome m w a ⌝ }
+fn perform_alone(op: Unary, w: Width, a: u64) -> Performed
+    ensures { λ o. ⌜ o ≡ alone op w a ⌝ }
 {
-    if m == 13 {
-        return alu::perform(Operation::Add, w, a, 1);
+    match op {
+        Unary::Inc => alu::perform(Operation::Add, w, a, 1),
+        Unary::Dec => alu::perform(Operation::Sub, w, a, 1),
+        Unary::Neg => alu::perform(Operation::Sub, w, 0, a),
     }
-    if m == 14 {
-        return alu::perform(Operation::Sub, w, a, 1);
-    }
-    alu::perform(Operation::Sub, w, 0, a)
 }
 
 // inc and dec keep CF, neg does not.
-fn keep_carry(m: u64, cf: Flag, f: Flags) -> Flags
-    ensures { λ g. ⌜ g ≡ keptCarry m cf f ⌝ }
+fn keep_carry(op: Unary, cf: Flag, f: Flags) -> Flags
+    ensures { λ g. ⌜ g ≡ keptCarry op cf f ⌝ }
 {
-    if m == 15 { f } else { with_carry(f, cf) }
+    match op {
+        Unary::Inc => with_carry(f, cf),
+        Unary::Dec => with_carry(f, cf),
+        Unary::Neg => f,
+    }
 }
 
 // CF after inc, dec, neg of an unknown value.
-pub fn unknown_carry(m: u64, cf: Flag) -> Flag
-    ensures { λ f. ⌜ f ≡ unknownCarry m cf ⌝ }
+pub fn unknown_carry(op: Unary, cf: Flag) -> Flag
+    ensures { λ f. ⌜ f ≡ unknownCarry op cf ⌝ }
 {
-    if m == 15 { Flag::Unknown } else { cf }
+    match op {
+        Unary::Inc => cf,
+        Unary::Dec => cf,
+        Unary::Neg => Flag::Unknown,
+    }
 }
 
 // inc, dec, neg of a known value.
-pub fn unary_effect(m: u64, w: Width, cf: Flag, a: u64) -> Effect
-    ensures { λ e. ⌜ e ≡ unaryEffect m w cf a ⌝ }
+pub fn unary_effect(op: Unary, w: Width, cf: Flag, a: u64) -> Effect
+    ensures { λ e. ⌜ e ≡ unaryEffect op w cf a ⌝ }
 {
-    let o = unary_outcome(m, w, a);
+    let o = perform_alone(op, w, a);
     let flags = o.flags;
-    let kept = keep_carry(m, cf, flags);
+    let kept = keep_carry(op, cf, flags);
     let value = Value::Known(o.value);
     Effect { value, flags: kept }
 }
 
-fn forget_flag(bit: u64, f: Flag) -> Flag
-    ensures { λ g. ⌜ g ≡ forgetFlag bit f ⌝ }
+fn forget_flag(declared: bool, f: Flag) -> Flag
+    ensures { λ g. ⌜ g ≡ forgetFlag declared f ⌝ }
 {
-    if bit == 1 { Flag::Unknown } else { f }
+    if declared { Flag::Unknown } else { f }
 }
 
 // Forget the flags that are declared as written.
@@ -264,52 +347,41 @@ pub fn forget_flags(declared: u64, f: Flags) -> Flags
     let sf = f.sf;
     let of = f.of;
     Flags {
-        cf: forget_flag(declared % 2, cf),
-        pf: forget_flag(declared / 2 % 2, pf),
-        zf: forget_flag(declared / 4 % 2, zf),
-        sf: forget_flag(declared / 8 % 2, sf),
-        of: forget_flag(declared / 16 % 2, of),
+        cf: forget_flag(isa::is_declared(declared, isa::CF), cf),
+        pf: forget_flag(isa::is_declared(declared, isa::PF), pf),
+        zf: forget_flag(isa::is_declared(declared, isa::ZF), zf),
+        sf: forget_flag(isa::is_declared(declared, isa::SF), sf),
+        of: forget_flag(isa::is_declared(declared, isa::OF), of),
     }
-}
-
-// The condition that a jump and its opposite share.
-fn test(pair: u64, f: Flags) -> Flag
-    ensures { λ r. ⌜ r ≡ tested pair f ⌝ }
-{
-    let cf = f.cf;
-    let zf = f.zf;
-    let sf = f.sf;
-    let of = f.of;
-    if pair == 8 {
-        return zf;
-    }
-    if pair == 9 {
-        return alu::differ_in(sf, of);
-    }
-    if pair == 10 {
-        return alu::or(zf, alu::differ_in(sf, of));
-    }
-    if pair == 11 {
-        return cf;
-    }
-    if pair == 12 {
-        return alu::or(cf, zf);
-    }
-    if pair == 13 {
-        return sf;
-    }
-    if pair == 14 {
-        return f.pf;
-    }
-    of
 }
 
 // The condition of a jump on flags.
-pub fn holds(m: u64, f: Flags) -> Flag
-    ensures { λ r. ⌜ r ≡ flagCondition m f ⌝ }
+pub fn holds(c: Condition, f: Flags) -> Flag
+    ensures { λ r. ⌜ r ≡ flagCondition c f ⌝ }
 {
-    let t = test(m / 2, f);
-    if m % 2 == 1 { alu::not(t) } else { t }
+    let cf = f.cf;
+    let pf = f.pf;
+    let zf = f.zf;
+    let sf = f.sf;
+    let of = f.of;
+    match c {
+        Condition::E => zf,
+        Condition::Ne => alu::not(zf),
+        Condition::L => alu::differ_in(sf, of),
+        Condition::Ge => alu::not(alu::differ_in(sf, of)),
+        Condition::Le => alu::or(zf, alu::differ_in(sf, of)),
+        Condition::G => alu::and(alu::not(zf), alu::not(alu::differ_in(sf, of))),
+        Condition::B => cf,
+        Condition::Ae => alu::not(cf),
+        Condition::Be => alu::or(cf, zf),
+        Condition::A => alu::and(alu::not(cf), alu::not(zf)),
+        Condition::S => sf,
+        Condition::Ns => alu::not(sf),
+        Condition::P => pf,
+        Condition::Np => alu::not(pf),
+        Condition::O => of,
+        Condition::No => alu::not(of),
+    }
 }
 
 // The condition of a count-register jump.

@@ -1,38 +1,34 @@
--- Machine: whether a jump is decided, by its mnemonic.
+-- Machine: what is known of a conditional branch, by its mnemonic.
 use Prim.Native.Nat.{ℕ}
-use mathlib.Core.Bool.{cond, _&&_}
-use mathlib.Core.Option.{Option, some, none}
-use lib.Dec.{leb, eqb}
 use Rattle.isa.specs.declared.Register.{Register}
+use Rattle.isa.specs.declared.Counter.{Counter}
+use Rattle.isa.specs.declared.Counter.the-variants.{Rcx, Ecx, Cx}
+use Rattle.isa.specs.declared.Mnemonic.{Mnemonic}
+use Rattle.isa.specs.declared.Mnemonic.the-variants.{Other, Carry, Mov, Not, TwoOperand, OneOperand, Jump, CountJump}
 use Rattle.alu.specs.declared.Flag.{Flag}
+use Rattle.alu.specs.declared.Flag.the-variants.{Unknown}
 use Rattle.known.specs.Conditions.{flagCondition, isZero}
 use Rattle.machine.specs.declared.State.{State}
-use Rattle.machine.specs.declared.Decided.{Decided}
-use Rattle.machine.specs.declared.Decided.the-variants.{Holds, Fails, Undecided}
 use Rattle.machine.specs.Registers.{readOf}
-use Rattle.alu.specs.declared.Flag.the-variants as flag
 
--- jrcxz (32), jecxz (33), jcxz (34) read the low 64, 32, 16 bits of register 1
-abbrev pub countSize : ℕ → ℕ
-countSize m = cond (eqb m 32) 64 (cond (eqb m 33) 32 16)
+-- jrcxz, jecxz, jcxz read the low 64, 32, 16 bits of register 1 (M19, S24).
+abbrev pub countSize : Counter → ℕ
+countSize Rcx = 64
+countSize Ecx = 32
+countSize Cx = 16
 
 -- that part of register 1
-abbrev pub countRegister : ℕ → Register
-countRegister m = record { class = 1; index = 1; size = countSize m; offset = 0 }
+abbrev pub countRegister : Counter → Register
+countRegister c = record { class = 1; index = 1; size = countSize c; offset = 0 }
 
--- a condition that is known to hold or to fail decides the jump
-abbrev pub verdictOf : Flag → Decided
-verdictOf (flag.Known b) = cond b Holds Fails
-verdictOf flag.Unknown = Undecided
-
--- A jump is decided by its flags, or by register 1; a conditional branch of any other mnemonic, as loop, stays undecided.
-unfoldable pub decided : State → ℕ → Decided
-decided s m =
-    cond (leb 16 m && leb m 31) (verdictOf (flagCondition m (s .flags)))
-    (cond (leb 32 m && leb m 34) (verdictOf (isZero (readOf s (countRegister m)))) Undecided)
-
--- A verdict's value in the listing: always 1, never 0; what is undecided has no line.
-abbrev pub lineValue : Decided → Option ℕ
-lineValue Holds = some 1
-lineValue Fails = some 0
-lineValue Undecided = none
+-- What is known of whether the branch jumps: by its flags, or by register 1. A conditional branch of any other mnemonic, as
+-- loop, may go both ways, and nothing is known of it (M18, M19, M20).
+unfoldable pub conditionOf : State → Mnemonic → Flag
+conditionOf s Other = Unknown
+conditionOf s (Carry c) = Unknown
+conditionOf s Mov = Unknown
+conditionOf s Not = Unknown
+conditionOf s (TwoOperand op) = Unknown
+conditionOf s (OneOperand op) = Unknown
+conditionOf s (Jump c) = flagCondition c (s .flags)
+conditionOf s (CountJump c) = isZero (readOf s (countRegister c))

@@ -1,23 +1,23 @@
 // A state of registers and flags, as far as they are known; stepping over an instruction; what is known of a jump.
 use alu::Flag;
 use alu::Flags;
+use isa::Binary;
+use isa::CarryChange;
+use isa::Counter;
 use isa::Instruction;
+use isa::Mnemonic;
 use isa::Operand;
 use isa::Register;
+use isa::Unary;
 use known::Effect;
+use known::Slot;
 use known::Value;
 ghost use mathlib.Core.Path.{_≡_};
 ghost use mathlib.Core.Bool.{cond};
 ghost use Prim.Native.Nat.{min, _≤_};
-ghost use Rattle.machine.specs.Registers.{nothingKnown, contents, slotOf, wholeOf, replaced, readOf, written, operandOf, withFlags, forgetRegisters, forgotten};
-ghost use Rattle.machine.specs.Rules.{sameRegister, finished, arithStep, unaryUnknown, unaryOn, unaryStep, registerStep, onFirst, modelledStep, stepped};
-ghost use Rattle.machine.specs.Conditions.{countSize, verdictOf, decided};
-
-// A register's value, which means nothing where it is not marked as known; then it is 0.
-pub struct Slot {
-    pub known: bool,
-    pub value: u64,
-}
+ghost use Rattle.machine.specs.Registers.{nothingKnown, slotAt, replaced, readOf, written, operandOf, withFlags, forgetRegister, forgetRegisters, forgotten};
+ghost use Rattle.machine.specs.Rules.{writes, sameRegister, finished, carryStep, arithStep, unaryUnknown, unaryOn, unaryStep, registerStep, onFirst, modelledStep, stepped};
+ghost use Rattle.machine.specs.Conditions.{countSize, conditionOf};
 
 pub struct State {
     pub registers: [Slot; State::REGISTERS],
@@ -31,17 +31,8 @@ impl State {
     pub fn unknown() -> Self
         ensures { λ r. ⌜ r ≡ nothingKnown ⌝ }
     {
-        let slot = Slot {
-            known: false,
-            value: 0,
-        };
-        let flags = Flags {
-            cf: Flag::Unknown,
-            pf: Flag::Unknown,
-            zf: Flag::Unknown,
-            sf: Flag::Unknown,
-            of: Flag::Unknown,
-        };
+        let slot = known::unknown();
+        let flags = known::no_flags();
         State {
             registers: [slot; Self::REGISTERS],
             flags,
@@ -49,49 +40,26 @@ impl State {
     }
 }
 
-fn contents_of(s: Slot) -> Value
-    ensures { λ r. ⌜ r ≡ contents s ⌝ }
-{
-    if s.known {
-        Value::Known(s.value)
-    } else {
-        Value::Unknown
-    }
-}
-
-fn slot_of(v: Value) -> Slot
-    ensures { λ r. ⌜ r ≡ slotOf v ⌝ }
-{
-    match v {
-        Value::Known(value) => Slot { known: true, value },
-        Value::Unknown => Slot {
-            known: false,
-            value: 0,
-        },
-    }
-}
-
-// The whole register of that index.
-fn whole(s: State, index: u64) -> Value
-    ensures { λ r. ⌜ r ≡ wholeOf s index ⌝ }
+// What is known of the register of that index.
+fn slot_at(s: State, index: u64) -> Slot
+    ensures { λ r. ⌜ r ≡ slotAt s index ⌝ }
 {
     let registers = s.registers;
     if index < 16 {
-        let slot = registers[index as usize];
-        contents_of(slot)
+        registers[index as usize]
     } else {
-        Value::Unknown
+        known::unknown()
     }
 }
 
-// The state with another whole register.
-fn replace(s: State, index: u64, v: Value) -> State
-    ensures { λ r. ⌜ r ≡ replaced s index v ⌝ }
+// The state with something else known of a register.
+fn replace(s: State, index: u64, slot: Slot) -> State
+    ensures { λ r. ⌜ r ≡ replaced s index slot ⌝ }
 {
     if index < 16 {
         let mut registers = s.registers;
         let flags = s.flags;
-        registers[index as usize] = slot_of(v);
+        registers[index as usize] = slot;
         State { registers, flags }
     } else {
         s
@@ -104,8 +72,8 @@ pub fn read(s: State, r: Register) -> Value
 {
     if r.class == 1 {
         let w = alu::width_of(r.size);
-        let v = whole(s, r.index);
-        known::part(w, r.offset, v)
+        let slot = slot_at(s, r.index);
+        known::read(w, r.offset, slot)
     } else {
         Value::Unknown
     }
@@ -117,8 +85,8 @@ pub fn write(s: State, r: Register, v: Value) -> State
 {
     if r.class == 1 {
         let w = alu::width_of(r.size);
-        let old = whole(s, r.index);
-        let new = known::merge(w, r.offset, old, v);
+        let old = slot_at(s, r.index);
+        let new = known::write(w, r.offset, old, v);
         replace(s, r.index, new)
     } else {
         s
@@ -153,6 +121,17 @@ fn at_most_eight(count: u64) -> u64
     if count < 8 { count } else { 8 }
 }
 
+// Forget a register that is declared as written, whole.
+fn forget_register(s: State, r: Register) -> State
+    ensures { λ t. ⌜ t ≡ forgetRegister s r ⌝ }
+{
+    if r.class == 1 {
+        replace(s, r.index, known::unknown())
+    } else {
+        s
+    }
+}
+
 // Forget the first n of some registers.
 fn forget_registers(s: State, registers: [Register; 8], n: u64) -> State
     requires { ⌜ n ≤ 8 ⌝ }
@@ -162,7 +141,7 @@ fn forget_registers(s: State, registers: [Register; 8], n: u64) -> State
     let mut i: u64 = 0;
     while i < n {
         let r = registers[i as usize];
-        state = write(state, r, Value::Unknown);
+        state = forget_register(state, r);
         i += 1;
     }
     state
@@ -195,6 +174,16 @@ fn is_same(d: Register, o: Operand) -> bool
     }
 }
 
+// stc, clc, cmc.
+fn carry(s: State, c: CarryChange) -> State
+    ensures { λ t. ⌜ t ≡ carryStep s c ⌝ }
+{
+    let flags = s.flags;
+    let cf = flags.cf;
+    let new = known::carry_rule(c, cf);
+    with_flags(s, known::with_carry(flags, new))
+}
+
 fn write_if(s: State, there: bool, d: Register, v: Value) -> State
     ensures { λ t. ⌜ t ≡ cond there (written s d v) s ⌝ }
 {
@@ -211,96 +200,118 @@ fn finish(s: State, there: bool, d: Register, e: Effect) -> State
     with_flags(after, flags)
 }
 
+// cmp and test write no result.
+fn is_writing(op: Binary) -> bool
+    ensures { λ r. ⌜ r ≡ writes op ⌝ }
+{
+    match op {
+        Binary::Add => true,
+        Binary::Sub => true,
+        Binary::Cmp => false,
+        Binary::And => true,
+        Binary::Or => true,
+        Binary::Xor => true,
+        Binary::Test => false,
+    }
+}
+
 // add, sub, cmp, and, or, xor, test.
-fn arith(s: State, m: u64, d: Register, o: Operand) -> State
-    ensures { λ t. ⌜ t ≡ arithStep s m d o ⌝ }
+fn arith(s: State, op: Binary, d: Register, o: Operand) -> State
+    ensures { λ t. ⌜ t ≡ arithStep s op d o ⌝ }
 {
     let size = d.size;
     let w = alu::width_of(size);
     let same = is_same(d, o);
     let a = read(s, d);
     let b = operand(s, size, o);
-    let e = known::arith_effect(m, w, same, a, b);
-    finish(s, !((m == 8) | (m == 12)), d, e)
+    let e = known::arith_effect(op, w, same, a, b);
+    finish(s, is_writing(op), d, e)
 }
 
 // inc, dec, neg of an unknown register.
-fn unary_unknown(s: State, i: Instruction) -> State
-    ensures { λ t. ⌜ t ≡ unaryUnknown s i ⌝ }
+fn unary_unknown(s: State, i: Instruction, op: Unary) -> State
+    ensures { λ t. ⌜ t ≡ unaryUnknown s i op ⌝ }
 {
     let before = s.flags;
     let cf = before.cf;
     let after = forget(s, i);
     let flags = after.flags;
-    let carry = known::unknown_carry(i.mnemonic, cf);
+    let carry = known::unknown_carry(op, cf);
     with_flags(after, known::with_carry(flags, carry))
 }
 
-fn unary_on(s: State, i: Instruction, d: Register, v: Value) -> State
-    ensures { λ t. ⌜ t ≡ unaryOn s i d v ⌝ }
+fn unary_on(s: State, i: Instruction, op: Unary, d: Register, v: Value) -> State
+    ensures { λ t. ⌜ t ≡ unaryOn s i op d v ⌝ }
 {
     match v {
         Value::Known(a) => {
             let w = alu::width_of(d.size);
             let flags = s.flags;
             let cf = flags.cf;
-            let e = known::unary_effect(i.mnemonic, w, cf, a);
+            let e = known::unary_effect(op, w, cf, a);
             finish(s, true, d, e)
         }
-        Value::Unknown => unary_unknown(s, i),
+        Value::Unknown => unary_unknown(s, i, op),
     }
 }
 
 // inc, dec, neg.
-fn unary(s: State, i: Instruction, d: Register) -> State
-    ensures { λ t. ⌜ t ≡ unaryStep s i d ⌝ }
+fn unary(s: State, i: Instruction, op: Unary, d: Register) -> State
+    ensures { λ t. ⌜ t ≡ unaryStep s i op d ⌝ }
 {
     let v = read(s, d);
-    unary_on(s, i, d, v)
+    unary_on(s, i, op, d, v)
 }
 
-// A modelled instruction with a register first.
-fn on_register(s: State, i: Instruction, d: Register) -> State
-    ensures { λ t. ⌜ t ≡ registerStep s i d ⌝ }
+// A modelled instruction with a register first; any other forgets what it declares.
+fn on_register(s: State, i: Instruction, m: Mnemonic, d: Register) -> State
+    ensures { λ t. ⌜ t ≡ registerStep s i m d ⌝ }
 {
-    let m = i.mnemonic;
     let second = i.second;
-    if m == 4 {
-        let v = operand(s, d.size, second);
-        return write(s, d, v);
+    match m {
+        Mnemonic::Other => forget(s, i),
+        Mnemonic::Carry(_) => forget(s, i),
+        Mnemonic::Mov => {
+            let v = operand(s, d.size, second);
+            write(s, d, v)
+        }
+        Mnemonic::Not => {
+            let v = known::complement_of(read(s, d));
+            write(s, d, v)
+        }
+        Mnemonic::TwoOperand(op) => arith(s, op, d, second),
+        Mnemonic::OneOperand(op) => unary(s, i, op, d),
+        Mnemonic::Jump(_) => forget(s, i),
+        Mnemonic::CountJump(_) => forget(s, i),
     }
-    if m == 5 {
-        let v = known::complement_of(read(s, d));
-        return write(s, d, v);
-    }
-    if m <= 12 {
-        return arith(s, m, d, second);
-    }
-    unary(s, i, d)
 }
 
-fn on_first(s: State, i: Instruction, first: Operand) -> State
-    ensures { λ t. ⌜ t ≡ onFirst s i first ⌝ }
+fn on_first(s: State, i: Instruction, m: Mnemonic, first: Operand) -> State
+    ensures { λ t. ⌜ t ≡ onFirst s i m first ⌝ }
 {
     match first {
-        Operand::Absent => s,
-        Operand::Reg(d) => on_register(s, i, d),
-        Operand::Imm(_) => s,
-        Operand::Mem => s,
+        Operand::Absent => forget(s, i),
+        Operand::Reg(d) => on_register(s, i, m, d),
+        Operand::Imm(_) => forget(s, i),
+        Operand::Mem => forget(s, i),
     }
 }
 
 fn step_modelled(s: State, i: Instruction) -> State
-    ensures { λ t. ⌜ t ≡ modelledStep s i ⌝ }
+    ensures { λ t. ⌜ t ≡ modelledStep s i (i .mnemonic) ⌝ }
 {
-    if i.mnemonic <= 3 {
-        let flags = s.flags;
-        let cf = flags.cf;
-        let new = known::carry_rule(i.mnemonic, cf);
-        return with_flags(s, known::with_carry(flags, new));
-    }
+    let m = i.mnemonic;
     let first = i.first;
-    on_first(s, i, first)
+    match m {
+        Mnemonic::Other => forget(s, i),
+        Mnemonic::Carry(c) => carry(s, c),
+        Mnemonic::Mov => on_first(s, i, Mnemonic::Mov, first),
+        Mnemonic::Not => on_first(s, i, Mnemonic::Not, first),
+        Mnemonic::TwoOperand(op) => on_first(s, i, Mnemonic::TwoOperand(op), first),
+        Mnemonic::OneOperand(op) => on_first(s, i, Mnemonic::OneOperand(op), first),
+        Mnemonic::Jump(_) => forget(s, i),
+        Mnemonic::CountJump(_) => forget(s, i),
+    }
 }
 
 // What is known after an instruction.
@@ -316,50 +327,40 @@ pub fn step(s: State, i: Instruction) -> State
     forget(s, i)
 }
 
-pub enum Decided {
-    Holds,
-    Fails,
-    Undecided,
-}
-
-// The bits that a count-register jump reads.
-fn count_size(m: u64) -> u64
-    ensures { λ r. ⌜ r ≡ countSize m ⌝ }
+// The bits of register 1 that a count-register jump reads.
+fn count_size(c: Counter) -> u64
+    ensures { λ r. ⌜ r ≡ countSize c ⌝ }
 {
-    if m == 32 {
-        return 64;
-    }
-    if m == 33 {
-        return 32;
-    }
-    16
-}
-
-fn verdict(f: Flag) -> Decided
-    ensures { λ r. ⌜ r ≡ verdictOf f ⌝ }
-{
-    match f {
-        Flag::Known(b) => { if b { Decided::Holds } else { Decided::Fails } }
-        Flag::Unknown => Decided::Undecided,
+    match c {
+        Counter::Rcx => 64,
+        Counter::Ecx => 32,
+        Counter::Cx => 16,
     }
 }
 
-// What is known of a conditional branch of that mnemonic.
-pub fn condition(s: State, m: u64) -> Decided
-    ensures { λ r. ⌜ r ≡ decided s m ⌝ }
+// What is known of a conditional branch of that mnemonic: whether it jumps.
+pub fn condition(s: State, m: Mnemonic) -> Flag
+    ensures { λ r. ⌜ r ≡ conditionOf s m ⌝ }
 {
-    if (16 <= m) & (m <= 31) {
-        let flags = s.flags;
-        return verdict(known::holds(m, flags));
+    match m {
+        Mnemonic::Other => Flag::Unknown,
+        Mnemonic::Carry(_) => Flag::Unknown,
+        Mnemonic::Mov => Flag::Unknown,
+        Mnemonic::Not => Flag::Unknown,
+        Mnemonic::TwoOperand(_) => Flag::Unknown,
+        Mnemonic::OneOperand(_) => Flag::Unknown,
+        Mnemonic::Jump(c) => {
+            let flags = s.flags;
+            known::holds(c, flags)
+        }
+        Mnemonic::CountJump(c) => {
+            let r = Register {
+                class: 1,
+                index: 1,
+                size: count_size(c),
+                offset: 0,
+            };
+            known::is_zero(read(s, r))
+        }
     }
-    if (32 <= m) & (m <= 34) {
-        let r = Register {
-            class: 1,
-            index: 1,
-            size: count_size(m),
-            offset: 0,
-        };
-        return verdict(known::is_zero(read(s, r)));
-    }
-    Decided::Undecided
 }

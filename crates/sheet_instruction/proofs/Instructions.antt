@@ -10,6 +10,7 @@ use Rattle.sheet_instruction.specs.declared.RegisterField.{RegisterField
 use Rattle.sheet_instruction.specs.declared.OperandField.{OperandField}
 use Rattle.sheet_field.specs.Field.{fieldAt, codeAt}
 use Rattle.sheet_field.specs.Field.{checkField, countAt, judge, keep, startOf}
+use Rattle.sheet_field.proofs.Fields.{check-below}
 use Rattle.sheet_instruction.specs.Instruction.{registerAt, operandAt, withRegister, registersFrom, bitOf, optionalOperand, optionalRegisters, optionalCode, headAt, tailAt, instructionAt}
 use Rattle.isa.specs.declared.Instruction.{Instruction}
 use Rattle.isa.specs.Modelled.{atFault}
@@ -19,8 +20,8 @@ use Rattle.sheet_instruction.specs.declared.InstructionField.{Instructio
 use native.Mathlib.Numerals.{add-one}
 use native.Mathlib.Omega.{arith}
 use mathlib.Core.Bool.{Bool, true, false, not, _&&_}
-use lib.Dec.{leb}
-use borrow.Author.Tests.{leb-true}
+use lib.Dec.{leb, ltb}
+use borrow.Author.Tests.{leb-true, ltb-true}
 use Rattle.sheet_field.specs.declared.Place.the-variants.{At, Refused}
 use Rattle.sheet_instruction.specs.declared.Registers.{Registers}
 
@@ -77,3 +78,10 @@ pub instruction-is : (first : Bool) (last : ℕ) (s : List ℕ) (p : Place) {hea
 unfolding instructionAt
 instruction-is first last s p head-is tail-is branch-is call-is fault-is start-is next-is =
     rw (next-is, start-is, fault-is, branch-is, call-is, tail-is, head-is)
+
+-- a mnemonic's number, also where reading was refused, is in the table
+pub mnemonic-below : (s : List ℕ) (p : Place) → codeAt 35 s p .value < 35
+unfolding codeAt
+mnemonic-below s p =
+    let most = check-below (ltb (fieldAt 1 s p .value) 35) 2 (startOf p) (fieldAt 1 s p) 34 (λ e. let small = ltb-true (fieldAt 1 s p .value) 35 e in omega arith) in
+    omega arith

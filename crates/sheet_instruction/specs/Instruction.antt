@@ -8,6 +8,7 @@ use Rattle.isa.specs.declared.Register.{Register}
 use Rattle.isa.specs.declared.Operand.{Operand}
 use Rattle.isa.specs.declared.Operand.the-variants.{Absent, Reg, Imm, Mem}
 use Rattle.isa.specs.declared.Instruction.{Instruction}
+use Rattle.isa.specs.Mnemonics.{named}
 use Rattle.isa.specs.Register.{wellFormed}
 use Rattle.isa.specs.Modelled.{atFault}
 use Rattle.sheet_field.specs.declared.Place.{Place}
@@ -94,14 +95,14 @@ addressAt first last s p =
     let f = fieldAt 8 s p in
     checkField (first || ltb last (f .value)) 4 (startOf p) f
 
--- The map, the address, the mnemonic, below 35, and with bit 0 the target, an address too (S6, S7, S22, S23, S24, R8).
+-- The map, the address, the mnemonic's number, below 35, and with bit 0 the target, an address too (S6, S7, S22, S23, S24, R8).
 unfoldable pub headAt : Bool → ℕ → List ℕ → Place → Head
 headAt first last s p =
     let map = mapAt s p in
     let address = addressAt first last s (map .next) in
-    let mnemonic = codeAt 35 s (address .next) in
-    let target = optionalField (bitOf (map .value) 1) s (mnemonic .next) in
-    record { map = map .value; address = address .value; mnemonic = mnemonic .value; target = target .value; next = target .next }
+    let number = codeAt 35 s (address .next) in
+    let target = optionalField (bitOf (map .value) 1) s (number .next) in
+    record { map = map .value; address = address .value; mnemonic = named (number .value); target = target .value; next = target .next }
 
 -- With bit 2 the first operand, with bit 3 the second, with bit 4 the list of written registers, with bit 5 the byte of written flags, below 32
 -- (S6, S9, S10, S11, S12, S14, R8).

@@ -1,5 +1,6 @@
 // Instruction records: one reader, which both checks a record and takes its content.
 use isa::Instruction;
+use isa::Mnemonic;
 use isa::Operand;
 use isa::Register;
 use sheet_field::Field;
@@ -29,7 +30,7 @@ pub struct Registers {
 pub struct Head {
     pub map: u64,
     pub address: u64,
-    pub mnemonic: u64,
+    pub mnemonic: Mnemonic,
     pub target: u64,
     pub next: Place,
 }
@@ -230,14 +231,15 @@ fn take_head(s: &[u8], p: Place, first: bool, last: u64) -> Head
     let after_map = map.next;
     let address = take_address(s, after_map, first, last);
     let after_address = address.next;
-    let mnemonic = sheet_field::code(s, after_address, 35);
-    let after_mnemonic = mnemonic.next;
-    let target = field_if(bit(map.value, 1), s, after_mnemonic);
+    let number = sheet_field::code(s, after_address, 35);
+    let after_number = number.next;
+    let mnemonic = isa::mnemonic_of(number.value);
+    let target = field_if(bit(map.value, 1), s, after_number);
     let next = target.next;
     Head {
         map: map.value,
         address: address.value,
-        mnemonic: mnemonic.value,
+        mnemonic,
         target: target.value,
         next,
     }
@@ -278,9 +280,10 @@ pub fn take_instruction(s: &[u8], p: Place, first: bool, last: u64) -> Instructi
     let two = tail.second;
     let written = tail.written;
     let end = tail.next;
+    let mnemonic = head.mnemonic;
     let instruction = Instruction {
         address: head.address,
-        mnemonic: head.mnemonic,
+        mnemonic,
         branch: bit(head.map, 1),
         target: head.target,
         call: bit(head.map, 2),

@@ -6,16 +6,16 @@ use mathlib.Core.Logic.{_↔_}
 use mathlib.Core.Bool.{Bool, true, false, cond}
 use lib.ListN.{getD}
 use native.Mathlib.Omega.{arith}
+use Rattle.isa.specs.declared.Mnemonic.{Mnemonic}
 use Rattle.isa.specs.declared.Instruction.{Instruction}
+use Rattle.alu.specs.declared.Flag.{Flag}
+use Rattle.alu.specs.declared.Flag.the-variants.{Known, Unknown}
 use Rattle.machine.specs.declared.State.{State}
-use Rattle.machine.specs.declared.Decided.{Decided}
-use Rattle.machine.specs.declared.Decided.the-variants as decided
 use Rattle.machine.specs.Registers.{nothingKnown}
-use Rattle.machine.specs.Conditions.{decided as decidedOf}
 use Rattle.concrete.specs.Concrete.{Processor, Choice, executedAll}
 use Rattle.concrete.specs.Agreement.{Agrees}
 use Rattle.concrete.proofs.Sound.{nothing-known, steps-sound}
-use Rattle.concrete.proofs.Forced.{forced, verdict}
+use Rattle.concrete.proofs.Forced.{forced}
 use Rattle.sheet.specs.declared.Sheet.{Sheet}
 use Rattle.sheet.specs.declared.Reading.the-variants as reading
 use Rattle.sheet.specs.Sheet.{sheetAt, readingOf}
@@ -34,15 +34,15 @@ abbrev pub saying : Bool → Verdict
 saying true = Always Flags
 saying false = Never Flags
 
-judged-is : (d : Decided) (b : Bool) → flagVerdict d ≡ saying b → d ≡ verdict b
-judged-is decided.Holds true e = refl
-judged-is decided.Holds false e = cc
-judged-is decided.Fails true e = cc
-judged-is decided.Fails false e = refl
-judged-is decided.Undecided true e = cc
-judged-is decided.Undecided false e = cc
+judged-is : (f : Flag) (b : Bool) → flagVerdict f ≡ saying b → f ≡ Known b
+judged-is (Known true) true e = refl
+judged-is (Known true) false e = cc
+judged-is (Known false) true e = cc
+judged-is (Known false) false e = refl
+judged-is Unknown true e = cc
+judged-is Unknown false e = cc
 
-is-judged : (b : Bool) → flagVerdict (verdict b) ≡ saying b
+is-judged : (b : Bool) → flagVerdict (Known b) ≡ saying b
 is-judged true = refl
 is-judged false = refl
 
@@ -66,7 +66,7 @@ possible s p (ending before i) a agrees =
     record { state = executedAll p before (λ k. some-choice); agrees = steps-sound s p before (λ k. some-choice) a agrees }
 
 -- The theorem: for every accepted sheet and every block of it that ends in a conditional branch.
-pub blocks-forced : (s : List ℕ) (sheet : Sheet) → readingOf s ≡ reading.Accepted sheet → (number : ℕ) (known : State) (m : ℕ)
+pub blocks-forced : (s : List ℕ) (sheet : Sheet) → readingOf s ≡ reading.Accepted sheet → (number : ℕ) (known : State) (m : Mnemonic)
     → endOn s number nothingKnown ≡ record { known = known; jump = Conditional m }
     → (b : Bool) → (verdictOn s number ≡ saying b) ↔ Forced known m b
 unfolding verdictOn endOn endFrom

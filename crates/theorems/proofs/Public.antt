@@ -20,6 +20,7 @@ use Rattle.verdict.specs.declared.Verdict.the-variants as verdict
 use Rattle.verdict.specs.declared.Answer.{Answer}
 use Rattle.verdict.specs.declared.Answer.the-variants.{Given, Refused}
 use Rattle.verdict.specs.Numbers.{Numbers, answerNumbers}
+use Rattle.isa.specs.declared.Mnemonic.{Mnemonic}
 use Rattle.verdict.specs.Numbers.Numbers.{noBranch, undecided, decision, refused}
 use Rattle.verdict.proofs.Apart.{answers-apart}
 use Rattle.verdict_block.specs.declared.End.{End}
@@ -85,7 +86,7 @@ answers-right s number b e start free last =
 -- the block of that number ends in a flag branch, and what is known there forces it one way
 pub record ForcedEnd (s : List ℕ) (number : ℕ) (b : Bool) : Type 0 where
   pub known : State
-  pub mnemonic : ℕ
+  pub mnemonic : Mnemonic
   pub ends : endOn s number nothingKnown ≡ record { known = known; jump = Conditional mnemonic }
   pub forces : Forced known mnemonic b
 

@@ -12,15 +12,16 @@ use Rattle.isa.specs.declared.Operand.{Operand}
 use Rattle.isa.specs.declared.Operand.the-variants.{Absent, Reg, Imm, Mem}
 use Rattle.isa.specs.declared.Instruction.{Instruction}
 use Rattle.machine.specs.declared.State.{State}
-use Rattle.machine.specs.declared.Decided.{Decided}
-use Rattle.machine.specs.declared.Decided.the-variants as decided
+use Rattle.isa.specs.declared.Mnemonic.{Mnemonic}
+use Rattle.alu.specs.declared.Flag.{Flag}
+use Rattle.alu.specs.declared.Flag.the-variants.{Known, Unknown}
 use Rattle.machine.specs.Registers.{nothingKnown}
 use Rattle.machine.specs.Rules.{steppedAll}
-use Rattle.machine.specs.Conditions.{decided as decidedOf}
+use Rattle.machine.specs.Conditions.{conditionOf}
 use Rattle.concrete.specs.Concrete.{Processor, Choice, executedAll, outcome}
 use Rattle.concrete.specs.Agreement.{Agrees, Accepted, AllAccepted, operandWellFormed}
 use Rattle.concrete.proofs.Sound.{nothing-known, steps-sound}
-use Rattle.concrete.proofs.Forced.{forced, verdict}
+use Rattle.concrete.proofs.Forced.{forced}
 use Rattle.sheet_instruction.specs.Instruction.{instructionAt}
 use Rattle.sheet_instruction.proofs.Accepted.{Well, instruction-on}
 use Rattle.sheet.specs.declared.Sheet.{Sheet}
@@ -91,18 +92,18 @@ before-last (i ∷ l) a = go (apart l) (before-last l (a .1))
     go (ending before last) rest = (a .0, rest)
 
 -- a branch: what is decided of it is forced
-branch-right : (s : State) (p : Processor) (m : ℕ) (last : Bool) → Agrees s p → (d : Decided) → decidedOf s m ≡ d
+branch-right : (s : State) (p : Processor) (m : Mnemonic) (last : Bool) → Agrees s p → (d : Flag) → conditionOf s m ≡ d
     → NotAgainst (flagVerdict d) (jumped (outcome m p last))
-branch-right s p m last agrees decided.Holds e = ap jumped (forced s p agrees m true .0 e p last agrees)
-branch-right s p m last agrees decided.Fails e = ap jumped (forced s p agrees m false .0 e p last agrees)
-branch-right s p m last agrees decided.Undecided e = tt
+branch-right s p m last agrees (Known true) e = ap jumped (forced s p agrees m true .0 e p last agrees)
+branch-right s p m last agrees (Known false) e = ap jumped (forced s p agrees m false .0 e p last agrees)
+branch-right s p m last agrees Unknown e = tt
 
 last-right : (s : State) (p : Processor) (i : Instruction) (last : Bool) → Agrees s p
     → NotAgainst (judged s (jumpOf i)) (cond (i .branch) (jumped (outcome (i .mnemonic) p last)) nothing)
 last-right s p i last agrees = go (i .branch) refl
   where
     go : (b : Bool) → i .branch ≡ b → NotAgainst (judged s (jumpOf i)) (cond b (jumped (outcome (i .mnemonic) p last)) nothing)
-    go true e = rw e (branch-right s p (i .mnemonic) last agrees (decidedOf s (i .mnemonic)) refl)
+    go true e = rw e (branch-right s p (i .mnemonic) last agrees (conditionOf s (i .mnemonic)) refl)
     go false e = rw e tt
 
 end-right : (s : State) (p : Processor) (parts : Parts) (free : ℕ → Choice) (last : Bool) → Before parts → Agrees s p

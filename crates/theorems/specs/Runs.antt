@@ -3,6 +3,7 @@ use Prim.Native.Nat.{ℕ}
 use mathlib.Core.Path.{_≡_}
 use mathlib.Core.List.{List}
 use mathlib.Core.Bool.{Bool, true, false, cond}
+use Rattle.isa.specs.declared.Mnemonic.{Mnemonic}
 use Rattle.isa.specs.declared.Instruction.{Instruction}
 use Rattle.concrete.specs.Concrete.{Processor, Choice, executedAll, outcome}
 use Rattle.concrete.specs.Agreement.{Agrees}
@@ -40,5 +41,5 @@ NotAgainst verdict.NoBranch o = Unit {0}
 
 -- Forced (a term of the scope document) one way: the branch jumps, or does not, in every concrete state that agrees with
 -- what is known, whatever is unknown (M21).
-abbrev pub Forced : State → ℕ → Bool → Type 0
+abbrev pub Forced : State → Mnemonic → Bool → Type 0
 Forced known mnemonic b = (q : Processor) (free : Bool) → Agrees known q → outcome mnemonic q free ≡ b

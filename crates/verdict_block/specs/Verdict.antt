@@ -8,11 +8,11 @@ use Rattle.sheet_field.specs.declared.Place.the-variants.{At}
 use Rattle.isa.specs.declared.Instruction.{Instruction}
 use Rattle.sheet_instruction.specs.Instruction.{instructionAt}
 use Rattle.machine.specs.declared.State.{State}
-use Rattle.machine.specs.declared.Decided.{Decided}
-use Rattle.machine.specs.declared.Decided.the-variants as decided
+use Rattle.alu.specs.declared.Flag.{Flag}
+use Rattle.alu.specs.declared.Flag.the-variants.{Known, Unknown}
 use Rattle.machine.specs.Registers.{nothingKnown}
 use Rattle.machine.specs.Rules.{steppedAll}
-use Rattle.machine.specs.Conditions.{decided as decidedOf}
+use Rattle.machine.specs.Conditions.{conditionOf}
 use Rattle.verdict.specs.declared.Reason.the-variants.{Flags}
 use Rattle.verdict.specs.declared.Verdict.{Verdict}
 use Rattle.verdict.specs.declared.Verdict.the-variants.{Always, Never, Undecided, NoBranch}
@@ -64,14 +64,13 @@ unfoldable pub endFrom : State → List Instruction → End
 endFrom start code = endAt start (apart code)
 
 -- A condition known to hold is always, one known to fail never, each by flags.
-abbrev pub flagVerdict : Decided → Verdict
-flagVerdict decided.Holds = Always Flags
-flagVerdict decided.Fails = Never Flags
-flagVerdict decided.Undecided = Undecided
+abbrev pub flagVerdict : Flag → Verdict
+flagVerdict (Known b) = cond b (Always Flags) (Never Flags)
+flagVerdict Unknown = Undecided
 
 -- The verdict on a jump, by what is known at it.
 abbrev pub judged : State → Jump → Verdict
-judged known (Conditional mnemonic) = flagVerdict (decidedOf known mnemonic)
+judged known (Conditional mnemonic) = flagVerdict (conditionOf known mnemonic)
 judged known Nothing = NoBranch
 
 -- the verdict at a block's end

@@ -1,7 +1,8 @@
 // The verdict on a block of an accepted sheet: its instructions are found in the index and stepped over once from what is
 // known where it starts; what is known at its end judges its last instruction, where that is a conditional branch.
+use alu::Flag;
 use isa::Instruction;
-use machine::Decided;
+use isa::Mnemonic;
 use machine::State;
 use sheet::Sheet;
 use sheet_field::Place;
@@ -22,7 +23,7 @@ ghost use Rattle.verdict_block.specs.Verdict.{instructionsOf, jumpOf, fl
 
 // A block's last instruction, as far as a verdict asks for it: a conditional branch of a mnemonic, or nothing to judge.
 pub enum Jump {
-    Conditional(u64),
+    Conditional(Mnemonic),
     Nothing,
 }
 
@@ -44,7 +45,8 @@ fn jump_of(i: Instruction) -> Jump
     ensures { λ r. ⌜ r ≡ jumpOf i ⌝ }
 {
     if i.branch {
-        Jump::Conditional(i.mnemonic)
+        let mnemonic = i.mnemonic;
+        Jump::Conditional(mnemonic)
     } else {
         Jump::Nothing
     }
@@ -107,13 +109,18 @@ pub fn end_on(
     end_between(s, places, first, end, start)
 }
 
-fn flag_verdict(d: Decided) -> Verdict
-    ensures { λ r. ⌜ r ≡ flagVerdict d ⌝ }
+fn flag_verdict(f: Flag) -> Verdict
+    ensures { λ r. ⌜ r ≡ flagVerdict f ⌝ }
 {
-    match d {
-        Decided::Holds => Verdict::Always(Reason::Flags),
-        Decided::Fails => Verdict::Never(Reason::Flags),
-        Decided::Undecided => Verdict::Undecided,
+    match f {
+        Flag::Known(b) => {
+            if b {
+                Verdict::Always(Reason::Flags)
+            } else {
+                Verdict::Never(Reason::Flags)
+            }
+        }
+        Flag::Unknown => Verdict::Undecided,
     }
 }
 

@@ -1,4 +1,4 @@
-use Rattle.alu.specs.Arithmetic.{outcome}
+use Rattle.alu.specs.Arithmetic.{performed}
 use borrow.Author.Needs.{needs}
 use Rattle.alu.proofs.perform.Statement.{statement}
 use Rattle.alu.proofs.perform.Tie as tie
@@ -16,7 +16,7 @@ result-flags-requires : tie.Need-result-flags-requires
 result-flags-requires c κs = search needs
 
 returns : tie.Need-returns
-unfolding outcome
+unfolding performed
 returns c = cc
 
 pub perform-spec : {M : Type 1} → statement M

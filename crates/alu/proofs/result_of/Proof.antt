@@ -1,4 +1,5 @@
-use Rattle.alu.proofs.Laws.{cut-wrapped, difference}
+use mathlib.Core.Path.{_∙_}
+use Rattle.alu.proofs.Laws.{cut-wrapped, difference, turns}
 use Rattle.alu.specs.Arithmetic.{result}
 use borrow.Author.Needs.{needs}
 use Rattle.alu.proofs.result_of.Statement.{statement}
@@ -37,7 +38,7 @@ returns c = rw (c .cut .ensures, c .before .wrapping-add-u64 .ensures, c .before
 
 returns-2 : tie.Need-returns-2
 unfolding result
-returns-2 c = rw (c .cut2 .ensures, difference _ _ _ (search needs) (search needs) (search needs) (c .before .wrapping-sub-u64 .ensures), c .before .before .enum-told2 .given .1) (cut-wrapped (c .before .before .before .before .args .w) _)
+returns-2 c = rw (c .cut2 .ensures, difference _ _ _ (search needs) (search needs) (search needs) (c .before .wrapping-sub-u64 .ensures), c .before .before .enum-told2 .given .1) (cut-wrapped (c .before .before .before .before .args .w) _ ∙ turns (c .before .before .before .before .args .w) _ _ (search needs))
 
 returns-3 : tie.Need-returns-3
 unfolding result

@@ -1,12 +1,9 @@
 use borrow.Author.Needs.{needs}
 use Rattle.isa.proofs.is_at_fault.Statement.{statement}
 use Rattle.isa.proofs.is_at_fault.Tie as tie
-use Rattle.isa.proofs.is_at_fault.Reads as reads
-use Rattle.isa.proofs.is_at_fault.Lts as lts
-use Rattle.isa.proofs.is_modelled.Reads as is-modelled-reads
-use Rattle.isa.proofs.is_outside.Reads as is-outside-reads
-use Rattle.isa.proofs.is_undeclared.Reads as is-undeclared-reads
-use Rattle.isa.proofs.sizes_differ.Reads as sizes-differ-reads
+
+is-mov-requires : tie.Need-is-mov-requires
+is-mov-requires c κs = search needs
 
 is-outside-requires : tie.Need-is-outside-requires
 is-outside-requires c κs = search needs
@@ -30,6 +27,7 @@ pub is-at-fault-spec : {M : Type 1} → statement M
 is-at-fault-spec =
     tie.close
     (tie.spec
+    is-mov-requires
     is-outside-requires
     is-outside-requires-2
     is-modelled-requires

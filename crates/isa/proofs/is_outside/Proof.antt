@@ -1,8 +1,6 @@
 use borrow.Author.Needs.{needs}
 use Rattle.isa.proofs.is_outside.Statement.{statement}
 use Rattle.isa.proofs.is_outside.Tie as tie
-use Rattle.isa.proofs.is_outside.Reads as reads
-use Rattle.isa.proofs.is_outside.Lts as lts
 
 enum-known-o : tie.Need-enum-known-o
 enum-known-o c = search needs

@@ -1,8 +1,6 @@
 use borrow.Author.Needs.{needs}
 use Rattle.isa.proofs.sizes_differ.Statement.{statement}
 use Rattle.isa.proofs.sizes_differ.Tie as tie
-use Rattle.isa.proofs.sizes_differ.Reads as reads
-use Rattle.isa.proofs.sizes_differ.Lts as lts
 
 enum-known-a : tie.Need-enum-known-a
 enum-known-a c = search needs

@@ -3,19 +3,24 @@ use borrow.Author.Needs.{needs}
 use Rattle.known.proofs.arith_effect.Statement.{statement}
 use Rattle.known.proofs.arith_effect.Tie as tie
 
-settle-requires : tie.Need-settle-requires
-settle-requires c κs = search needs
+is-idiom-requires : tie.Need-is-idiom-requires
+is-idiom-requires c κs = search needs
+
+of-itself-requires : tie.Need-of-itself-requires
+of-itself-requires c κs = search needs
 
 on-operands-requires : tie.Need-on-operands-requires
 on-operands-requires c κs = search needs
 
 returns : tie.Need-returns
 unfolding arithEffect
-returns c = rw (c .before .if1 .taken) (c .settle .ensures)
+returns c = rw (c .of-itself .ensures, ← (c .before .before .is-idiom .ensures), c .before .if1 .taken)
 
 returns-2 : tie.Need-returns-2
 unfolding arithEffect
-returns-2 c = rw (c .before .if1 .left) (c .on-operands .ensures)
+returns-2 c = rw (c .on-operands .ensures, ← (c .before .before .is-idiom .ensures), c .before .if1 .left)
 
 pub arith-effect-spec : {M : Type 1} → statement M
-arith-effect-spec = tie.close (tie.spec settle-requires on-operands-requires returns returns-2)
+arith-effect-spec =
+    tie.close
+    (tie.spec is-idiom-requires of-itself-requires on-operands-requires returns returns-2)

@@ -18,12 +18,15 @@ operand-requires c κs = search needs
 arith-effect-requires : tie.Need-arith-effect-requires
 arith-effect-requires c κs = search needs
 
+is-writing-requires : tie.Need-is-writing-requires
+is-writing-requires c κs = search needs
+
 finish-requires : tie.Need-finish-requires
 finish-requires c κs = search needs
 
 returns : tie.Need-returns
 unfolding arithStep
-returns c = rw (c .finish .ensures, c .before .arith-effect .ensures, c .before .before .operand .ensures, c .before .before .before .read .ensures, c .before .before .before .before .is-same .ensures, c .before .before .before .before .before .width-of .ensures)
+returns c = rw (c .finish .ensures, c .before .is-writing .ensures, c .before .before .arith-effect .ensures, c .before .before .before .operand .ensures, c .before .before .before .before .read .ensures, c .before .before .before .before .before .is-same .ensures, c .before .before .before .before .before .before .width-of .ensures)
 
 pub arith-spec : {M : Type 1} → statement M
 arith-spec =
@@ -34,5 +37,6 @@ arith-spec =
     read-requires
     operand-requires
     arith-effect-requires
+    is-writing-requires
     finish-requires
     returns)

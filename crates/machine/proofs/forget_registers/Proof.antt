@@ -23,8 +23,8 @@ mul-r c = search needs
 array-copy-out-r : tie.Need-array-copy-out-r Inv-loop μ-loop
 array-copy-out-r c = search needs
 
-write-requires : tie.Need-write-requires Inv-loop μ-loop
-write-requires c κs = search needs
+forget-register-requires : tie.Need-forget-register-requires Inv-loop μ-loop
+forget-register-requires c κs = search needs
 
 add-i : tie.Need-add-i Inv-loop μ-loop
 add-i c = search needs
@@ -34,7 +34,7 @@ loop-less c = search needs
 
 loop-again : tie.Need-loop-again Inv-loop μ-loop
 unfolding forgetRegisters
-loop-again c = (search needs, rw (add-one, c .write .ensures, c .before .before .before .loop .inv .1))
+loop-again c = (search needs, rw (add-one, c .forget-register .ensures, c .before .before .before .loop .inv .1))
 
 returns : tie.Need-returns Inv-loop μ-loop
 returns c = let e : c .before .before .args .n ≡ c .before .loop .i = omega arith in rw e (c .before .loop .inv .1)
@@ -48,7 +48,7 @@ forget-registers-spec =
     loop-holds
     mul-r
     array-copy-out-r
-    write-requires
+    forget-register-requires
     add-i
     loop-less
     loop-again

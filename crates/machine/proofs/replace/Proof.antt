@@ -1,11 +1,8 @@
-use borrow.Author.Tests.{lt-ltb, le-ltb}
 use Rattle.machine.specs.Registers.{replaced}
+use borrow.Author.Tests.{lt-ltb, le-ltb}
 use borrow.Author.Needs.{needs}
 use Rattle.machine.proofs.replace.Statement.{statement}
 use Rattle.machine.proofs.replace.Tie as tie
-
-slot-of-requires : tie.Need-slot-of-requires
-slot-of-requires c κs = search needs
 
 mul-registers : tie.Need-mul-registers
 mul-registers c = search needs
@@ -15,12 +12,11 @@ array-set-from-registers c = search needs
 
 returns : tie.Need-returns
 unfolding replaced
-returns c = rw (lt-ltb _ _ (c .before .before .before .if1 .taken), c .slot-of .ensures)
+returns c = rw (lt-ltb _ _ (c .before .before .if1 .taken))
 
 returns-2 : tie.Need-returns-2
 unfolding replaced
 returns-2 c = rw (le-ltb _ _ (c .if1 .left))
 
 pub replace-spec : {M : Type 1} → statement M
-replace-spec =
-    tie.close (tie.spec slot-of-requires mul-registers array-set-from-registers returns returns-2)
+replace-spec = tie.close (tie.spec mul-registers array-set-from-registers returns returns-2)

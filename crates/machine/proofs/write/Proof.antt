@@ -1,5 +1,5 @@
-use borrow.Author.Tests.{eq-eqb, ne-eqb}
 use Rattle.machine.specs.Registers.{written}
+use borrow.Author.Tests.{eq-eqb, ne-eqb}
 use borrow.Author.Needs.{needs}
 use Rattle.machine.proofs.write.Statement.{statement}
 use Rattle.machine.proofs.write.Tie as tie
@@ -7,18 +7,18 @@ use Rattle.machine.proofs.write.Tie as tie
 width-of-requires : tie.Need-width-of-requires
 width-of-requires c κs = search needs
 
-whole-requires : tie.Need-whole-requires
-whole-requires c κs = search needs
+slot-at-requires : tie.Need-slot-at-requires
+slot-at-requires c κs = search needs
 
-merge-requires : tie.Need-merge-requires
-merge-requires c κs = search needs
+write-requires : tie.Need-write-requires
+write-requires c κs = search needs
 
 replace-requires : tie.Need-replace-requires
 replace-requires c κs = search needs
 
 returns : tie.Need-returns
 unfolding written
-returns c = rw (c .replace .ensures, c .before .merge .ensures, c .before .before .whole .ensures, c .before .before .before .width-of .ensures, eq-eqb _ _ (c .before .before .before .before .if1 .taken))
+returns c = rw (c .replace .ensures, c .before .write .ensures, c .before .before .slot-at .ensures, c .before .before .before .width-of .ensures, eq-eqb _ _ (c .before .before .before .before .if1 .taken))
 
 returns-2 : tie.Need-returns-2
 unfolding written
@@ -27,4 +27,4 @@ returns-2 c = rw (ne-eqb _ _ (c .if1 .left))
 pub write-spec : {M : Type 1} → statement M
 write-spec =
     tie.close
-    (tie.spec width-of-requires whole-requires merge-requires replace-requires returns returns-2)
+    (tie.spec width-of-requires slot-at-requires write-requires replace-requires returns returns-2)

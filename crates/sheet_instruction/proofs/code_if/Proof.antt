@@ -1,9 +1,6 @@
 use borrow.Author.Needs.{needs}
 use Rattle.sheet_instruction.proofs.code_if.Statement.{statement}
 use Rattle.sheet_instruction.proofs.code_if.Tie as tie
-use Rattle.sheet_instruction.proofs.code_if.Reads as reads
-use Rattle.sheet_instruction.proofs.code_if.Lts as lts
-use Rattle.sheet_field.proofs.code.Reads as code-reads
 
 code-requires : tie.Need-code-requires
 code-requires c κs = search needs

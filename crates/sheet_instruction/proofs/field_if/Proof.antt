@@ -1,9 +1,6 @@
 use borrow.Author.Needs.{needs}
 use Rattle.sheet_instruction.proofs.field_if.Statement.{statement}
 use Rattle.sheet_instruction.proofs.field_if.Tie as tie
-use Rattle.sheet_instruction.proofs.field_if.Reads as reads
-use Rattle.sheet_instruction.proofs.field_if.Lts as lts
-use Rattle.sheet_field.proofs.take_field.Reads as take-field-reads
 
 take-field-requires : tie.Need-take-field-requires
 take-field-requires c κs = search needs

@@ -1,9 +1,6 @@
 use borrow.Author.Needs.{needs}
 use Rattle.sheet_instruction.proofs.map_ok.Statement.{statement}
 use Rattle.sheet_instruction.proofs.map_ok.Tie as tie
-use Rattle.sheet_instruction.proofs.map_ok.Reads as reads
-use Rattle.sheet_instruction.proofs.map_ok.Lts as lts
-use Rattle.sheet_instruction.proofs.bit.Reads as bit-reads
 
 bit-requires : tie.Need-bit-requires
 bit-requires c κs = search needs

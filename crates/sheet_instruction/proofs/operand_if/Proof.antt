@@ -1,9 +1,6 @@
 use borrow.Author.Needs.{needs}
 use Rattle.sheet_instruction.proofs.operand_if.Statement.{statement}
 use Rattle.sheet_instruction.proofs.operand_if.Tie as tie
-use Rattle.sheet_instruction.proofs.operand_if.Reads as reads
-use Rattle.sheet_instruction.proofs.operand_if.Lts as lts
-use Rattle.sheet_instruction.proofs.take_operand.Reads as take-operand-reads
 
 take-operand-requires : tie.Need-take-operand-requires
 take-operand-requires c κs = search needs

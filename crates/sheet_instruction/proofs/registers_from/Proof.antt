@@ -6,9 +6,6 @@ use Rattle.sheet_instruction.specs.Instruction.{registersFrom}
 use Rattle.sheet_instruction.proofs.Instructions.{registers-count, registers-more}
 use Rattle.sheet_instruction.proofs.registers_from.Statement.{statement}
 use Rattle.sheet_instruction.proofs.registers_from.Tie as tie
-use Rattle.sheet_instruction.proofs.registers_from.Reads as reads
-use Rattle.sheet_instruction.proofs.registers_from.Lts as lts
-use Rattle.sheet_instruction.proofs.with_register.Reads as with-register-reads
 
 abbrev Inv-loop : tie.InvT-loop
 Inv-loop s n taken₀ i₀ taken i = (i ≤ n) × (taken ≡ registersFrom s (taken₀ .next) i)

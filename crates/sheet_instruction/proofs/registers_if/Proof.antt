@@ -1,10 +1,6 @@
 use borrow.Author.Needs.{needs}
 use Rattle.sheet_instruction.proofs.registers_if.Statement.{statement}
 use Rattle.sheet_instruction.proofs.registers_if.Tie as tie
-use Rattle.sheet_instruction.proofs.registers_if.Reads as reads
-use Rattle.sheet_instruction.proofs.registers_if.Lts as lts
-use Rattle.sheet_instruction.proofs.registers_from.Reads as registers-from-reads
-use Rattle.sheet_instruction.proofs.take_registers.Reads as take-registers-reads
 
 take-registers-requires : tie.Need-take-registers-requires
 take-registers-requires c κs = search needs

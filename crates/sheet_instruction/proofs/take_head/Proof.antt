@@ -1,14 +1,8 @@
+use Rattle.sheet_instruction.proofs.Instructions.{mnemonic-below}
 use Rattle.sheet_instruction.specs.Instruction.{headAt}
 use borrow.Author.Needs.{needs}
 use Rattle.sheet_instruction.proofs.take_head.Statement.{statement}
 use Rattle.sheet_instruction.proofs.take_head.Tie as tie
-use Rattle.sheet_instruction.proofs.take_head.Reads as reads
-use Rattle.sheet_instruction.proofs.take_head.Lts as lts
-use Rattle.sheet_field.proofs.code.Reads as code-reads
-use Rattle.sheet_instruction.proofs.bit.Reads as bit-reads
-use Rattle.sheet_instruction.proofs.field_if.Reads as field-if-reads
-use Rattle.sheet_instruction.proofs.take_address.Reads as take-address-reads
-use Rattle.sheet_instruction.proofs.take_map.Reads as take-map-reads
 
 take-map-requires : tie.Need-take-map-requires
 take-map-requires c κs = search needs
@@ -18,6 +12,9 @@ take-address-requires c κs = search needs
 
 code-requires : tie.Need-code-requires
 code-requires c κs = search needs
+
+mnemonic-of-requires : tie.Need-mnemonic-of-requires
+mnemonic-of-requires c κs = rw (c .code .ensures) (mnemonic-below _ _)
 
 bit-requires : tie.Need-bit-requires
 bit-requires c κs = search needs
@@ -36,6 +33,7 @@ take-head-spec =
     take-map-requires
     take-address-requires
     code-requires
+    mnemonic-of-requires
     bit-requires
     field-if-requires
     returns)

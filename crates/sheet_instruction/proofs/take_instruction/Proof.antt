@@ -3,14 +3,6 @@ use Rattle.sheet_instruction.specs.Instruction.{instructionAt}
 use borrow.Author.Needs.{needs}
 use Rattle.sheet_instruction.proofs.take_instruction.Statement.{statement}
 use Rattle.sheet_instruction.proofs.take_instruction.Tie as tie
-use Rattle.sheet_instruction.proofs.take_instruction.Reads as reads
-use Rattle.sheet_instruction.proofs.take_instruction.Lts as lts
-use Rattle.isa.proofs.is_at_fault.Reads as is-at-fault-reads
-use Rattle.sheet_field.proofs.judged.Reads as judged-reads
-use Rattle.sheet_field.proofs.start.Reads as start-reads
-use Rattle.sheet_instruction.proofs.bit.Reads as bit-reads
-use Rattle.sheet_instruction.proofs.take_head.Reads as take-head-reads
-use Rattle.sheet_instruction.proofs.take_tail.Reads as take-tail-reads
 
 take-head-requires : tie.Need-take-head-requires
 take-head-requires c κs = search needs

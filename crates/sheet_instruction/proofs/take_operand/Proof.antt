@@ -2,11 +2,6 @@ use Rattle.sheet_instruction.proofs.Instructions.{operand-register, ope
 use borrow.Author.Needs.{needs}
 use Rattle.sheet_instruction.proofs.take_operand.Statement.{statement}
 use Rattle.sheet_instruction.proofs.take_operand.Tie as tie
-use Rattle.sheet_instruction.proofs.take_operand.Reads as reads
-use Rattle.sheet_instruction.proofs.take_operand.Lts as lts
-use Rattle.sheet_field.proofs.code.Reads as code-reads
-use Rattle.sheet_field.proofs.take_field.Reads as take-field-reads
-use Rattle.sheet_instruction.proofs.take_register.Reads as take-register-reads
 
 code-requires : tie.Need-code-requires
 code-requires c κs = search needs

@@ -2,12 +2,6 @@ use Rattle.sheet_instruction.specs.Instruction.{registerAt}
 use borrow.Author.Needs.{needs}
 use Rattle.sheet_instruction.proofs.take_register.Statement.{statement}
 use Rattle.sheet_instruction.proofs.take_register.Tie as tie
-use Rattle.sheet_instruction.proofs.take_register.Reads as reads
-use Rattle.sheet_instruction.proofs.take_register.Lts as lts
-use Rattle.isa.proofs.well_formed.Reads as well-formed-reads
-use Rattle.sheet_field.proofs.judged.Reads as judged-reads
-use Rattle.sheet_field.proofs.start.Reads as start-reads
-use Rattle.sheet_field.proofs.take_field.Reads as take-field-reads
 
 take-field-requires : tie.Need-take-field-requires
 take-field-requires c κs = search needs

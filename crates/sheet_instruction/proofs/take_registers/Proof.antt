@@ -3,10 +3,6 @@ use Rattle.sheet_instruction.specs.Instruction.{registersAt}
 use borrow.Author.Needs.{needs}
 use Rattle.sheet_instruction.proofs.take_registers.Statement.{statement}
 use Rattle.sheet_instruction.proofs.take_registers.Tie as tie
-use Rattle.sheet_instruction.proofs.take_registers.Reads as reads
-use Rattle.sheet_instruction.proofs.take_registers.Lts as lts
-use Rattle.sheet_field.proofs.count.Reads as count-reads
-use Rattle.sheet_instruction.proofs.registers_from.Reads as registers-from-reads
 
 count-requires : tie.Need-count-requires
 count-requires c κs = search needs

@@ -3,12 +3,6 @@ use Rattle.sheet_instruction.specs.Instruction.{tailAt}
 use borrow.Author.Needs.{needs}
 use Rattle.sheet_instruction.proofs.take_tail.Statement.{statement}
 use Rattle.sheet_instruction.proofs.take_tail.Tie as tie
-use Rattle.sheet_instruction.proofs.take_tail.Reads as reads
-use Rattle.sheet_instruction.proofs.take_tail.Lts as lts
-use Rattle.sheet_instruction.proofs.bit.Reads as bit-reads
-use Rattle.sheet_instruction.proofs.code_if.Reads as code-if-reads
-use Rattle.sheet_instruction.proofs.operand_if.Reads as operand-if-reads
-use Rattle.sheet_instruction.proofs.registers_if.Reads as registers-if-reads
 
 bit-requires : tie.Need-bit-requires
 bit-requires c κs = search needs

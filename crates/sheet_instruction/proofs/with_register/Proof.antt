@@ -2,9 +2,6 @@ use Rattle.sheet_instruction.specs.Instruction.{withRegister}
 use borrow.Author.Needs.{needs}
 use Rattle.sheet_instruction.proofs.with_register.Statement.{statement}
 use Rattle.sheet_instruction.proofs.with_register.Tie as tie
-use Rattle.sheet_instruction.proofs.with_register.Reads as reads
-use Rattle.sheet_instruction.proofs.with_register.Lts as lts
-use Rattle.sheet_instruction.proofs.take_register.Reads as take-register-reads
 
 take-register-requires : tie.Need-take-register-requires
 take-register-requires c κs = search needs

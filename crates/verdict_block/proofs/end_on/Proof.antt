@@ -4,11 +4,6 @@ use Rattle.verdict_block.proofs.OnSheet.{addresses-rise, end-inside, en
 use borrow.Author.Needs.{needs}
 use Rattle.verdict_block.proofs.end_on.Statement.{statement}
 use Rattle.verdict_block.proofs.end_on.Tie as tie
-use Rattle.verdict_block.proofs.end_on.Reads as reads
-use Rattle.verdict_block.proofs.end_on.Lts as lts
-use Rattle.search.proofs.first_at_or_above.Reads as first-at-or-above-reads
-use Rattle.sheet.proofs.take_block.Reads as take-block-reads
-use Rattle.verdict_block.proofs.end_between.Reads as end-between-reads
 
 mul-t12 : tie.Need-mul-t12
 mul-t12 c = omega (arith, blocks-inside (c .before .before .before .before .args .s .now) (c .before .before .before .before .args .sheet) (c .before .before .before .before .pre .0), c .before .before .before .before .pre .1 .0, c .before .before .before .before .good)

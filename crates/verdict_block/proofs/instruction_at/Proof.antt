@@ -1,9 +1,6 @@
 use borrow.Author.Needs.{needs}
 use Rattle.verdict_block.proofs.instruction_at.Statement.{statement}
 use Rattle.verdict_block.proofs.instruction_at.Tie as tie
-use Rattle.verdict_block.proofs.instruction_at.Reads as reads
-use Rattle.verdict_block.proofs.instruction_at.Lts as lts
-use Rattle.sheet_instruction.proofs.take_instruction.Reads as take-instruction-reads
 
 take-instruction-requires : tie.Need-take-instruction-requires
 take-instruction-requires c κs = search needs

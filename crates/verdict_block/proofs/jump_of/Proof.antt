@@ -1,8 +1,6 @@
 use borrow.Author.Needs.{needs}
 use Rattle.verdict_block.proofs.jump_of.Statement.{statement}
 use Rattle.verdict_block.proofs.jump_of.Tie as tie
-use Rattle.verdict_block.proofs.jump_of.Reads as reads
-use Rattle.verdict_block.proofs.jump_of.Lts as lts
 
 returns : tie.Need-returns
 returns c = rw (c .if1 .taken)

@@ -8,10 +8,6 @@ use Prim.Native.Nat.{_-_}
 use mathlib.Core.Path.{_≡_, refl, sym, _∙_}
 use Rattle.verdict_block.proofs.step_over.Statement.{statement}
 use Rattle.verdict_block.proofs.step_over.Tie as tie
-use Rattle.verdict_block.proofs.step_over.Reads as reads
-use Rattle.verdict_block.proofs.step_over.Lts as lts
-use Rattle.machine.proofs.step.Reads as step-reads
-use Rattle.verdict_block.proofs.instruction_at.Reads as instruction-at-reads
 
 abbrev Inv-loop : tie.InvT-loop
 Inv-loop s places first end state₀ i₀ state i =

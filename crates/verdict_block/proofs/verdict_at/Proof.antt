@@ -1,10 +1,6 @@
 use borrow.Author.Needs.{needs}
 use Rattle.verdict_block.proofs.verdict_at.Statement.{statement}
 use Rattle.verdict_block.proofs.verdict_at.Tie as tie
-use Rattle.verdict_block.proofs.verdict_at.Reads as reads
-use Rattle.verdict_block.proofs.verdict_at.Lts as lts
-use Rattle.machine.proofs.condition.Reads as condition-reads
-use Rattle.verdict_block.proofs.flag_verdict.Reads as flag-verdict-reads
 
 enum-known-jump : tie.Need-enum-known-jump
 enum-known-jump c = search needs

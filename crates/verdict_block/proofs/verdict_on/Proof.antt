@@ -2,11 +2,6 @@ use Rattle.verdict_block.specs.Verdict.{verdictOn}
 use borrow.Author.Needs.{needs}
 use Rattle.verdict_block.proofs.verdict_on.Statement.{statement}
 use Rattle.verdict_block.proofs.verdict_on.Tie as tie
-use Rattle.verdict_block.proofs.verdict_on.Reads as reads
-use Rattle.verdict_block.proofs.verdict_on.Lts as lts
-use Rattle.machine.proofs.State.unknown.Reads as unknown-reads
-use Rattle.verdict_block.proofs.end_on.Reads as end-on-reads
-use Rattle.verdict_block.proofs.verdict_at.Reads as verdict-at-reads
 
 unknown-requires : tie.Need-unknown-requires
 unknown-requires c κs = search needs

@@ -1,0 +1,28 @@
+-- Machine: what is known of a register, and of its parts.
+use Prim.Native.Nat.{ℕ}
+use mathlib.Core.Bool.{true, false, cond}
+use Rattle.alu.specs.declared.Width.{Width}
+use Rattle.known.specs.declared.Value.{Value}
+use Rattle.known.specs.declared.Value.the-variants.{Known, Unknown}
+use Rattle.known.specs.declared.Slot.{Slot}
+use Rattle.known.specs.Values.{extracted, onValue, merged}
+
+-- a register that is not known; it holds 0 (M2)
+abbrev pub unmarked : Slot
+unmarked = record { known = false; value = 0 }
+
+-- a register is known whole, by its mark, or not at all (M2)
+abbrev pub contents : Slot → Value
+contents s = cond (s .known) (Known (s .value)) Unknown
+
+abbrev pub slotOf : Value → Slot
+slotOf (Known x) = record { known = true; value = x }
+slotOf Unknown = unmarked
+
+-- a read: a part is known where the whole is (M2)
+unfoldable pub partOf : Width → ℕ → Slot → Value
+partOf w offset s = onValue (extracted w offset) (contents s)
+
+-- a write to a part (M7, M8, M9)
+unfoldable pub withPart : Width → ℕ → Slot → Value → Slot
+withPart w offset s v = slotOf (merged w offset (contents s) v)
