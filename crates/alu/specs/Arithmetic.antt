@@ -1,4 +1,4 @@
--- Machine: what an operation on known values gives, result and flags. a and b are values of the width.
+-- What an operation on known values gives, result and flags. a and b are values of the width.
 use Prim.Native.Nat.{ℕ, _+_, _-_, _%_, _^_}
 use mathlib.Core.Bool.{Bool, false, not, _&&_, _||_}
 use lib.Dec.{leb, ltb, eqb}
@@ -16,7 +16,7 @@ use Rattle.alu.specs.Width.{bits}
 abbrev pub negative : Width → ℕ → Bool
 negative w x = leb (2 ^ (bits w - 1)) x
 
--- PF: the low byte has an even count of ones (M11)
+-- PF: the number of ones in the low byte is even (M11)
 abbrev pub evenParity : ℕ → Bool
 evenParity x = eqb (ones (x % 256) % 2) 0
 

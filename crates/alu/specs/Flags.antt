@@ -1,4 +1,4 @@
--- Machine: flags are known singly, and conditions of them hold, fail or stay unknown.
+-- Flags, each known or unknown by itself (M3), and conditions of them, which hold, fail or stay unknown.
 use mathlib.Core.Bool.{Bool, true, false, not, _&&_, _||_}
 use Rattle.alu.specs.declared.Flag.{Flag}
 use Rattle.alu.specs.declared.Flag.the-variants.{Known, Unknown}

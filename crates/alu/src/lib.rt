@@ -53,7 +53,7 @@ fn is_negative(w: Width, x: u64) -> bool
     }
 }
 
-// Whether the low byte has an even count of ones.
+// Whether the number of ones in the low byte is even.
 fn has_even_parity(x: u64) -> bool
     ensures { λ r. ⌜ r ≡ evenParity x ⌝ }
 {

@@ -77,7 +77,7 @@ somewhere : Processor
 somewhere = record { register = λ k. 0; status = record { cf = false; pf = false; zf = false; sf = false; of = false } }
 
 -- FORCED, AT A BRANCH. After any body of accepted instructions there is such a state: the branch is always (never) exactly
--- when its outcome is the same for every setting of the unknown registers and flags, each free of the others.
+-- where it jumps (does not jump) in each concrete state that agrees with what is known, whatever the rest is.
 pub forced-at-branch : (body : List Instruction) → AllAccepted body → (m : Mnemonic) (b : Bool)
     → (conditionOf (steppedAll nothingKnown body) m ≡ Known b)
     ↔ ((q : Processor) (free : Bool) → Agrees (steppedAll nothingKnown body) q → outcome m q free ≡ b)

@@ -210,7 +210,7 @@ declaredStatus flags new old =
       of = chosen (bit.declares flags bit.OF) (new .of) (old .of);
     }
 
--- all else changes only memory, the declared flags and the whole of each declared register (M28)
+-- any other instruction: beside memory, the flags and the registers that it declares may change, registers as a whole (M28)
 unfoldable pub byDeclaration : Processor → Instruction → Choice → Processor
 byDeclaration p i free =
     record {

@@ -89,7 +89,7 @@ module _ (n : Node) (place : ℕ) (values : List ℕ) (declared : ReadsDeclared 
       by-plain true q = by-fit q (unfitFrom 0 (n .types) values) refl
       by-plain false q = other-number (refused-15 q) (λ e. omega (arith, e))
 
--- Turned back: a node's evaluation refuses as 14, 15 or 16
+-- a node's evaluation refuses as 14, 15 or 16
 abbrev pub ByNode : ℕ → Type 0
 ByNode k = (14 ≤ k) × (k ≤ 16)
 

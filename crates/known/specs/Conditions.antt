@@ -1,4 +1,4 @@
--- Machine: what is known of the conditions of jumps.
+-- What is known of the conditions of jumps.
 use lib.Dec.{eqb}
 use Rattle.isa.specs.declared.Condition.{Condition}
 use Rattle.isa.specs.declared.Condition.the-variants.{E, Ne, L, Ge, Le, G, B, Ae, Be, A, S, Ns, P, Np, O, No}

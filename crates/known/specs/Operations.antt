@@ -1,4 +1,4 @@
--- Machine: what an instruction leaves, as far as values and flags go, in the order of the scope document.
+-- What an instruction leaves, as far as values and flags go, in the order of the claims.
 use Prim.Native.Nat.{ℕ, _-_, _^_}
 use mathlib.Core.Bool.{Bool, true, false, cond, _&&_}
 use Rattle.isa.specs.declared.CarryChange.{CarryChange}

@@ -1,4 +1,4 @@
--- Machine: what is known of a register, and of its parts.
+-- What is known of a register, and of its parts.
 use Prim.Native.Nat.{ℕ}
 use mathlib.Core.Bool.{true, false, cond}
 use Rattle.alu.specs.declared.Width.{Width}

@@ -1,4 +1,4 @@
--- Machine: values are known or not; the parts of a register, and what a write leaves of the whole.
+-- Values that are known or not; the parts of a register, and what a write leaves of the whole.
 use Prim.Native.Nat.{ℕ, _+_, _-_, _*_, _/_, _%_, _^_}
 use mathlib.Core.Bool.{cond}
 use lib.Dec.{eqb}
@@ -34,8 +34,8 @@ abbrev pub onto : Width → ℕ → ℕ → Value → Value
 onto w offset x (Known old) = Known (inserted w offset old x)
 onto w offset x Unknown = Unknown
 
--- The whole after a write: unknown after an unknown one; a known 64-bit one is the whole, a known 32-bit one clears the
--- upper half, a known 8- or 16-bit one leaves an unknown register unknown and keeps the rest of a known one (M7, M8, M9).
+-- The whole after a write: unknown if the written value is. A known value of 64 bits is the whole, one of 32 bits has zeros above it; one of 8 or 16
+-- bits goes into a known register, the rest of which stays, while an unknown register stays unknown (M7, M8, M9).
 unfoldable pub merged : Width → ℕ → Value → Value → Value
 merged w offset old Unknown = Unknown
 merged Byte offset old (Known x) = onto Byte offset x old

@@ -1,4 +1,4 @@
--- Machine: what is known of a conditional branch, by its mnemonic.
+-- What is known of a conditional branch, by its mnemonic.
 use Prim.Native.Nat.{ℕ}
 use Rattle.isa.specs.declared.Register.{Register}
 use Rattle.isa.specs.declared.Counter.{Counter}
@@ -21,8 +21,8 @@ countSize Cx = 16
 abbrev pub countRegister : Counter → Register
 countRegister c = record { class = 1; index = 1; size = countSize c; offset = 0 }
 
--- What is known of whether the branch jumps: by its flags, or by register 1. A conditional branch of any other mnemonic, as
--- loop, may go both ways, and nothing is known of it (M18, M19, M20).
+-- What is known of whether the branch jumps: by its flags, or by register 1. Of a conditional branch that has no jump's
+-- mnemonic, as loop, nothing is known (M18, M19, M20).
 unfoldable pub conditionOf : State → Mnemonic → Flag
 conditionOf s Other = Unknown
 conditionOf s (Carry c) = Unknown

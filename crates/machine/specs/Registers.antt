@@ -1,4 +1,4 @@
--- Machine: registers are known whole or not at all, flags singly; reads, writes and forgetting.
+-- What is known of registers, each as a whole, and of flags, each by itself; reads, writes and forgetting.
 use Prim.Native.Nat.{ℕ, zero, suc, min, _%_, _^_}
 use mathlib.Core.Bool.{cond}
 use mathlib.Core.List.{List}

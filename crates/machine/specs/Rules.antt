@@ -1,4 +1,4 @@
--- Machine: what an instruction leaves known. The section in its order, with what renders each of its rules:
+-- What an instruction leaves known. The rules of machine and blocks in the order of the claims, with what renders each:
 --   registers known whole, flags singly      known/specs/Registers.antt contents, partOf; Registers slotAt (M2, M3)
 --   all start unknown                        Registers nothingKnown (M4)
 --   call-like instructions                   stepped (M5)
@@ -10,7 +10,8 @@
 --   inc, dec, neg of an unknown register     unaryUnknown; known/specs/Operations.antt unknownCarry (M15, M16)
 --   all else                                 Registers forgotten; known/specs/Operations.antt forgetFlags (M17)
 --   jumps                                    Conditions conditionOf; known/specs/Conditions.antt flagCondition, isZero (M18, M19, M20)
---   forced; blocks; runs                     theorems/specs/Runs.antt; verdict_block/specs; concrete/specs (M21 to M30)
+--   forced; blocks; runs                     theorems/specs/Runs.antt; verdict_block/specs; concrete/specs
+--                                            (M21, M22, M23, M24, M25, M26, M27, M28, M29, M30)
 use mathlib.Core.Bool.{Bool, true, false, cond, _&&_}
 use mathlib.Core.List.{List, [], _∷_}
 use lib.Dec.{eqb}

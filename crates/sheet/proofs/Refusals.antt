@@ -1,4 +1,4 @@
--- Turned back, reading: every refusal has a number from 1 to 9, and a place that is not beyond the sheet's end. Assumes nothing.
+-- Every refusal of reading has a number from 1 to 9, and a place that is not beyond the sheet's end. Assumes nothing.
 -- Each stage keeps that the place it comes to is within the sheet, and a refusal stands at a place that an earlier stage came to.
 use Prim.Native.Nat.{ℕ, zero, suc, _+_, _≤_}
 use mathlib.Core.Path.{_≡_, refl}

@@ -106,7 +106,7 @@ fourteen s number values from = (
     said : (a : Evaluated) (t : Truth) → a ≡ refused 14 (nodePlace s number) → SaysOf a t → t ≡ truth.NoOutcome
     said a t e h = let g : SaysOf (refused 14 (nodePlace s number)) t = rw e at h in g refl
 
--- Turned back: the numbers that the evaluation refuses with: reading's 1 to 9, 13, and the node's 14 to 16
+-- the numbers that the evaluation refuses with: reading's 1 to 9, 13, and the node's 14 to 16
 abbrev pub ByEvaluation : ℕ → Type 0
 ByEvaluation k = ByReading k ⊎ ((13 ≤ k) × (k ≤ 16))
 
