@@ -1,0 +1,2 @@
+-- statements passed one after the other
+pub mod Passing

@@ -1,0 +1,189 @@
+-- A node's statements are passed one after the other: what is still due of them, from the table that stands in the lent words, is what the node's
+-- statements make of any condition. A statement that was read whole is one of the list, and its words are one tree.
+use Prim.Native.Nat.{ℕ, suc, _+_, _*_, _-_, _≤_, _<_}
+use mathlib.Core.Path.{_≡_, refl, sym, ap, subst, _∙_}
+use mathlib.Core.Bool.{Bool, true, false, cond}
+use mathlib.Core.List.{List, [], _∷_, _++_}
+use native.Mathlib.Omega.{arith}
+use native.Mathlib.Numerals.{add-one}
+use lib.ListN.{length, getD, take, drop, replicate, length-append, length-drop, drop-of-length-le}
+use lib.Seq.{drop-cons, take-at}
+use Rattle.sheet_field.specs.Field.{WentOn}
+use Rattle.sheet_field.specs.declared.Place.{Place}
+use Rattle.sheet_field.specs.declared.Place.the-variants.{At}
+use Rattle.expr.specs.Tree.{Expr, Wf, treeOf}
+use Rattle.expr.proofs.Laws.{wf-flat, treeOf-flat}
+use Rattle.expr.specs.Statement.{Statement}
+use Rattle.expr.specs.Statement.Statement.{assignment, other}
+use Rattle.sheet_expression.specs.Expression.{expressionAt}
+use Rattle.sheet_expression.proofs.Accepted.{one-tree}
+use Rattle.sheet_node.specs.Node.{StatementRead, statementAt, statementOf, statementsFrom}
+use Rattle.sheet_node.proofs.Accepted.{statements-back, statements-nth, statements-length, assigned}
+use Rattle.substitution.specs.Substitution.{Table, nothingHeld, substitute, long, tooLong, into, substituted, withAssignments}
+use Rattle.substitution.specs.Substitution as sub
+use Rattle.substitution.specs.declared.Written.{Written}
+use Rattle.substitution.specs.declared.Written.the-variants.{From, TooLong}
+use Rattle.substitution.specs.Words.{tableOf, Slots, Holds, Assigned, Made}
+use Rattle.substitution.proofs.Entries.{cleared}
+use Rattle.substitute_node.specs.Node.{Lent, Stepped, Passed, MadeNode}
+
+-- words that were taken to the front of a list
+pub front-words : (ws before after : List ℕ) (n : ℕ) → length ws ≡ n → after ≡ ws ++ drop n before → take n after ≡ ws
+front-words ws before after n size is = rw is (take-at ws (drop n before) n size)
+
+pub front-room : (ws before after : List ℕ) (n : ℕ) → length ws ≡ n → after ≡ ws ++ drop n before → length after ≡ length before → n ≤ length before
+front-room ws before after n size is same =
+    omega (arith, size, same, ap length is, length-append ws (drop n before), length-drop n before)
+
+-- a statement that is no assignment
+pub stepped-other : {table lengths lengths′ : List ℕ} → Slots table lengths → lengths′ ≡ replicate (length lengths) 0 → (h : Table) (r : StatementRead)
+    → r .assigned ≡ false → Stepped true table lengths′ h (statementOf r)
+unfolding substituted
+stepped-other {table} {lengths} {lengths′} slots is h r unassigned =
+    let b : Holds table lengths′ nothingHeld = rw (is, slots .places) (cleared table (slots .room)) in
+    record {
+      slots = b .slots;
+      same = λ rest c. rw unassigned (ap (λ (t : Table). substituted t rest c) (sym (b .holds)));
+    }
+
+-- an assignment
+held-on : {table lengths : List ℕ} (h : Table) (v : ℕ) (e : Expr) → Holds table lengths (sub.assigned v (substitute h e) h) → long (substitute h e) ≡ false
+    → Stepped true table lengths h (assignment v e)
+unfolding substituted
+held-on h v e b short = record {
+  slots = b .slots;
+  same = λ rest c. rw short (ap (λ (t : Table). substituted t rest c) (sym (b .holds)));
+}
+
+too-much : {table lengths : List ℕ} (h : Table) (v : ℕ) (e : Expr) → Holds table lengths h → long (substitute h e) ≡ true
+    → Stepped false table lengths h (assignment v e)
+unfolding substituted
+too-much h v e b much = record { slots = b .slots; same = λ rest c. rw much }
+
+assigned-same : {fits : Bool} {table lengths : List ℕ} (h : Table) (v : ℕ) (e : Expr) → Assigned fits table lengths v e h
+    → Stepped fits table lengths h (assignment v e)
+assigned-same {fits} {table} {lengths} h v e a = by fits a
+  where
+    by : (b : Bool) → Assigned b table lengths v e h → Stepped b table lengths h (assignment v e)
+    by true a = held-on h v e (a .0) (a .1)
+    by false a = too-much h v e (a .0) (a .1)
+
+pub stepped-assigned : {fits : Bool} {table lengths : List ℕ} (h : Table) (r : StatementRead) {v : ℕ} {ws : List ℕ} → r .assigned ≡ true → v ≡ r .variable
+    → ws ≡ r .words → Assigned fits table lengths v (treeOf ws) h → Stepped fits table lengths h (statementOf r)
+stepped-assigned {fits} {table} {lengths} h r {v} {ws} yes-assigned number words a =
+    rw (yes-assigned, ← number, ← words) (assigned-same h v (treeOf ws) a)
+
+-- an assignment's words are one tree, its variable is declared
+pub record Whole (v : ℕ) (ws : List ℕ) : Type 0 where
+  pub small : v < 32
+  pub tree : Wf ws
+  pub short : length ws ≤ 256
+
+pub assigned-whole : (types s : List ℕ) (p : Place) → WentOn (statementAt types s p .next) → length types ≤ 32 → statementAt types s p .assigned ≡ true
+    → {v : ℕ} {ws : List ℕ} → v ≡ statementAt types s p .variable → ws ≡ statementAt types s p .words → Whole v ws
+assigned-whole types s p on few is number words =
+    let a = assigned types s p (on .1) is in
+    record { small = omega (arith, a .declared); tree = rw words (a .tree); short = rw words (a .short) }
+
+-- the first i statements are passed
+pub record Passing (types s : List ℕ) (p : Place) (n : ℕ) (table lengths words out : List ℕ) (next : Place) (i : ℕ) : Type 0 where
+  pub within : i ≤ n
+  pub place : next ≡ statementsFrom types s p i .next
+  pub lent : Lent types table lengths words out
+  pub due : (c : Expr) → withAssignments (statementsFrom types s p n .list) c ≡ substituted (tableOf table lengths) (drop i (statementsFrom types s p n .list)) c
+
+pub passing-start : (types s : List ℕ) (p : Place) (n : ℕ) {table lengths lengths′ words out : List ℕ} → Lent types table lengths words out
+    → lengths′ ≡ replicate (length lengths) 0 → Passing types s p n table lengths′ words out p 0
+unfolding statementsFrom
+passing-start types s p n {table} {lengths} {lengths′} {words} {out} l is =
+    let b : Holds table lengths′ nothingHeld = rw (is, l .slots .places) (cleared table (l .slots .room)) in
+    record {
+      within = omega arith;
+      place = refl;
+      lent = record { few = l .few; slots = b .slots; wordsRoom = l .wordsRoom; outRoom = l .outRoom };
+      due = λ c. ap (λ (t : Table). substituted t (statementsFrom types s p n .list) c) (sym (b .holds));
+    }
+
+statement-next : (types s : List ℕ) (p : Place) (k : ℕ) {a : ℕ} → statementsFrom types s p (k + 1) .next ≡ At a
+    → statementAt types s (statementsFrom types s p k .next) .next ≡ At a
+unfolding statementsFrom
+statement-next types s p k e = rw (add-one k) at e
+
+next-is : (types s : List ℕ) (p : Place) (k : ℕ) → statementAt types s (statementsFrom types s p k .next) .next ≡ statementsFrom types s p (k + 1) .next
+unfolding statementsFrom
+next-is types s p k = rw (add-one k)
+
+module _ {types s : List ℕ} {p : Place} {n : ℕ} {table lengths words out : List ℕ} {next : Place} {i : ℕ}
+    (g : Passing types s p n table lengths words out next i) where
+  pub passing-whole : WentOn (statementsFrom types s p n .next) → i < n → WentOn (statementAt types s next .next)
+  passing-whole on below =
+      let w = statements-back types s p n (i + 1) (on .1) (omega arith) in
+      (w .0, rw (g .place) (statement-next types s p i (w .1)))
+
+  -- what is due starts with the statement at this place
+  due-here : i < n → (c : Expr) → withAssignments (statementsFrom types s p n .list) c
+      ≡ substituted (tableOf table lengths) (statementOf (statementAt types s next) ∷ drop (suc i) (statementsFrom types s p n .list)) c
+  due-here below c =
+      let size : i < length (statementsFrom types s p n .list) = omega (arith, statements-length types s p n) in
+      let this : getD (statementsFrom types s p n .list) i other ≡ statementOf (statementAt types s next) =
+      statements-nth types s p n i other below ∙ ap (λ (q : Place). statementOf (statementAt types s q)) (sym (g .place)) in
+      g .due c
+      ∙ ap (λ (l : List Statement). substituted (tableOf table lengths) l c) (drop-cons (statementsFrom types s p n .list) i other size)
+      ∙ ap (λ (x : Statement). substituted (tableOf table lengths) (x ∷ drop (suc i) (statementsFrom types s p n .list)) c) this
+
+  module _ (below : i < n) {fits : Bool} {table′ lengths′ : List ℕ}
+      (t : Stepped fits table′ lengths′ (tableOf table lengths) (statementOf (statementAt types s next))) where
+    pub passing-stop : fits ≡ false → Passed false table′ lengths′ (statementsFrom types s p n .list)
+    passing-stop out-of = record {
+      slots = t .slots;
+      same = λ c. due-here below c ∙ t .same (drop (suc i) (statementsFrom types s p n .list)) c
+          ∙ ap (λ (b : Bool). cond b (substituted (tableOf table′ lengths′) (drop (suc i) (statementsFrom types s p n .list)) c) tooLong) out-of;
+    }
+
+    pub passing-more : fits ≡ true → {next′ : Place} {words′ out′ : List ℕ} → next′ ≡ statementAt types s next .next
+        → length words′ ≡ length words → length out′ ≡ length out → Passing types s p n table′ lengths′ words′ out′ next′ (i + 1)
+    passing-more within-limit {next′} place words-same out-same = record {
+      within = omega arith;
+      place = place ∙ ap (λ (q : Place). statementAt types s q .next) (g .place) ∙ next-is types s p i;
+      lent = record { few = g .lent .few; slots = t .slots; wordsRoom = words-same ∙ g .lent .wordsRoom; outRoom = out-same ∙ g .lent .outRoom };
+      due = λ c. rw (add-one i) (due-here below c ∙ t .same (drop (suc i) (statementsFrom types s p n .list)) c
+          ∙ ap (λ (b : Bool). cond b (substituted (tableOf table′ lengths′) (drop (suc i) (statementsFrom types s p n .list)) c) tooLong) within-limit);
+    }
+
+  pub passing-end : n ≤ i → Passed true table lengths (statementsFrom types s p n .list)
+  passing-end end =
+      let past : length (statementsFrom types s p n .list) ≤ i = omega (arith, statements-length types s p n) in
+      let all : drop i (statementsFrom types s p n .list) ≡ [] = drop-of-length-le (statementsFrom types s p n .list) past in
+      record { slots = g .lent .slots; same = λ c. g .due c ∙ ap (λ (l : List Statement). substituted (tableOf table lengths) l c) all }
+
+-- ---- the condition, after all statements
+
+pub passed-long : {fits : Bool} {table lengths : List ℕ} {statements : List Statement} → Passed fits table lengths statements → fits ≡ false → (c : Expr)
+    → withAssignments statements c ≡ tooLong
+passed-long {fits} {table} {lengths} {statements} g much c = g .same c ∙ ap (λ (b : Bool). cond b (substituted (tableOf table lengths) [] c) tooLong) much
+
+pub passed-made : {fits : Bool} {table lengths : List ℕ} {statements : List Statement} (out ws : List ℕ) (w : Written) → Passed fits table lengths statements
+    → fits ≡ true → (c : Expr) → treeOf ws ≡ c → Made w out (substitute (tableOf table lengths) (treeOf ws)) → MadeNode w out (withAssignments statements c)
+unfolding substituted
+passed-made {fits} {table} {lengths} {statements} out ws w g short c is m = by w (rw is at m)
+  where
+    made : Expr
+    made = substitute (tableOf table lengths) c
+
+    last : withAssignments statements c ≡ cond (long made) tooLong (into made)
+    last = g .same c ∙ ap (λ (b : Bool). cond b (substituted (tableOf table lengths) [] c) tooLong) short
+
+    by : (w : Written) → Made w out made → MadeNode w out (withAssignments statements c)
+    by (From at) m = (
+      subst Wf (sym (m .0)) (wf-flat made),
+      last ∙ ap (λ (b : Bool). cond b tooLong (into made)) (m .1) ∙ ap into (sym (ap treeOf (m .0) ∙ treeOf-flat made)),
+    )
+    by TooLong m = last ∙ ap (λ (b : Bool). cond b tooLong (into made)) m
+
+-- a condition that was read whole is one tree
+pub condition-tree : (n : ℕ) (s : List ℕ) (p : Place) → WentOn (expressionAt n s p .next) → {ws : List ℕ} → ws ≡ expressionAt n s p .words → Wf ws
+condition-tree n s p on words = rw words (one-tree n s p (on .1) .tree)
+
+pub condition-short : (n : ℕ) (s : List ℕ) (p : Place) → WentOn (expressionAt n s p .next) → {ws : List ℕ} → ws ≡ expressionAt n s p .words
+    → length ws ≤ 256
+condition-short n s p on words = rw words (one-tree n s p (on .1) .short)

@@ -1,0 +1,102 @@
+use Rattle.substitute_node.proofs.Passing.{front-words, front-room, passed-long, passed-made, condition-tree, condition-short}
+use Rattle.sheet_expression.specs.Expression.{expressionAt}
+use Rattle.expr.specs.Tree.{treeOf}
+use borrow.Author.Tests.{not-true, not-false}
+use lib.Seq.{length-take-le}
+use lib.ListN.{length}
+use native.Mathlib.Omega.{arith}
+use mathlib.Core.Path.{sym, ap}
+use borrow.Author.Needs.{needs}
+use Rattle.substitute_node.proofs.substitute_node.Statement.{statement}
+use Rattle.substitute_node.proofs.substitute_node.Tie as tie
+
+take-statements-requires : tie.Need-take-statements-requires
+take-statements-requires c κs = search needs
+
+same-length : tie.Need-same-length
+same-length c = search needs
+
+same-length-2 : tie.Need-same-length-2
+same-length-2 c = search needs
+
+same-length-3 : tie.Need-same-length-3
+same-length-3 c = search needs
+
+same-length-4 : tie.Need-same-length-4
+same-length-4 c = search needs
+
+returns : tie.Need-returns
+returns c =
+    let passed = c .before .before .before .before .before .before .before .before .before .take-statements in
+    passed-long (passed .ensures) (not-true _ (c .if1 .taken)) _
+
+take-expression-requires : tie.Need-take-expression-requires
+take-expression-requires c κs = search needs
+
+mul-k : tie.Need-mul-k
+mul-k c =
+    let passed = c .before .before .before .before .before .before .before .before .before .before .before .before .before .take-statements in
+    let read = c .before .before .take-expression in
+    let start = c .before .before .before .before .before .before .before .before .before .before .before .before .before .before .before .before .before .before .before .before .before .before .before .before in
+    omega (arith, front-room (expressionAt (length (start .args .types .now)) (start .args .s .now) (start .args .condition) .words) (passed .last .1 .1 .1 .1 .1 .1 .0) _ _ (read .ensures .size) (read .ensures .list) (read .kept .1 .1 .1 .0), passed .kept .1 .1 .1 .1 .1 .1 .0, start .pre .0 .wordsRoom)
+
+slice-reshare-prefix-substitute : tie.Need-slice-reshare-prefix-substitute
+slice-reshare-prefix-substitute c =
+    let passed = c .before .before .before .before .before .before .before .before .before .before .before .before .before .take-statements in
+    let read = c .before .before .take-expression in
+    let start = c .before .before .before .before .before .before .before .before .before .before .before .before .before .before .before .before .before .before .before .before .before .before .before .before in
+    omega (arith, front-room (expressionAt (length (start .args .types .now)) (start .args .s .now) (start .args .condition) .words) (passed .last .1 .1 .1 .1 .1 .1 .0) _ _ (read .ensures .size) (read .ensures .list) (read .kept .1 .1 .1 .0), read .kept .1 .1 .1 .0)
+
+slice-aggregate-substitute : tie.Need-slice-aggregate-substitute
+slice-aggregate-substitute c =
+    let passed = c .before .before .before .before .before .before .before .before .before .before .before .before .before .before .take-statements in
+    let read = c .before .before .before .take-expression in
+    let start = c .before .before .before .before .before .before .before .before .before .before .before .before .before .before .before .before .before .before .before .before .before .before .before .before .before in
+    sym (length-take-le _ _ (omega (arith, front-room (expressionAt (length (start .args .types .now)) (start .args .s .now) (start .args .condition) .words) (passed .last .1 .1 .1 .1 .1 .1 .0) _ _ (read .ensures .size) (read .ensures .list) (read .kept .1 .1 .1 .0), read .kept .1 .1 .1 .0)))
+
+substitute-requires : tie.Need-substitute-requires
+substitute-requires c κs =
+    let passed = c .before .before .before .before .before .before .before .before .before .before .before .before .before .before .before .before .before .take-statements in
+    let read = c .before .before .before .before .before .before .take-expression in
+    let start = c .before .before .before .before .before .before .before .before .before .before .before .before .before .before .before .before .before .before .before .before .before .before .before .before .before .before .before .before in
+    (condition-tree _ _ _ (start .pre .1 .1) (front-words (expressionAt (length (start .args .types .now)) (start .args .s .now) (start .args .condition) .words) (passed .last .1 .1 .1 .1 .1 .1 .0) _ _ (read .ensures .size) (read .ensures .list)), condition-short _ _ _ (start .pre .1 .1) (front-words (expressionAt (length (start .args .types .now)) (start .args .s .now) (start .args .condition) .words) (passed .last .1 .1 .1 .1 .1 .1 .0) _ _ (read .ensures .size) (read .ensures .list)), passed .ensures .slots, omega arith)
+
+same-length-5 : tie.Need-same-length-5
+same-length-5 c = search needs
+
+same-length-6 : tie.Need-same-length-6
+same-length-6 c = search needs
+
+same-length-7 : tie.Need-same-length-7
+same-length-7 c = search needs
+
+same-length-8 : tie.Need-same-length-8
+same-length-8 c = search needs
+
+returns-2 : tie.Need-returns-2
+returns-2 c =
+    let passed = c .before .before .before .before .before .before .before .before .before .before .before .before .before .before .before .before .before .before .before .before .take-statements in
+    let read = c .before .before .before .before .before .before .before .before .before .take-expression in
+    let start = c .before .before .before .before .before .before .before .before .before .before .before .before .before .before .before .before .before .before .before .before .before .before .before .before .before .before .before .before .before .before .before in
+    passed-made (c .before .before .substitute .last .1 .1 .1 .0) _ (c .before .before .substitute .result) (passed .ensures) (not-false _ (c .before .before .before .before .before .before .before .before .before .before .before .if1 .left)) _ (ap treeOf (front-words (expressionAt (length (start .args .types .now)) (start .args .s .now) (start .args .condition) .words) (passed .last .1 .1 .1 .1 .1 .1 .0) _ _ (read .ensures .size) (read .ensures .list))) (c .before .before .substitute .ensures)
+
+pub substitute-node-spec : {M : Type 1} → statement M
+substitute-node-spec =
+    tie.close
+    (tie.spec
+    take-statements-requires
+    same-length
+    same-length-2
+    same-length-3
+    same-length-4
+    returns
+    take-expression-requires
+    mul-k
+    slice-reshare-prefix-substitute
+    slice-aggregate-substitute
+    substitute-requires
+    same-length-5
+    same-length-6
+    same-length-7
+    same-length-8
+    returns-2)

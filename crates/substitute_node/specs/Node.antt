@@ -1,0 +1,35 @@
+-- What passing a node's statements leaves in lent words.
+use mathlib.Core.Path.{_≡_}
+use mathlib.Core.Bool.{Bool, true, false, cond}
+use mathlib.Core.List.{List, [], _∷_}
+use Prim.Native.Nat.{ℕ, _≤_}
+use lib.ListN.{length, drop}
+use Rattle.expr.specs.Tree.{Expr, Wf, treeOf}
+use Rattle.expr.specs.Statement.{Statement}
+use Rattle.substitution.specs.declared.Written.{Written}
+use Rattle.substitution.specs.declared.Written.the-variants.{From, TooLong}
+use Rattle.substitution.specs.Substitution.{Table, tooLong, into, Substituted, substituted, withAssignments}
+use Rattle.substitution.specs.Words.{tableOf, Slots}
+
+-- the lent words: the held table, and 256 words each for the records that are read and for those that are written
+pub record Lent (types table lengths words out : List ℕ) : Type 0 where
+  pub few : length types ≤ 32
+  pub slots : Slots table lengths
+  pub wordsRoom : length words ≡ 256
+  pub outRoom : length out ≡ 256
+
+-- What one statement leaves of the table h: whatever comes after it, and whatever the condition, the table left in the words gives what h gave, or all
+-- is too long. (N1, N2, N26)
+pub record Stepped (fits : Bool) (table lengths : List ℕ) (h : Table) (x : Statement) : Type 0 where
+  pub slots : Slots table lengths
+  pub same : (rest : List Statement) (c : Expr) → substituted h (x ∷ rest) c ≡ cond fits (substituted (tableOf table lengths) rest c) tooLong
+
+-- What a node's statements leave, from a table in which nothing is held. (N1, N2, N26)
+pub record Passed (fits : Bool) (table lengths : List ℕ) (statements : List Statement) : Type 0 where
+  pub slots : Slots table lengths
+  pub same : (c : Expr) → withAssignments statements c ≡ cond fits (substituted (tableOf table lengths) [] c) tooLong
+
+-- The words of a node's substituted condition fill the end of a lent list, or refusal 10 is due. (N26)
+abbrev pub MadeNode : Written → List ℕ → Substituted → Type 0
+MadeNode (From at) out t = Wf (drop at out) × (t ≡ into (treeOf (drop at out)))
+MadeNode TooLong out t = t ≡ tooLong

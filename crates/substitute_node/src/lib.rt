@@ -1,0 +1,98 @@
+// A node's statements, read where they stand in an accepted sheet, are substituted into its condition. Each statement's bytes are read once.
+use sheet_field::Place;
+use substitution::Written;
+ghost use mathlib.Core.Path.{_≡_};
+ghost use Prim.Native.Nat.{ℕ, _≤_};
+ghost use lib.ListN.{length};
+ghost use Rattle.sheet_field.specs.Field.{WentOn};
+ghost use Rattle.expr.specs.Tree.{treeOf};
+ghost use Rattle.sheet_expression.specs.Expression.{expressionAt};
+ghost use Rattle.sheet_node.specs.Node.{statementAt, statementOf, statementsFrom};
+ghost use Rattle.substitution.specs.Substitution.{withAssignments};
+ghost use Rattle.substitution.specs.Words.{tableOf};
+ghost use Rattle.substitute_node.specs.Node.{Lent, Stepped, Passed, MadeNode};
+
+// What one statement leaves: whether its substituted value is within its limit, and the place after the statement.
+pub struct Step {
+    pub fits: bool,
+    pub next: Place,
+}
+
+// The statement at a place, which was read whole: an assignment's value is substituted and assigned, any other statement ends all that is held.
+fn take_statement(
+    s: &[u8],
+    p: Place,
+    types: &[u8],
+    table: &mut [u64],
+    lengths: &mut [usize],
+    words: &mut [u64],
+    out: &mut [u64],
+) -> Step
+    requires { ⌜ Lent (now types) (now table) (now lengths) (now words) (now out) ⌝ }
+    requires { ⌜ WentOn (statementAt (now types) (now s) p .next) ⌝ }
+    ensures { λ r. ⌜ (r .next ≡ statementAt (now (types .entry)) (now (s .entry)) p .next) × Stepped (r .fits) (now (table .exit)) (now (lengths .exit)) (tableOf (now (table .entry)) (now (lengths .entry))) (statementOf (statementAt (now (types .entry)) (now (s .entry)) p)) ⌝ }
+{
+    let r = sheet_node::take_statement(s, p, types, words);
+    let next = r.next;
+    if !r.assigned {
+        substitution::clear(lengths);
+        return Step { fits: true, next };
+    }
+    let n = 2 * (r.records as usize);
+    let fits = substitution::take_assignment(r.variable, &words[..n], table, lengths, out);
+    Step { fits, next }
+}
+
+// The n statements from a place on, which were read whole, from a table in which nothing is held; false where a substituted value is too long.
+fn take_statements(
+    s: &[u8],
+    p: Place,
+    types: &[u8],
+    n: u64,
+    table: &mut [u64],
+    lengths: &mut [usize],
+    words: &mut [u64],
+    out: &mut [u64],
+) -> bool
+    requires { ⌜ Lent (now types) (now table) (now lengths) (now words) (now out) ⌝ }
+    requires { ⌜ WentOn (statementsFrom (now types) (now s) p n .next) ⌝ }
+    ensures { λ r. ⌜ Passed r (now (table .exit)) (now (lengths .exit)) (statementsFrom (now (types .entry)) (now (s .entry)) p n .list) ⌝ }
+{
+    substitution::clear(lengths);
+    let mut next = p;
+    let mut i: u64 = 0;
+    while i < n {
+        let r = take_statement(s, next, types, table, lengths, words, out);
+        if !r.fits {
+            return false;
+        }
+        next = r.next;
+        i += 1;
+    }
+    true
+}
+
+// A node's condition with its n statements substituted, at the end of 256 lent words. The statements from `body` on and the condition were read whole.
+pub fn substitute_node(
+    s: &[u8],
+    types: &[u8],
+    body: Place,
+    n: u64,
+    condition: Place,
+    table: &mut [u64],
+    lengths: &mut [usize],
+    words: &mut [u64],
+    out: &mut [u64],
+) -> Written
+    requires { ⌜ Lent (now types) (now table) (now lengths) (now words) (now out) ⌝ }
+    requires { ⌜ WentOn (statementsFrom (now types) (now s) body n .next) ⌝ }
+    requires { ⌜ WentOn (expressionAt (length (now types)) (now s) condition .next) ⌝ }
+    ensures { λ r. ⌜ MadeNode r (now (out .exit)) (withAssignments (statementsFrom (now (types .entry)) (now (s .entry)) body n .list) (treeOf (expressionAt (length (now (types .entry))) (now (s .entry)) condition .words))) ⌝ }
+{
+    if !take_statements(s, body, types, n, table, lengths, words, out) {
+        return Written::TooLong;
+    }
+    let e = sheet_expression::take_expression(s, condition, types.len() as u64, words);
+    let k = 2 * (e.records as usize);
+    substitution::substitute(&words[..k], table, lengths, out)
+}
