@@ -128,7 +128,7 @@ module _ (m : ℕ) (p : 0 < m) where
       let h : (X + suc a) * (Y + suc b) ≡ K * m * (L * m) = ap₂ (λ (u v : ℕ). u * v) (below-zero a) (below-zero b) in
       leaves-pos (X * Y % m) (suc a * suc b) (X * Y / m + K * L * m) (X * L + K * Y) (mod-lt (X * Y) p) (omega (arith, f, g, h, cut (X * Y)))
 
--- 'Values', results wrap: sum, difference and product of patterns are those of their numbers, wrapped
+-- Sum, difference and product of patterns are those of their numbers, wrapped.
 module _ (t a b : ℕ) (ha : a < 2 ^ bits t) (hb : b < 2 ^ bits t) where
   pub sum-whole : sum t a b ≡ wrap t (number t a +ℤ number t b)
   sum-whole =

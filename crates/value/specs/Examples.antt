@@ -74,7 +74,7 @@ shift-copies-sign : all (binary 9 s32 (constant 1 4) ∷ binary 9 (cast 6 s32) (
 unfolding types values evaluated ev typeOf constantType binaryType promoted plainType common operate operators arithmetics shifts comparisons convert number negative residue bits count shiftRight
 shift-copies-sign = refl
 
--- the most negative value by -1 wraps to itself, and nothing is left
+-- the least signed value by -1 is out of range, and wraps back to itself; the remainder is 0
 least-by-minus-one : all (binary 3 least32 s32 ∷ binary 4 least32 s32 ∷ binary 3 least64 s64 ∷ binary 4 least64 s64 ∷ []) ≡ Of (2 ^ 31) ∷ Of 0 ∷ Of (2 ^ 63) ∷ Of 0 ∷ []
 unfolding types values evaluated ev typeOf constantType binaryType promoted plainType common operate operators arithmetics shifts comparisons convert number negative residue bits quotient remainder
 least-by-minus-one = refl
