@@ -28,7 +28,7 @@ use Rattle.evaluate_node.specs.declared.Evaluation.the-variants.{Holds, 
 use Rattle.evaluate_node.specs.declared.Fit.{Fit}
 use Rattle.evaluate_node.specs.declared.Fit.the-variants.{AllFit, Unfit}
 use Rattle.evaluate_node.specs.Evaluate.{plainAll, unfitFrom, onValues, onFit, onTruth, evaluationOf, StartsFrom, Gives, FromRun}
-use Rattle.evaluate_node.proofs.Laws.{both-left, both-right}
+use Rattle.arith.proofs.Laws.{and-left, and-right}
 use Rattle.evaluate_node.proofs.Same.{same-run}
 
 module _ (n : Node) (place : ℕ) (values : List ℕ) (declared : ReadsDeclared n) (c : Choices) (starts : StartsFrom (n .types) values c) where
@@ -43,7 +43,7 @@ module _ (n : Node) (place : ℕ) (values : List ℕ) (declared : ReadsDeclared 
       rw (plain, fit)
       (ap (onTruth place)
       (same-run (n .types) (length (n .types)) (onValues values) c (n .condition) 0 (n .statements) (onValues values .start) (c .start)
-      (both-left (plainAll (n .statements)) (plainExpr (n .condition)) plain) (both-right (plainAll (n .statements)) (plainExpr (n .condition)) plain) (declared .statements) (declared .condition)
+      (and-left (plainAll (n .statements)) (plainExpr (n .condition)) plain) (and-right (plainAll (n .statements)) (plainExpr (n .condition)) plain) (declared .statements) (declared .condition)
       (λ v below. sym (starts v below))))
 
   refused-15 : (plainAll (n .statements) && plainExpr (n .condition)) ≡ false → evaluationOf n place values ≡ Refused 15 place

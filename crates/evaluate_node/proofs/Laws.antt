@@ -60,14 +60,6 @@ module _ (types values : List ℕ) (v : ℕ) (kept : unfitFrom 0 types values �
   unfolding unfitFrom
   unfit-none out = sym (kept ∙ rw (drop-of-length-le types out))
 
-pub both-left : (a b : Bool) → (a && b) ≡ true → a ≡ true
-both-left true b e = refl
-both-left false b e = e
-
-pub both-right : (a b : Bool) → (a && b) ≡ true → b ≡ true
-both-right true b e = e
-both-right false b e = cc
-
 -- ---- statements
 
 pub none-next : (types s : List ℕ) (p : Place) → p ≡ statementsFrom types s p 0 .next

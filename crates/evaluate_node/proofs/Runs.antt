@@ -31,7 +31,8 @@ use Rattle.evaluate_node.specs.declared.Fit.{Fit}
 use Rattle.evaluate_node.specs.declared.Fit.the-variants.{AllFit, Unfit}
 use Rattle.evaluate_node.specs.Contracts.{After, stateOf, assignedAll, Started, Running}
 use Rattle.evaluate_node.specs.Contracts.After.{went, stopped}
-use Rattle.evaluate_node.proofs.Laws.{both-left, both-right, rests}
+use Rattle.evaluate_node.proofs.Laws.{rests}
+use Rattle.arith.proofs.Laws.{and-left, and-right}
 use Rattle.evaluate_node.proofs.Same.{is-plain, Same, same-run}
 use Rattle.evaluate_node.proofs.Whole.{fit-enough}
 use Rattle.sheet_node.proofs.Variables.{Below, AllBelow, ReadsDeclared, reads-declared}
@@ -88,15 +89,15 @@ run-from types c condition i [] values p d q = ends types c condition i values (
 run-from types c condition i (other ∷ rest) values p d q = cc
 run-from types c condition i (assignment v e ∷ rest) values p d q =
     go (evaluated types values e) refl
-    (λ x. run-from types c condition (suc i) rest (set values v x) (both-right (plainExpr e) (plainAll rest) p) (rw length-set (d .1)) q)
+    (λ x. run-from types c condition (suc i) rest (set values v x) (and-right (plainExpr e) (plainAll rest) p) (rw length-set (d .1)) q)
   where
     go : (u : Value) → evaluated types values e ≡ u
         → ((x : ℕ) → runFrom types c condition (suc i) rest (lent (set values v x)) ≡ finish types condition (assignedAll types rest (went (set values v x))))
         → runFrom types c condition i (assignment v e ∷ rest) (lent values) ≡ finish types condition (assignedAll types (assignment v e ∷ rest) (went values))
     go (Of x) is rest-is =
-        assigns types c condition i values v e rest (is-plain e (both-left (plainExpr e) (plainAll rest) p)) x (d .0) is ∙ rw is (rest-is x)
+        assigns types c condition i values v e rest (is-plain e (and-left (plainExpr e) (plainAll rest) p)) x (d .0) is ∙ rw is (rest-is x)
     go NoValue is rest-is =
-        stops types c condition i values v e rest (is-plain e (both-left (plainExpr e) (plainAll rest) p)) is ∙ rw (is, stays types rest values)
+        stops types c condition i values v e rest (is-plain e (and-left (plainExpr e) (plainAll rest) p)) is ∙ rw (is, stays types rest values)
 
 module _ (s : List ℕ) (node : NodeField) (place : ℕ) (types values words : List ℕ) (r : Running s node types words) where
   abbrev L : List Statement

@@ -19,7 +19,7 @@ use Rattle.value.specs.Run.{Choices, update, given, runFrom}
 use Rattle.value.proofs.Independence.{by-variables-read}
 use Rattle.value.proofs.Steps.{Plain, plain-ev}
 use Rattle.evaluate_node.specs.Evaluate.{plainAll}
-use Rattle.evaluate_node.proofs.Laws.{both-left, both-right}
+use Rattle.arith.proofs.Laws.{and-left, and-right}
 
 pub is-plain : (e : Expr) → plainExpr e ≡ true → Plain e
 is-plain e h =
@@ -53,6 +53,6 @@ same-run types n c c′ condition i [] ρ ρ′ p q b d h =
 same-run types n c c′ condition i (other ∷ rest) ρ ρ′ p q b d h = absurd (false≢true p)
 same-run types n c c′ condition i (assignment v e ∷ rest) ρ ρ′ p q b d h =
     ap (λ (u : Value). given u (λ x. runFrom types c condition (suc i) rest (update v x ρ)))
-    (same-value types n ρ ρ′ (c .memory i) (c′ .memory i) (c .effects i) (c′ .effects i) e (both-left (plainExpr e) (plainAll rest) p) (b .0) h)
+    (same-value types n ρ ρ′ (c .memory i) (c′ .memory i) (c .effects i) (c′ .effects i) e (and-left (plainExpr e) (plainAll rest) p) (b .0) h)
     ∙ same-given (ev types ρ′ ρ′ (c′ .memory i) (c′ .effects i) e) _ _
-    (λ x. same-run types n c c′ condition (suc i) rest (update v x ρ) (update v x ρ′) (both-right (plainExpr e) (plainAll rest) p) q (b .1) d (same-update n v x ρ ρ′ h))
+    (λ x. same-run types n c c′ condition (suc i) rest (update v x ρ) (update v x ρ′) (and-right (plainExpr e) (plainAll rest) p) q (b .1) d (same-update n v x ρ ρ′ h))
