@@ -2,12 +2,12 @@
 -- believes the definitions that stand in a statement need not read on.
 use Prim.Native.Nat.{ℕ}
 use mathlib.Core.Path.{_≡_}
-use mathlib.Core.List.{List}
+use mathlib.Core.List.{List, []}
 use mathlib.Core.Logic.{_↔_}
 use mathlib.Core.Bool.{Bool, cond}
 use Rattle.concrete.specs.Concrete.{Processor, Choice}
 use Rattle.value.specs.declared.Truth.the-variants as truth
-use Rattle.value.specs.Run.{Choices}
+use Rattle.value.specs.Run.{Choices, run}
 use Rattle.sheet.specs.Sheet.{readingOf}
 use Rattle.format.specs.Write.{All}
 use Rattle.format.specs.Sheet.{Format}
@@ -20,7 +20,7 @@ use Rattle.pomthija.specs.Evaluation.{evaluationAnswer, nodeNumbered, nodePlace
 use Rattle.pomthija.specs.Evaluation.Evaluated.{outcome, refused}
 use Rattle.theorems.specs.Runs.{runOn}
 use Rattle.theorems.specs.Runs.Outcome.{jumped}
-use Rattle.theorems.specs.Rows.{Yields, rows, marked}
+use Rattle.theorems.specs.Rows.{Yields, rows, probe, marked}
 use Rattle.theorems.proofs.Public.{said, Answered, ForcedEnd, answers-right, answers-forced}
 use Rattle.expr.specs.Codes.{opEqual, opNotEqual}
 use Rattle.expr.specs.Tree.{Expr}
@@ -33,7 +33,7 @@ use Rattle.decide.proofs.Complete.{decided}
 use Rattle.decide.proofs.Evaluation.{low, Has, sharedBits, ownBits, ev-low}
 use Rattle.format.proofs.Spans.{Bytes}
 use Rattle.pomthija.specs.Node.{nodeAnswer}
-use Rattle.theorems.proofs.Nodes.{decides, outcomeOf, nodes-right, evaluation-agrees}
+use Rattle.theorems.proofs.Nodes.{decides, outcomeOf, from, nodes-right, evaluation-agrees, probe-run}
 use Rattle.theorems.proofs.Outcomes.{answers-run, fourteen, ByEvaluation, refusal-number}
 
 -- Reading accepts exactly the bytes of the valid sheets, and yields their content; a refusal has a number from 1 to 9 and a place within the sheet.
@@ -55,7 +55,7 @@ blocks = answers-right
 pub forced-blocks : (s : List ℕ) (number : ℕ) → Answered (blockAnswer s number) → (b : Bool) → (blockAnswer s number ≡ said b) ↔ ForcedEnd s number b
 forced-blocks = answers-forced
 
--- The marked rows of blocks are as the scope document's table has them.
+-- The marked rows are as the scope document's table has them, of blocks and of nodes.
 pub marked-rows : Yields rows
 marked-rows = marked
 
@@ -93,3 +93,7 @@ low-bit-values = ev-low
 pub evaluations-agree : (s : List ℕ) → Bytes s → (number : ℕ) (values : List ℕ) (value : ℕ) → evaluationAnswer s number values ≡ outcome value
     → (b : Bool) (reason : ℕ) → nodeAnswer s number ≡ decides b reason → SaysOf (outcome value) (outcomeOf b)
 evaluations-agree = evaluation-agrees
+
+-- The probe table's node is undecided (a marked row), and must be: there is a run in which its two sides agree.
+pub probe-table : run (probe .types) (probe .statements) (probe .condition) (from []) ≡ truth.Holds
+probe-table = probe-run

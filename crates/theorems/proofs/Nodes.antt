@@ -19,9 +19,12 @@ use Rattle.value.specs.declared.Value.the-variants.{Of, NoValue}
 use Rattle.value.specs.declared.Truth.{Truth}
 use Rattle.value.specs.declared.Truth.the-variants.{NoOutcome}
 use Rattle.value.specs.declared.Truth.the-variants as truth
-use Rattle.value.specs.Operators.{truthOf}
+use Rattle.value.specs.Operators.{truthOf, operate, operators, arithmetics, shifts, comparisons}
+use Rattle.expr.specs.Types.{bits, plainType, promoted, common, constantType, binaryType, typeOf}
+use Rattle.arith.specs.Numbers.{convert, number, residue, negative}
+use Rattle.theorems.specs.Rows.{probe}
 use Rattle.value.specs.Evaluation.{Values, Contents, Effects, shared, ev}
-use Rattle.value.specs.Run.{Choices, run}
+use Rattle.value.specs.Run.{Choices, runFrom, run}
 use Rattle.substitution.specs.Substitution.{Entry, free, held, Table, nothingHeld, standing, substitute, entryReads, kept, holdable, entryOf, assigned, long, Substituted, tooLong, into, substituted, withAssignments}
 use Rattle.substitution.proofs.Runs.{every-run}
 use Rattle.verdict.specs.declared.Verdict.{Verdict}
@@ -241,7 +244,7 @@ nodes-right s small number b reason e c some = go (readingOf s) refl e
         on false e = refused-decides 13 0 b reason e
 
 -- a run from lent values; what is free beside them is taken as 0
-abbrev from : List ℕ → Choices
+abbrev pub from : List ℕ → Choices
 from values = record { start = λ v. getD values v 0; memory = λ i path t a. 0; contents = λ t a. 0; effects = λ i path. 0; renewed = λ i v. 0 }
 
 -- No evaluation of a node contradicts its verdict.
@@ -254,3 +257,8 @@ evaluation-agrees s small number values value e b reason q =
     some : (value : ℕ) → SaysOf (outcome value) (nodeRun s number (from values)) → nodeRun s number (from values) ≡ NoOutcome → ⊥
     some zero says none = let z : _≡_ {A = ℕ} 0 1 = cc in omega arith
     some (suc k) says none = let z : _≡_ {A = ℕ} 0 1 = cc in omega arith
+
+-- The probe table: a slot that is moved by an odd step and then copied. The two are equal afterwards, as this run shows, so no verdict may say that they never are.
+pub probe-run : run (probe .types) (probe .statements) (probe .condition) (from []) ≡ truth.Holds
+unfolding runFrom ev typeOf operate operators arithmetics shifts comparisons promoted common constantType binaryType bits plainType convert number residue negative
+probe-run = refl
