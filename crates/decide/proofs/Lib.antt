@@ -9,3 +9,5 @@ pub mod Evaluation
 pub mod ExactValue
 -- the verdict is right of every evaluation
 pub mod Sound
+-- laws of the code's steps
+pub mod Steps

@@ -1,3 +1,4 @@
 pub mod LowBit
 pub mod Exact
 pub mod Decide
+pub mod Answers

@@ -248,7 +248,7 @@ fn combined(
 }
 
 // The polynomial of a part with both sides entered: the right side's atoms have their numbers after the left side's.
-fn sides(
+pub fn sides(
     pair: Pair,
     whole: &[u64],
     at: usize,
