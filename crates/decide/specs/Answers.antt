@@ -8,7 +8,9 @@ use lib.ListN.{length}
 use Rattle.expr.specs.Tree.{Expr}
 use Rattle.parity.specs.declared.Pair.the-variants.{Sum}
 use Rattle.parity.specs.Lent.{pairOf}
+use Rattle.verdict.specs.declared.Reason.the-variants.{Parity}
 use Rattle.verdict.specs.declared.Verdict.{Verdict}
+use Rattle.verdict.specs.declared.Verdict.the-variants.{Undecided}
 use Rattle.decide.specs.declared.Known.{Known}
 use Rattle.decide.specs.declared.Known.the-variants.{Value, Open, TooMany}
 use Rattle.decide.specs.declared.Parted as Parted
@@ -18,6 +20,7 @@ use Rattle.decide.specs.declared.Decision.the-variants as decisions
 use Rattle.decide.specs.declared.Shape as Shape
 use Rattle.decide.specs.declared.Shape.the-variants.{LowLeft, LowRight, Even, Vanishes, Other}
 use Rattle.decide.specs.Exact as Exact
+use Rattle.decide.specs.Decide.{said, asked, onExact, both, either}
 
 -- room for the atoms and the terms of two sides of 128 records together, and for 4,096 products
 pub record Buffers (atoms terms scratch : List ℕ) : Type 0 where
@@ -61,3 +64,33 @@ parted fits one = cond fits (cond one parteds.Always parteds.Open) parteds.TooMa
 -- a verdict within the limits
 abbrev pub answered : Bool → Verdict → Decision.Decision
 answered fits v = cond fits (decisions.Of v) decisions.TooMany
+
+-- what exact sides and parity say of an equality, given their answers
+abbrev pub exactVerdict : Bool → Known → Known → Bool → Verdict
+exactVerdict equal (Value x) (Value y) writtenBoth = onExact equal (cond writtenBoth none (some (eqb x y)))
+exactVerdict equal (Value x) Open writtenBoth = Undecided
+exactVerdict equal (Value x) TooMany writtenBoth = Undecided
+exactVerdict equal Open y writtenBoth = Undecided
+exactVerdict equal TooMany y writtenBoth = Undecided
+
+abbrev pub parityVerdict : Bool → Parted.Parted → Verdict
+parityVerdict equal parteds.Always = said Parity (asked equal false)
+parityVerdict equal parteds.Open = Undecided
+parityVerdict equal parteds.TooMany = Undecided
+
+-- an answer that is within the limits
+abbrev pub knownFits : Known → Bool
+knownFits (Value x) = true
+knownFits Open = true
+knownFits TooMany = false
+
+abbrev pub partedFits : Parted.Parted → Bool
+partedFits parteds.Always = true
+partedFits parteds.Open = true
+partedFits parteds.TooMany = false
+
+-- && where `and`, else ||, from the halves' answers
+abbrev pub halvesOf : Bool → Decision.Decision → Decision.Decision → Decision.Decision
+halvesOf and (decisions.Of v) (decisions.Of w) = decisions.Of (cond and (both v w) (either v w))
+halvesOf and (decisions.Of v) decisions.TooMany = decisions.TooMany
+halvesOf and decisions.TooMany d = decisions.TooMany

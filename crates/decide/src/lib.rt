@@ -2,6 +2,7 @@
 use parity::Constant;
 use parity::Pair;
 use parity::Size;
+use verdict::Reason;
 use verdict::Verdict;
 ghost use mathlib.Core.Path.{_≡_};
 ghost use mathlib.Core.Bool.{not, _&&_};
@@ -12,9 +13,9 @@ ghost use Rattle.expr.specs.Tree.{Wf, treeOf};
 ghost use Rattle.expr.specs.Scan.{hasOwnValue, sameTree};
 ghost use Rattle.parity.specs.Parity.{parity as parityOf, difference};
 ghost use Rattle.decide.specs.Exact.{isConstant, low, shape, exact as exactOf, written as writtenOf, exactFits};
-ghost use Rattle.decide.specs.Decide.{isOne};
+ghost use Rattle.decide.specs.Decide.{isOne, said as saidOf, asked as askedOf, orElse, aboveZero, mirrored as mirroredOf, both as bothOf, either as eitherOf};
 ghost use Rattle.parity.specs.Lent.{LentTwo};
-ghost use Rattle.decide.specs.Answers.{Buffers, shapeOf, known, castKnown, evenKnown, sumFits, parted};
+ghost use Rattle.decide.specs.Answers.{Buffers, shapeOf, known, castKnown, evenKnown, sumFits, parted, exactVerdict, parityVerdict, knownFits, partedFits, halvesOf};
 
 // A value that a side has, or that none is known, or that a part passes the limits.
 pub enum Known {
@@ -216,5 +217,179 @@ fn written(rs: &[u64]) -> bool
         Shape::Even => written(left),
         Shape::Vanishes => false,
         Shape::Other => false,
+    }
+}
+
+fn said(reason: Reason, holds: bool) -> Verdict
+    ensures { λ r. ⌜ r ≡ saidOf reason holds ⌝ }
+{
+    if holds {
+        return Verdict::Always(reason);
+    }
+    Verdict::Never(reason)
+}
+
+// == where `equal`, else !=: from whether the sides are equal.
+fn asked(equal: bool, same: bool) -> bool
+    ensures { λ r. ⌜ r ≡ askedOf equal same ⌝ }
+{
+    if equal { same } else { !same }
+}
+
+// The first of two steps that decides.
+fn or_else(first: Verdict, second: Verdict) -> Verdict
+    ensures { λ r. ⌜ r ≡ orElse first second ⌝ }
+{
+    match first {
+        Verdict::Always(reason) => Verdict::Always(reason),
+        Verdict::Never(reason) => Verdict::Never(reason),
+        Verdict::Undecided => second,
+        Verdict::NoBranch => Verdict::NoBranch,
+    }
+}
+
+// What exact sides say of an equality, unless both are constants as written.
+fn exact_verdict(equal: bool, a: Known, b: Known, as_written: bool) -> Verdict
+    ensures { λ r. ⌜ r ≡ exactVerdict equal a b «as_written» ⌝ }
+{
+    match a {
+        Known::Value(x) => match b {
+            Known::Value(y) => {
+                if as_written {
+                    return Verdict::Undecided;
+                }
+                said(Reason::ExactSides, asked(equal, x == y))
+            }
+            Known::Open => Verdict::Undecided,
+            Known::TooMany => Verdict::Undecided,
+        },
+        Known::Open => Verdict::Undecided,
+        Known::TooMany => Verdict::Undecided,
+    }
+}
+
+// What the sides' low bits say of an equality.
+fn parity_verdict(equal: bool, sides: Parted) -> Verdict
+    ensures { λ r. ⌜ r ≡ parityVerdict equal sides ⌝ }
+{
+    match sides {
+        Parted::Always => said(Reason::Parity, asked(equal, false)),
+        Parted::Open => Verdict::Undecided,
+        Parted::TooMany => Verdict::Undecided,
+    }
+}
+
+// A side is within the limits.
+fn known_fits(v: Known) -> bool
+    ensures { λ r. ⌜ r ≡ knownFits v ⌝ }
+{
+    match v {
+        Known::Value(_) => true,
+        Known::Open => true,
+        Known::TooMany => false,
+    }
+}
+
+fn parted_fits(sides: Parted) -> bool
+    ensures { λ r. ⌜ r ≡ partedFits sides ⌝ }
+{
+    match sides {
+        Parted::Always => true,
+        Parted::Open => true,
+        Parted::TooMany => false,
+    }
+}
+
+// Against 0 on its right.
+fn above_zero(operator: u64) -> Verdict
+    ensures { λ r. ⌜ r ≡ aboveZero operator ⌝ }
+{
+    if operator == expr::GREATER_EQUAL {
+        return Verdict::Always(Reason::UnsignedZero);
+    }
+    if operator == expr::LESS {
+        return Verdict::Never(Reason::UnsignedZero);
+    }
+    Verdict::Undecided
+}
+
+// The relation with its sides exchanged.
+fn mirrored(operator: u64) -> u64
+    ensures { λ r. ⌜ r ≡ mirroredOf operator ⌝ }
+{
+    if operator == expr::LESS {
+        return expr::GREATER;
+    }
+    if operator == expr::GREATER {
+        return expr::LESS;
+    }
+    if operator == expr::LESS_EQUAL {
+        return expr::GREATER_EQUAL;
+    }
+    if operator == expr::GREATER_EQUAL {
+        return expr::LESS_EQUAL;
+    }
+    operator
+}
+
+// Both halves of && hold, or one fails; the left one's reason before the right one's.
+fn both(left: Verdict, right: Verdict) -> Verdict
+    ensures { λ r. ⌜ r ≡ bothOf left right ⌝ }
+{
+    match left {
+        Verdict::Never(reason) => Verdict::Never(reason),
+        Verdict::Always(_) => match right {
+            Verdict::Always(_) => Verdict::Always(Reason::Halves),
+            Verdict::Never(reason) => Verdict::Never(reason),
+            Verdict::Undecided => Verdict::Undecided,
+            Verdict::NoBranch => Verdict::Undecided,
+        },
+        Verdict::Undecided => match right {
+            Verdict::Never(reason) => Verdict::Never(reason),
+            Verdict::Always(_) => Verdict::Undecided,
+            Verdict::Undecided => Verdict::Undecided,
+            Verdict::NoBranch => Verdict::Undecided,
+        },
+        Verdict::NoBranch => Verdict::Undecided,
+    }
+}
+
+// One half of || holds, or both fail.
+fn either(left: Verdict, right: Verdict) -> Verdict
+    ensures { λ r. ⌜ r ≡ eitherOf left right ⌝ }
+{
+    match left {
+        Verdict::Always(reason) => Verdict::Always(reason),
+        Verdict::Never(_) => match right {
+            Verdict::Always(reason) => Verdict::Always(reason),
+            Verdict::Never(_) => Verdict::Never(Reason::Halves),
+            Verdict::Undecided => Verdict::Undecided,
+            Verdict::NoBranch => Verdict::Undecided,
+        },
+        Verdict::Undecided => match right {
+            Verdict::Always(reason) => Verdict::Always(reason),
+            Verdict::Never(_) => Verdict::Undecided,
+            Verdict::Undecided => Verdict::Undecided,
+            Verdict::NoBranch => Verdict::Undecided,
+        },
+        Verdict::NoBranch => Verdict::Undecided,
+    }
+}
+
+// Logic from its halves: && where `and`, else ||.
+fn halves(and: bool, left: Decision, right: Decision) -> Decision
+    ensures { λ r. ⌜ r ≡ halvesOf and left right ⌝ }
+{
+    match left {
+        Decision::Of(a) => match right {
+            Decision::Of(b) => {
+                if and {
+                    return Decision::Of(both(a, b));
+                }
+                Decision::Of(either(a, b))
+            }
+            Decision::TooMany => Decision::TooMany,
+        },
+        Decision::TooMany => Decision::TooMany,
     }
 }

@@ -1,0 +1,42 @@
+-- `decide::or_else` meets its contract: by cases.
+-- Assumes nothing.
+use borrow.Author.Needs.{needs}
+use Rattle.decide.proofs.or_else.Statement.{statement}
+use Rattle.decide.proofs.or_else.Tie as tie
+
+enum-known-first : tie.Need-enum-known-first
+enum-known-first c = search needs
+
+enum-known-first-2 : tie.Need-enum-known-first-2
+enum-known-first-2 c = search needs
+
+enum-told : tie.Need-enum-told
+enum-told c = search needs
+
+enum-told-2 : tie.Need-enum-told-2
+enum-told-2 c = search needs
+
+returns : tie.Need-returns
+returns c = rw (c .before .first .given .1)
+
+returns-2 : tie.Need-returns-2
+returns-2 c = rw (c .before .first2 .given .1)
+
+returns-3 : tie.Need-returns-3
+returns-3 c = search needs
+
+returns-4 : tie.Need-returns-4
+returns-4 c = search needs
+
+pub or-else-spec : {M : Type 1} → statement M
+or-else-spec =
+    tie.close
+    (tie.spec
+    enum-known-first
+    enum-known-first-2
+    enum-told
+    enum-told-2
+    returns
+    returns-2
+    returns-3
+    returns-4)
