@@ -19,7 +19,7 @@ use Rattle.expr.specs.Scan.{plainExpr}
 use Rattle.arith.specs.Numbers.{fits}
 use Rattle.expr.specs.Statement.{Statement}
 use Rattle.expr.specs.Statement.Statement.{assignment, other}
-use Rattle.sheet_node.specs.declared.StatementField.{StatementField}
+use Rattle.sheet_node.specs.declared.StatementReading.{StatementReading}
 use Rattle.sheet_node.specs.Node.{statementAt, statementOf, statementsFrom, StatementRead, TookStatement}
 use Rattle.sheet_node.proofs.Accepted.{statements-back, statements-nth, statements-length, assigned}
 use Rattle.evaluate_node.specs.declared.Fit.{Fit}
@@ -79,17 +79,17 @@ statement-whole types s p n i on below next-is =
     (w .0, rw next-is (statement-next types s p i (w .1)))
 
 -- a statement that was taken: its words stand at the front of the list
-pub took-words : {f : StatementField} {before after : List ℕ} {r : StatementRead} → TookStatement f before after r
+pub took-words : {f : StatementReading} {before after : List ℕ} {r : StatementRead} → TookStatement f before after r
     → take (2 * f .records) after ≡ r .words
 took-words {f} {before = before} {r = r} took = rw (took .list) (take-at (r .words) (drop (2 * f .records) before) (2 * f .records) (took .size))
 
-pub took-room : {f : StatementField} {before after : List ℕ} {r : StatementRead} → TookStatement f before after r
+pub took-room : {f : StatementReading} {before after : List ℕ} {r : StatementRead} → TookStatement f before after r
     → length after ≡ length before → 2 * f .records ≤ length before
 took-room {f} {before = before} {after} {r} took same =
     let l : length after ≡ 2 * f .records + (length before - 2 * f .records) = rw (took .list, length-append, length-drop, took .size) in
     omega arith
 
-module _ (types s : List ℕ) (p : Place) {f : StatementField} {before after : List ℕ} (took : TookStatement f before after (statementAt types s p)) where
+module _ (types s : List ℕ) (p : Place) {f : StatementReading} {before after : List ℕ} (took : TookStatement f before after (statementAt types s p)) where
   -- an assignment that was read whole is one tree
   pub taken-tree : WentOn (statementAt types s p .next) → f .assigned ≡ true → Wf (take (2 * f .records) after)
   taken-tree on yes′ = rw (took-words took) (assigned types s p (on .1) (sym (took .assigned) ∙ yes′) .tree)
@@ -120,7 +120,7 @@ pub rests : (types : List ℕ) (x : Statement) (values : List ℕ) → afterStat
 rests types (assignment v e) values = refl
 rests types other values = refl
 
-module _ (types s : List ℕ) (p : Place) {f : StatementField} {before after : List ℕ} (took : TookStatement f before after (statementAt types s p)) where
+module _ (types s : List ℕ) (p : Place) {f : StatementReading} {before after : List ℕ} (took : TookStatement f before after (statementAt types s p)) where
   pub taken-ready : WentOn (statementAt types s p .next) → plainStatement (statementOf (statementAt types s p)) ≡ true → Ready (take (2 * f .records) after)
   taken-ready on plain =
       let is = plain-assigned (statementAt types s p) plain in

@@ -14,7 +14,7 @@ use Rattle.expr.specs.Scan.{plainExpr}
 use Rattle.expr.specs.Statement.{Statement}
 use Rattle.expr.specs.Statement.Statement.{assignment, other}
 use Rattle.sheet_expression.specs.Expression.{expressionAt}
-use Rattle.sheet_node.specs.declared.NodeField.{NodeField}
+use Rattle.sheet_node.specs.declared.NodeReading.{NodeReading}
 use Rattle.sheet_node.specs.Node.{statementAt, statementOf, statementsFrom, nodeOf}
 use Rattle.sheet_node.proofs.Accepted.{statement-on, assigned}
 use Rattle.value.specs.declared.Value.{Value}
@@ -99,7 +99,7 @@ run-from types c condition i (assignment v e ∷ rest) values p d q =
     go NoValue is rest-is =
         stops types c condition i values v e rest (is-plain e (and-left (plainExpr e) (plainAll rest) p)) is ∙ rw (is, stays types rest values)
 
-module _ (s : List ℕ) (node : NodeField) (place : ℕ) (types values words : List ℕ) (r : Running s node types words) where
+module _ (s : List ℕ) (node : NodeReading) (place : ℕ) (types values words : List ℕ) (r : Running s node types words) where
   abbrev L : List Statement
   L = statementsFrom types s (node .body) (node .statements) .list
 
@@ -112,7 +112,7 @@ module _ (s : List ℕ) (node : NodeField) (place : ℕ) (types values words : L
   evaluation-is = rw (← r .typesAre, ← r .wordsAre)
 
   reads : ReadsDeclared (nodeOf s node)
-  reads = rw (r .is) (reads-declared s (r .at) {a = r .on .0} (ap (λ (n : NodeField). n .next) (sym (r .is)) ∙ r .on .1))
+  reads = rw (r .is) (reads-declared s (r .at) {a = r .on .0} (ap (λ (n : NodeReading). n .next) (sym (r .is)) ∙ r .on .1))
 
   pub node-refused : plainAll L ≡ false → Refused 15 place ≡ evaluationOf (nodeOf s node) place values
   node-refused p = sym (evaluation-is ∙ rw p)

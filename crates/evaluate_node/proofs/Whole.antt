@@ -14,15 +14,15 @@ use Rattle.expr.specs.Scan.{plainExpr}
 use Rattle.arith.specs.Numbers.{fits}
 use Rattle.sheet_expression.specs.declared.Expression.{Expression}
 use Rattle.sheet_expression.specs.Expression.{expressionAt, TookExpression}
-use Rattle.sheet_node.specs.declared.NodeField.{NodeField}
-use Rattle.sheet_node.specs.Node.{statementsFrom, nodeAt, nodeOf}
+use Rattle.sheet_node.specs.declared.NodeReading.{NodeReading}
+use Rattle.sheet_node.specs.Node.{statementsFrom, nodeAt, nodeOf, ReadNode}
 use Rattle.sheet_node.proofs.Accepted.{WholeNode, whole-node}
 use Rattle.evaluate_node.specs.declared.Fit.{Fit}
 use Rattle.evaluate_node.specs.declared.Fit.the-variants.{AllFit, Unfit}
 use Rattle.evaluate_node.specs.declared.Evaluation.{Evaluation}
 use Rattle.evaluate_node.specs.declared.Evaluation.the-variants.{Refused}
 use Rattle.evaluate_node.specs.Evaluate.{unfitFrom, evaluationOf}
-use Rattle.evaluate_node.specs.Contracts.{Running, ReadNode}
+use Rattle.evaluate_node.specs.Contracts.{Running}
 use Rattle.evaluate_node.proofs.Laws.{condition-tree, condition-short}
 use Rattle.sheet_node.proofs.Statements.{took-front}
 
@@ -41,11 +41,11 @@ fit-enough v (t ∷ types) (x ∷ values) e = go (fits t x) refl (λ h. fit-enou
     go false q rest = absurd (not-both (rw q at e))
 
 -- the types of a node
-abbrev pub typesFor : List ℕ → NodeField → List ℕ
+abbrev pub typesFor : List ℕ → NodeReading → List ℕ
 typesFor s node = take (node .variables) (drop (startOf (node .types)) s)
 
 -- the parts that the operations on a node ask for
-pub record Parts (s : List ℕ) (node : NodeField) : Type 0 where
+pub record Parts (s : List ℕ) (node : NodeReading) : Type 0 where
   pub few : length (typesFor s node) ≤ 32
   pub counted : node .variables ≡ length (typesFor s node)
   pub inside : startOf (node .types) + node .variables ≤ length s
@@ -57,15 +57,15 @@ parts-at s p e =
     let w = whole-node s p e in
     record { few = w .few; counted = w .count; inside = w .inside; statements = w .statements; condition = w .condition }
 
-pub parts : (s : List ℕ) (node : NodeField) → ReadNode s node → Parts s node
-parts s node read = rw (read .is) (parts-at s (read .at) {a = read .on .0} (ap (λ (n : NodeField). n .next) (sym (read .is)) ∙ read .on .1))
+pub parts : (s : List ℕ) (node : NodeReading) → ReadNode s node → Parts s node
+parts s node read = rw (read .is) (parts-at s (read .at) {a = read .on .0} (ap (λ (n : NodeReading). n .next) (sym (read .is)) ∙ read .on .1))
 
 and-false : (b : Bool) → (b && false) ≡ false
 and-false true = refl
 and-false false = refl
 
 -- for a list of types that is known to be the node's, and the condition's words
-module _ (s : List ℕ) (node : NodeField) (read : ReadNode s node) where
+module _ (s : List ℕ) (node : NodeReading) (read : ReadNode s node) where
   pub few-variables : node .variables ≤ 32
   few-variables = rw (parts s node read .counted) (parts s node read .few)
 

@@ -9,7 +9,7 @@ use Rattle.expr.specs.Statement.Statement.{assignment, other}
 use Rattle.sheet_field.specs.Field.{startOf, WentOn}
 use Rattle.sheet_field.specs.declared.Place.{Place}
 use Rattle.sheet_expression.specs.Expression.{expressionAt}
-use Rattle.sheet_node.specs.declared.NodeField.{NodeField}
+use Rattle.sheet_node.specs.declared.NodeReading.{NodeReading}
 use Rattle.sheet_node.specs.Node.{StatementRead, statementOf, statementsFrom, nodeAt}
 use Rattle.value.specs.declared.Value.{Value}
 use Rattle.value.specs.declared.Value.the-variants.{Of, NoValue}
@@ -75,7 +75,7 @@ Started r AllFit n values before after = (r ≡ true) × (after ≡ take n value
 Started r (Unfit v) n values before after = r ≡ false
 
 -- a node that was read whole, with its types, and its condition's words, which are plain
-pub record Running (s : List ℕ) (node : NodeField) (types words : List ℕ) : Type 0 where
+pub record Running (s : List ℕ) (node : NodeReading) (types words : List ℕ) : Type 0 where
   pub at : Place
   pub is : node ≡ nodeAt s at
   pub on : WentOn (node .next)
@@ -84,9 +84,3 @@ pub record Running (s : List ℕ) (node : NodeField) (types words : List ℕ) : 
   pub ready : Ready words
   pub few : length types ≤ 32
   pub statements : WentOn (statementsFrom types s (node .body) (node .statements) .next)
-
--- a node that was read whole
-pub record ReadNode (s : List ℕ) (node : NodeField) : Type 0 where
-  pub at : Place
-  pub is : node ≡ nodeAt s at
-  pub on : WentOn (node .next)

@@ -1,6 +1,6 @@
 // A node of an accepted sheet run on lent values: which nodes can be run, which values fit, and the run itself.
 use sheet_field::Place;
-use sheet_node::NodeField;
+use sheet_node::NodeReading;
 use value::Truth;
 use value::Value;
 ghost use mathlib.Core.Path.{_≡_};
@@ -8,9 +8,9 @@ ghost use Prim.Native.Nat.{_≤_};
 ghost use mathlib.Core.List.{_++_};
 ghost use lib.ListN.{length, take, drop};
 ghost use Rattle.sheet_field.specs.Field.{WentOn};
-ghost use Rattle.sheet_node.specs.Node.{statementAt, statementsFrom, nodeOf};
+ghost use Rattle.sheet_node.specs.Node.{statementAt, statementsFrom, nodeOf, ReadNode};
 ghost use Rattle.evaluate_node.specs.Evaluate.{plainAll, unfitFrom, onFit, onTruth, evaluationOf};
-ghost use Rattle.evaluate_node.specs.Contracts.{stateOf, assignedAll, StateIs, Stepped, isRefused, hasGone, progressOf, Started, Running, ReadNode};
+ghost use Rattle.evaluate_node.specs.Contracts.{stateOf, assignedAll, StateIs, Stepped, isRefused, hasGone, progressOf, Started, Running};
 
 // A node's evaluation: whether its condition holds, or a refusal, its number and its place.
 pub enum Evaluation {
@@ -223,7 +223,7 @@ fn stopped(fit: Fit, place: usize) -> Evaluation
 // The node, whose condition's words are plain.
 fn run_node(
     s: &[u8],
-    node: NodeField,
+    node: NodeReading,
     place: usize,
     types: &[u8],
     values: &[u64],
@@ -246,7 +246,7 @@ fn run_node(
 }
 
 // The node, read whole, that stands at a place. Its bytes are gone over once.
-pub fn evaluate_node(s: &[u8], node: NodeField, place: usize, values: &[u64]) -> Evaluation
+pub fn evaluate_node(s: &[u8], node: NodeReading, place: usize, values: &[u64]) -> Evaluation
     requires { ⌜ ReadNode (now s) node ⌝ }
     ensures { λ r. ⌜ r ≡ evaluationOf (nodeOf (now (s .entry)) node) place (now (values .entry)) ⌝ }
 {

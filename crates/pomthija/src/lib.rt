@@ -2,75 +2,91 @@
 use evaluate_node::Evaluation;
 use sheet::Reading;
 use sheet::Sheet;
-use sheet_field::Place;
 use verdict::Answer;
-use verdict::Verdict;
 ghost use mathlib.Core.Path.{_≡_};
-ghost use Prim.Native.Nat.{_<_};
 ghost use Rattle.sheet.specs.declared.Reading.the-variants.{Accepted};
-ghost use Rattle.sheet.specs.Sheet.{readingOf};
+ghost use Rattle.sheet.specs.Sheet.{sheetAt, readingOf};
+ghost use Rattle.sheet.specs.Index.{addressesOf, InFront};
 ghost use Rattle.verdict.specs.Numbers.{answerNumbers};
-ghost use Rattle.verdict_block.specs.Verdict.{verdictOn};
-ghost use Rattle.pomthija.specs.Evaluation.{inNumbers, evaluatedNode, evaluationAnswer, Returned};
+ghost use Rattle.pomthija.specs.Evaluation.{inNumbers, evaluationAnswer, Returned};
 ghost use Rattle.pomthija.specs.Block.{blockAnswer};
 
-// The block of that number of an accepted sheet.
-fn judge_block(s: &[u8], sheet: Sheet, number: u64) -> Verdict
+// The block of that number, of an accepted sheet with its index at the front of two lists.
+fn judge_block(s: &[u8], sheet: Sheet, addresses: &[u64], places: &[u64], number: u64) -> Answer
     requires { ⌜ readingOf (now s) ≡ Accepted sheet ⌝ }
-    requires { ⌜ number < sheet .blocks .count ⌝ }
-    ensures { λ r. ⌜ r ≡ verdictOn (now (s .entry)) number ⌝ }
+    requires { ⌜ InFront (sheet .instructions .count) (now addresses) (addressesOf (sheetAt (now s) .instructions .list)) ⌝ }
+    requires { ⌜ InFront (sheet .instructions .count) (now places) (sheetAt (now s) .instructions .places) ⌝ }
+    ensures { λ r. ⌜ answerNumbers r ≡ blockAnswer (now (s .entry)) number ⌝ }
 {
-    let mut addresses = [0u64; 2048];
-    let mut places = [0u64; 2048];
-    index::fill(s, sheet, &mut addresses, &mut places);
+    let blocks = sheet.blocks;
+    if blocks.count <= number {
+        return Answer::Refused(13, 0);
+    }
     let section = sheet.instructions;
     let n = section.count as usize;
-    verdict_block::verdict_on(s, sheet, &addresses[..n], &places[..n], number)
+    Answer::Given(verdict_block::verdict_on(s, sheet, &addresses[..n], &places[..n], number))
 }
 
 // The verdict on the block of that number, from 0.
 pub fn block_verdict(s: &[u8], number: u64) -> Answer
     ensures { λ r. ⌜ answerNumbers r ≡ blockAnswer (now (s .entry)) number ⌝ }
 {
-    let reading = sheet::read(s);
+    let mut addresses = [0u64; 2048];
+    let mut places = [0u64; 2048];
+    let mut targets = [0u64; 1];
+    let mut branches = [false; 1];
+    let mut nodes = [0u64; 1];
+    let reading = sheet::read_index(
+        s,
+        &mut addresses,
+        &mut places,
+        &mut targets,
+        &mut branches,
+        &mut nodes,
+    );
     match reading {
         Reading::Refused(k, at) => Answer::Refused(k, at),
-        Reading::Accepted(sheet) => {
-            let section = sheet.blocks;
-            if number < section.count {
-                return Answer::Given(judge_block(s, sheet, number));
-            }
-            Answer::Refused(13, 0)
-        }
+        Reading::Accepted(sheet) => judge_block(s, sheet, &addresses, &places, number),
     }
 }
 
-// The node of that number of an accepted sheet, on lent values.
-fn evaluate_number(s: &[u8], sheet: Sheet, number: u64, values: &[u64]) -> Evaluation
+// The node of that number, of an accepted sheet with the places of its nodes at the front of a list, on lent values.
+fn evaluate_number(s: &[u8], sheet: Sheet, nodes: &[u64], number: u64, values: &[u64]) -> Evaluation
     requires { ⌜ readingOf (now s) ≡ Accepted sheet ⌝ }
-    requires { ⌜ number < sheet .nodes .count ⌝ }
-    ensures { λ r. ⌜ r ≡ evaluatedNode (now (s .entry)) number (now (values .entry)) ⌝ }
+    requires { ⌜ InFront (sheet .nodes .count) (now nodes) (sheetAt (now s) .nodes .places) ⌝ }
+    ensures { λ r. ⌜ inNumbers r ≡ evaluationAnswer (now (s .entry)) number (now (values .entry)) ⌝ }
 {
     let section = sheet.nodes;
-    let place = sheet::check_nodes(s, Place::At(section.at), number);
-    let node = sheet_node::take_node(s, place);
-    evaluate_node::evaluate_node(s, node, sheet_field::start(place), values)
+    if section.count <= number {
+        return Evaluation::Refused(13, 0);
+    }
+    let places = &nodes[..section.count as usize];
+    let at = number as usize;
+    let mut words = [0u64; 256];
+    let node = sheet::nth_node(s, sheet, places, at, &mut words);
+    evaluate_node::evaluate_node(s, node, places[at] as usize, values)
 }
 
 // The node of that number, from 0, run on the lent values of its variables; extra values are unread.
 pub fn evaluation(s: &[u8], number: u64, values: &[u64]) -> Evaluation
     ensures { λ r. ⌜ inNumbers r ≡ evaluationAnswer (now (s .entry)) number (now (values .entry)) ⌝ }
 {
-    let reading = sheet::read(s);
+    let mut addresses = [0u64; 1];
+    let mut places = [0u64; 1];
+    let mut targets = [0u64; 1];
+    let mut branches = [false; 1];
+    let mut nodes = [0u64; 1024];
+    let reading = sheet::read_index(
+        s,
+        &mut addresses,
+        &mut places,
+        &mut targets,
+        &mut branches,
+        &mut nodes,
+    );
     match reading {
         Reading::Refused(k, at) => Evaluation::Refused(k, at),
-        Reading::Accepted(sheet) => {
-            let section = sheet.nodes;
-            if number < section.count {
-                return evaluate_number(s, sheet, number, values);
-            }
-            Evaluation::Refused(13, 0)
-        }
+        Reading::Accepted(sheet) => evaluate_number(s, sheet, &nodes, number, values),
     }
 }
 

@@ -1,36 +1,26 @@
 -- An accepted sheet: reading went on through every section, and the addresses rise strictly.
 use Prim.Native.Nat.{ℕ, zero, suc, _+_, _-_, _*_, _≤_, _<_}
 use mathlib.Core.Path.{_≡_, refl, sym, ap, _∙_}
-use mathlib.Core.List.{List, [], _∷_, _++_, map}
-use mathlib.Core.Bool.{Bool, true, false}
-use mathlib.Core.Logic.{⊎-elim}
+use mathlib.Core.List.{List, [], _∷_, _++_}
 use native.Mathlib.Omega.{arith}
-use native.Mathlib.Nat.{eq-or-lt-of-le}
-use lib.Dec.{eqb}
-use lib.ListN.{length, getD, length-append, List·getD-append}
-use lib.Seq.{getD-at}
-use borrow.Author.Tests.{ne-eqb}
+use lib.ListN.{length, getD}
 use Rattle.sheet_field.specs.declared.Place.{Place}
 use Rattle.sheet_field.specs.declared.Place.the-variants.{At, Refused}
 use Rattle.sheet_field.specs.Field.{fieldAt, startOf, countAt, WentOn}
-use Rattle.sheet_field.proofs.Fields.{judge-at, field-at, count-at, count-most, code-on, count-on}
-use Rattle.isa.specs.declared.Instruction.{Instruction}
-use Rattle.sheet_instruction.specs.Instruction.{instructionAt}
-use Rattle.sheet_instruction.proofs.Accepted.{instruction-on}
+use Rattle.sheet_field.proofs.Fields.{judge-at, field-at, count-at, count-most, count-on}
 use native.Mathlib.Numerals.{add-one}
 use Rattle.sheet_node.specs.Node.{Node, nodeAt, nodeOf}
-use Rattle.sheet_node.proofs.Accepted.{node-on}
+use Rattle.sheet_field.proofs.Counted.{back, counted, nth}
+use Rattle.sheet.proofs.Sections.{instructions-keep, blocks-keep, nodes-keep}
 use Rattle.sheet.specs.declared.Sheet.{Sheet}
 use Rattle.sheet.specs.declared.Reading.the-variants as reading
-use Rattle.sheet.specs.declared.BlockField.{BlockField}
-use Rattle.sheet.specs.Sheet.{Block, instructionsFrom, blockAt, blocksFrom, nodesFrom, sheetAt, answerOf, readingOf}
+use Rattle.sheet.specs.declared.BlockReading.{BlockReading}
+use Rattle.sheet.specs.declared.Block.{Block}
+use Rattle.sheet.specs.Sheet.{instructionsFrom, blockAt, blocksFrom, nodesFrom, sheetAt, answerOf, readingOf}
 
 pub instructions-on : (s : List ℕ) (p : Place) (k : ℕ) {a : ℕ} → instructionsFrom s p k .next ≡ At a → WentOn p
 unfolding instructionsFrom
-instructions-on s p zero {a} e = (a, e)
-instructions-on s p (suc k) e =
-    let before = instructionsFrom s p k in
-    instructions-on s p k (instruction-on (eqb k 0) (before .last) s (before .next) e .there)
+instructions-on s p k e = back (λ j. instructionsFrom s p j .next) (instructions-keep s p) k 0 e (omega arith)
 
 block-on : (s : List ℕ) (p : Place) {a : ℕ} → blockAt s p .next ≡ At a → WentOn p
 unfolding blockAt
@@ -41,13 +31,11 @@ block-on s p e =
 
 pub blocks-on : (s : List ℕ) (p : Place) (k : ℕ) {a : ℕ} → blocksFrom s p k .next ≡ At a → WentOn p
 unfolding blocksFrom
-blocks-on s p zero {a} e = (a, e)
-blocks-on s p (suc k) e = blocks-on s p k (block-on s (blocksFrom s p k .next) e .1)
+blocks-on s p k e = back (λ j. blocksFrom s p j .next) (blocks-keep s p) k 0 e (omega arith)
 
 pub nodes-on : (s : List ℕ) (p : Place) (k : ℕ) {a : ℕ} → nodesFrom s p k .next ≡ At a → WentOn p
 unfolding nodesFrom
-nodes-on s p zero {a} e = (a, e)
-nodes-on s p (suc k) e = nodes-on s p k (node-on s (nodesFrom s p k .next) e .1)
+nodes-on s p k e = back (λ j. nodesFrom s p j .next) (nodes-keep s p) k 0 e (omega arith)
 
 -- what an accepted sheet is: each section starts at the place that reading gives, and its records were read whole
 pub record Accepted (s : List ℕ) (sheet : Sheet) : Type 0 where
@@ -59,6 +47,7 @@ pub record Accepted (s : List ℕ) (sheet : Sheet) : Type 0 where
   pub afterBlocks : WentOn (sheetAt s .blocks .next)
   pub afterNodes : WentOn (sheetAt s .nodes .next)
   pub few : sheet .instructions .count ≤ 2048
+  pub fewNodes : sheet .nodes .count ≤ 1024
   pub graph : WentOn (countAt 0 1024 s (sheetAt s .blocks .next) .next)
 
 never : {k at : ℕ} {sheet : Sheet} → reading.Refused k at ≡ reading.Accepted sheet → ⊥
@@ -96,6 +85,7 @@ accepted s sheet e =
       afterBlocks = n-on;
       afterNodes = (whole .0 .0, end .1);
       few = count-most 0 2048 s (At 0);
+      fewNodes = count-most 0 1024 s (ranges .next);
       graph = graph-on;
     }
 
@@ -116,30 +106,30 @@ blocks-place s b (suc k) e =
     let before = blocks-place s b k (w .1) in
     omega (arith, before, block-next s (w .0) (rw (w .1) at e))
 
-pub blocks-back : (s : List ℕ) (p : Place) (k j : ℕ) {a : ℕ} → blocksFrom s p k .next ≡ At a → j ≤ k → WentOn (blocksFrom s p j .next)
-unfolding blocksFrom
-blocks-back s p zero j {a} e le = let z : j ≡ 0 = omega arith in (a, rw z e)
-blocks-back s p (suc k) j {a} e le =
-    ⊎-elim (λ (z : j ≡ suc k). (a, rw z e)) (λ (lt : j < suc k). blocks-back s p k j (block-on s (blocksFrom s p k .next) e .1) (omega arith)) (eq-or-lt-of-le le)
-
-pub blocks-length : (s : List ℕ) (p : Place) (k : ℕ) → length (blocksFrom s p k .list) ≡ k
-unfolding blocksFrom
-blocks-length s p zero = refl
-blocks-length s p (suc k) = rw (length-append, blocks-length s p k) (omega arith)
-
-abbrev pub blockOf : BlockField → Block
+abbrev pub blockOf : BlockReading → Block
 blockOf f = record { from = f .from; to = f .to }
 
-pub blocks-nth : (s : List ℕ) (p : Place) (k j : ℕ) (none : Block) → j < k
-    → getD (blocksFrom s p k .list) j none ≡ blockOf (blockAt s (blocksFrom s p j .next))
-unfolding blocksFrom
-blocks-nth s p zero j none lt = absurd (omega arith)
-blocks-nth s p (suc k) j none lt =
-    let l = blocksFrom s p k .list in
-    ⊎-elim
-    (λ (z : j ≡ k). rw z (getD-at l _ [] none k (blocks-length s p k)))
-    (λ (below : j < k). List·getD-append l _ none j (rw (blocks-length s p k) below) ∙ blocks-nth s p k j none below)
-    (eq-or-lt-of-le (omega arith))
+module _ (s : List ℕ) (p : Place) where
+  pub blocks-back : (k j : ℕ) {a : ℕ} → blocksFrom s p k .next ≡ At a → j ≤ k → WentOn (blocksFrom s p j .next)
+  blocks-back = back (λ j. blocksFrom s p j .next) (blocks-keep s p)
+
+  nth-block : ℕ → Block
+  nth-block j = blockOf (blockAt s (blocksFrom s p j .next))
+
+  no-blocks : blocksFrom s p 0 .list ≡ []
+  unfolding blocksFrom
+  no-blocks = refl
+
+  more-blocks : (k : ℕ) → blocksFrom s p (suc k) .list ≡ blocksFrom s p k .list ++ (nth-block k ∷ [])
+  unfolding blocksFrom nth-block
+  more-blocks k = refl
+
+  pub blocks-length : (k : ℕ) → length (blocksFrom s p k .list) ≡ k
+  blocks-length = counted (λ j. blocksFrom s p j .list) nth-block no-blocks more-blocks
+
+  pub blocks-nth : (k j : ℕ) (none : Block) → j < k → getD (blocksFrom s p k .list) j none ≡ blockOf (blockAt s (blocksFrom s p j .next))
+  unfolding nth-block
+  blocks-nth = nth (λ j. blocksFrom s p j .list) nth-block no-blocks more-blocks
 
 -- the block of a number stands at its place
 pub block-at : (s : List ℕ) (b k j : ℕ) (none : Block) {a : ℕ} → blocksFrom s (At b) k .next ≡ At a → j < k
@@ -165,43 +155,43 @@ blocks-inside s sheet e =
     let w = nodes-count s (acc .afterBlocks .0) (acc .graph) (acc .afterBlocks .1) in
     omega (arith, place, w)
 
-pub nodes-back : (s : List ℕ) (p : Place) (k j : ℕ) {a : ℕ} → nodesFrom s p k .next ≡ At a → j ≤ k → WentOn (nodesFrom s p j .next)
-unfolding nodesFrom
-nodes-back s p zero j {a} e le = let z : j ≡ 0 = omega arith in (a, rw z e)
-nodes-back s p (suc k) j {a} e le =
-    ⊎-elim (λ (z : j ≡ suc k). (a, rw z e)) (λ (lt : j < suc k). nodes-back s p k j (node-on s (nodesFrom s p k .next) e .1) (omega arith)) (eq-or-lt-of-le le)
-
 pub nodes-next : (s : List ℕ) (p : Place) (k : ℕ) {a : ℕ} → nodesFrom s p (k + 1) .next ≡ At a → nodeAt s (nodesFrom s p k .next) .next ≡ At a
 unfolding nodesFrom
 nodes-next s p k e = rw (add-one k) at e
 
-nodes-length : (s : List ℕ) (p : Place) (k : ℕ) → length (nodesFrom s p k .list) ≡ k
-unfolding nodesFrom
-nodes-length s p zero = refl
-nodes-length s p (suc k) = rw (length-append, nodes-length s p k) (omega arith)
+module _ (s : List ℕ) (p : Place) where
+  pub nodes-back : (k j : ℕ) {a : ℕ} → nodesFrom s p k .next ≡ At a → j ≤ k → WentOn (nodesFrom s p j .next)
+  nodes-back = back (λ j. nodesFrom s p j .next) (nodes-keep s p)
 
-node-places-length : (s : List ℕ) (p : Place) (k : ℕ) → length (nodesFrom s p k .places) ≡ k
-unfolding nodesFrom
-node-places-length s p zero = refl
-node-places-length s p (suc k) = rw (length-append, node-places-length s p k) (omega arith)
+  nth-node : ℕ → Node
+  nth-node j = nodeOf s (nodeAt s (nodesFrom s p j .next))
 
-pub nodes-nth : (s : List ℕ) (p : Place) (k j : ℕ) (none : Node) → j < k
-    → getD (nodesFrom s p k .list) j none ≡ nodeOf s (nodeAt s (nodesFrom s p j .next))
-unfolding nodesFrom
-nodes-nth s p zero j none lt = absurd (omega arith)
-nodes-nth s p (suc k) j none lt =
-    let l = nodesFrom s p k .list in
-    ⊎-elim
-    (λ (z : j ≡ k). rw z (getD-at l _ [] none k (nodes-length s p k)))
-    (λ (below : j < k). List·getD-append l _ none j (rw (nodes-length s p k) below) ∙ nodes-nth s p k j none below)
-    (eq-or-lt-of-le (omega arith))
+  no-nodes : nodesFrom s p 0 .list ≡ []
+  unfolding nodesFrom
+  no-nodes = refl
 
-pub node-places-nth : (s : List ℕ) (p : Place) (k j : ℕ) → j < k → getD (nodesFrom s p k .places) j 0 ≡ startOf (nodesFrom s p j .next)
-unfolding nodesFrom
-node-places-nth s p zero j lt = absurd (omega arith)
-node-places-nth s p (suc k) j lt =
-    let l = nodesFrom s p k .places in
-    ⊎-elim
-    (λ (z : j ≡ k). rw z (getD-at l _ [] 0 k (node-places-length s p k)))
-    (λ (below : j < k). List·getD-append l _ 0 j (rw (node-places-length s p k) below) ∙ node-places-nth s p k j below)
-    (eq-or-lt-of-le (omega arith))
+  more-nodes : (k : ℕ) → nodesFrom s p (suc k) .list ≡ nodesFrom s p k .list ++ (nth-node k ∷ [])
+  unfolding nodesFrom nth-node
+  more-nodes k = refl
+
+  pub nodes-nth : (k j : ℕ) (none : Node) → j < k → getD (nodesFrom s p k .list) j none ≡ nodeOf s (nodeAt s (nodesFrom s p j .next))
+  unfolding nth-node
+  nodes-nth = nth (λ j. nodesFrom s p j .list) nth-node no-nodes more-nodes
+
+  nth-place : ℕ → ℕ
+  nth-place j = startOf (nodesFrom s p j .next)
+
+  no-places : nodesFrom s p 0 .places ≡ []
+  unfolding nodesFrom
+  no-places = refl
+
+  more-places : (k : ℕ) → nodesFrom s p (suc k) .places ≡ nodesFrom s p k .places ++ (nth-place k ∷ [])
+  unfolding nodesFrom nth-place
+  more-places k = refl
+
+  pub node-places-length : (k : ℕ) → length (nodesFrom s p k .places) ≡ k
+  node-places-length = counted (λ j. nodesFrom s p j .places) nth-place no-places more-places
+
+  pub node-places-nth : (k j : ℕ) → j < k → getD (nodesFrom s p k .places) j 0 ≡ startOf (nodesFrom s p j .next)
+  unfolding nth-place
+  node-places-nth k j lt = nth (λ j. nodesFrom s p j .places) nth-place no-places more-places k j 0 lt

@@ -2,3 +2,7 @@
 pub mod Sections
 pub mod Accepted
 pub mod Refusals
+pub mod Fronts
+pub mod Rising
+pub mod Again
+pub mod ByNumber

@@ -1,35 +1,53 @@
--- Laws of the sections: one record more.
-use Prim.Native.Nat.{ℕ, zero, suc, _+_, _-_, _≤_, _<_}
-use mathlib.Core.Path.{_≡_, refl, sym, ap, _∙_}
+-- Laws of the sections: where reading is refused, and one record more.
+use Prim.Native.Nat.{ℕ, zero, suc, _+_, _≤_}
+use mathlib.Core.Path.{_≡_, refl}
 use mathlib.Core.List.{List}
-use mathlib.Core.Bool.{Bool}
+use mathlib.Core.Bool.{Bool, true, false, false≢true}
 use native.Mathlib.Numerals.{add-one}
-use lib.Dec.{eqb}
 use Rattle.sheet_field.specs.declared.Place.{Place}
 use Rattle.sheet_field.specs.declared.Place.the-variants.{At, Refused}
 use Rattle.sheet_field.specs.declared.Field.{Field}
-use Rattle.sheet_field.specs.Field.{countAt, startOf}
-use Rattle.sheet_instruction.specs.Instruction.{instructionAt}
-use Rattle.sheet_instruction.specs.declared.InstructionField.{InstructionField}
-use Rattle.sheet_node.specs.Node.{nodeAt}
-use Rattle.sheet.specs.declared.Instructions.{Instructions}
+use Rattle.sheet_field.specs.Field.{fieldAt, codeAt, checkField, countAt, startOf, isRefused, WentOn}
+use Rattle.sheet_field.proofs.Counted.{stopped}
+use Rattle.sheet_instruction.specs.Instruction.{registersFrom, mapAt, addressAt, headAt, tailAt, instructionAt}
+use Rattle.sheet_expression.specs.Expression.{takenFrom, expressionAt}
+use Rattle.sheet_node.specs.Node.{typesFrom, statementsFrom, addressesFrom, nodeAt}
 use Rattle.sheet.specs.declared.Sheet.{Sheet}
 use Rattle.sheet.specs.declared.Reading.{Reading}
-use Rattle.sheet.specs.Sheet.{instructionsFrom, Checked, blockAt, blocksFrom, nodesFrom, ended, sheetAt, answerOf, readingOf}
+use Rattle.sheet.specs.Sheet.{instructionsFrom, blockAt, blocksFrom, nodesFrom, ended, sheetAt, answerOf, readingOf}
 
-pub checked-none : (s : List ℕ) (p : Place) → Checked (record { last = 0; next = p }) (instructionsFrom s p 0)
-unfolding instructionsFrom
-checked-none s p = record { last = refl; place = refl }
+-- a record that is read where reading was refused leaves the refusal
+pub instructions-keep : (s : List ℕ) (p : Place) (j k at : ℕ) → instructionsFrom s p j .next ≡ Refused k at
+    → instructionsFrom s p (suc j) .next ≡ Refused k at
+unfolding instructionsFrom instructionAt headAt tailAt mapAt addressAt codeAt checkField fieldAt registersFrom
+instructions-keep s p j k at e = rw e
 
-pub checked-more : (s : List ℕ) (p : Place) (k : ℕ) {last : ℕ} {next : Place} {r : InstructionField}
-    → Checked (record { last = last; next = next }) (instructionsFrom s p k)
-    → r ≡ instructionAt (eqb k 0) last s next
-    → Checked (record { last = r .instruction .address; next = r .next }) (instructionsFrom s p (k + 1))
-unfolding instructionsFrom
-checked-more s p k {last} {next} {r} before r-is =
-    let now : r ≡ instructionAt (eqb k 0) (instructionsFrom s p k .last) s (instructionsFrom s p k .next) = rw (← before .last, ← before .place) r-is in
-    rw (add-one k, ← now) record { last = refl; place = refl }
+pub blocks-keep : (s : List ℕ) (p : Place) (j k at : ℕ) → blocksFrom s p j .next ≡ Refused k at → blocksFrom s p (suc j) .next ≡ Refused k at
+unfolding blocksFrom blockAt fieldAt
+blocks-keep s p j k at e = rw e
 
+pub nodes-keep : (s : List ℕ) (p : Place) (j k at : ℕ) → nodesFrom s p j .next ≡ Refused k at → nodesFrom s p (suc j) .next ≡ Refused k at
+unfolding nodesFrom nodeAt countAt checkField fieldAt typesFrom statementsFrom expressionAt takenFrom addressesFrom
+nodes-keep s p j k at e = rw e
+
+-- so a loop may end there
+pub instructions-stopped : (s : List ℕ) (p : Place) (n j : ℕ) (q : Place) → q ≡ instructionsFrom s p j .next → isRefused q ≡ true → j ≤ n
+    → q ≡ instructionsFrom s p n .next
+instructions-stopped s p = stopped (λ j. instructionsFrom s p j .next) (instructions-keep s p)
+
+pub blocks-stopped : (s : List ℕ) (p : Place) (n j : ℕ) (q : Place) → q ≡ blocksFrom s p j .next → isRefused q ≡ true → j ≤ n
+    → q ≡ blocksFrom s p n .next
+blocks-stopped s p = stopped (λ j. blocksFrom s p j .next) (blocks-keep s p)
+
+pub nodes-stopped : (s : List ℕ) (p : Place) (n j : ℕ) (q : Place) → q ≡ nodesFrom s p j .next → isRefused q ≡ true → j ≤ n
+    → q ≡ nodesFrom s p n .next
+nodes-stopped s p = stopped (λ j. nodesFrom s p j .next) (nodes-keep s p)
+
+-- nothing is said of the index where reading was refused
+pub not-on : {X : Type 0} {p : Place} → isRefused p ≡ true → WentOn p → X
+not-on r on = let z : false ≡ true = rw (on .1) at r in absurd (false≢true z)
+
+-- one record more
 pub blocks-more : (s : List ℕ) (p : Place) (k : ℕ) → blockAt s (blocksFrom s p k .next) .next ≡ blocksFrom s p (k + 1) .next
 unfolding blocksFrom
 blocks-more s p k = rw (add-one k)
@@ -39,9 +57,9 @@ unfolding nodesFrom
 nodes-more s p k = rw (add-one k)
 
 -- the answer from the parts
-pub reading-is : (s : List ℕ) {i b n : Field} {code : Instructions} {ranges graph end : Place} {a c d : ℕ} {r : Reading}
-    → i ≡ countAt 0 2048 s (At 0) → Checked code (instructionsFrom s (i .next) (i .value))
-    → b ≡ countAt 0 1024 s (code .next) → ranges ≡ blocksFrom s (b .next) (b .value) .next
+pub reading-is : (s : List ℕ) {i b n : Field} {code ranges graph end : Place} {a c d : ℕ} {r : Reading}
+    → i ≡ countAt 0 2048 s (At 0) → code ≡ instructionsFrom s (i .next) (i .value) .next
+    → b ≡ countAt 0 1024 s code → ranges ≡ blocksFrom s (b .next) (b .value) .next
     → n ≡ countAt 0 1024 s ranges → graph ≡ nodesFrom s (n .next) (n .value) .next
     → a ≡ startOf (i .next) → c ≡ startOf (b .next) → d ≡ startOf (n .next)
     → end ≡ ended s graph
@@ -49,4 +67,4 @@ pub reading-is : (s : List ℕ) {i b n : Field} {code : Instructions} {ranges gr
     → r ≡ readingOf s
 unfolding readingOf sheetAt
 reading-is s i-is code-is b-is ranges-is n-is graph-is a-is c-is d-is end-is r-is =
-    rw (r-is, end-is, a-is, c-is, d-is, graph-is, n-is, ranges-is, b-is, code-is .place, i-is)
+    rw (r-is, end-is, a-is, c-is, d-is, graph-is, n-is, ranges-is, b-is, code-is, i-is)

@@ -24,14 +24,14 @@ use Rattle.sheet_field.specs.declared.Place.the-variants.{At, Refused}
 use Rattle.sheet_field.specs.Field.{fieldAt, startOf, judge, countAt}
 use Rattle.isa.specs.declared.Instruction.{Instruction}
 use Rattle.sheet_instruction.specs.Instruction.{instructionAt}
-use Rattle.sheet_node.specs.declared.NodeField.{NodeField}
+use Rattle.sheet_node.specs.declared.NodeReading.{NodeReading}
 use Rattle.sheet_node.specs.Node.{Node, nodeAt, nodeOf}
 use Rattle.sheet.specs.declared.Section.{Section}
 use Rattle.sheet.specs.declared.Sheet.{Sheet}
 use Rattle.sheet.specs.declared.Reading.{Reading}
 use Rattle.sheet.specs.declared.Reading.the-variants as reading
-use Rattle.sheet.specs.declared.Instructions.{Instructions}
-use Rattle.sheet.specs.declared.BlockField.{BlockField}
+use Rattle.sheet.specs.declared.Block.{Block}
+use Rattle.sheet.specs.declared.BlockReading.{BlockReading}
 
 -- what instruction records that were read one after the other give: the instructions, the place of each, the last address,
 -- and the place after them
@@ -54,21 +54,16 @@ instructionsFrom s p (suc k) =
       next = r .next;
     }
 
--- what a check of instructions leaves
-pub record Checked (f : Instructions) (r : InstructionsRead) : Type 0 where
-  pub last : f .last ≡ r .last
-  pub place : f .next ≡ r .next
-
 -- A block: two addresses, from and to (S25).
-unfoldable pub blockAt : List ℕ → Place → BlockField
+unfoldable pub blockAt : List ℕ → Place → BlockReading
 blockAt s p =
     let from = fieldAt 8 s p in
     let to = fieldAt 8 s (from .next) in
     record { from = from .value; to = to .value; next = to .next }
 
-pub record Block : Type 0 where
-  pub from : ℕ
-  pub to : ℕ
+-- a block that no sheet has, for a number that is out of range
+abbrev pub noBlock : Block
+noBlock = record { from = 0; to = 0 }
 
 pub record BlocksRead : Type 0 where
   pub list : List Block

@@ -1,8 +1,19 @@
-// The sheet: read whole, it is accepted, with the counts of its records and where they start, or refused.
+// The sheet: read whole, it is accepted, with the counts of its records and where they start, or refused. Reading fills an
+// index on the way, by which a block, an instruction or a node is found by its number.
+use isa::Instruction;
 use sheet_field::Place;
 use sheet_field::Width;
+use sheet_node::NodeReading;
 ghost use mathlib.Core.Path.{_≡_};
-ghost use Rattle.sheet.specs.Sheet.{instructionsFrom, Checked, blockAt, blocksFrom, nodesFrom, ended, answerOf, readingOf};
+ghost use mathlib.Core.Bool.{true};
+ghost use Prim.Native.Nat.{ℕ, _≤_, _<_};
+ghost use lib.ListN.{length, getD, set};
+ghost use Rattle.isa.specs.declared.Instruction.{Instruction};
+ghost use Rattle.sheet_field.specs.Field.{WentOn};
+ghost use Rattle.sheet_node.specs.Node.{Node, nodeOf, ReadNode};
+ghost use Rattle.sheet.specs.declared.Reading.the-variants.{Accepted};
+ghost use Rattle.sheet.specs.Sheet.{noBlock, instructionsFrom, blockAt, blocksFrom, nodesFrom, ended, answerOf, sheetAt, readingOf};
+ghost use Rattle.sheet.specs.Index.{over, Noted, Indexed};
 
 // How many records a section has, and the place of the first.
 pub struct Section {
@@ -22,44 +33,78 @@ pub enum Reading {
     Refused(u64, usize),
 }
 
-// The last address read, and the place after it.
-pub struct Instructions {
-    pub last: u64,
-    pub next: Place,
+// A block's range of addresses, from at or above the first to below the second.
+pub struct Block {
+    pub from: u64,
+    pub to: u64,
 }
 
-// A block's range of addresses, from at or above the first to below the second, and the place after it.
-pub struct BlockField {
+// A block as it was read, and the place after it.
+pub struct BlockReading {
     pub from: u64,
     pub to: u64,
     pub next: Place,
 }
 
-fn check_instructions(s: &[u8], p: Place, n: u64) -> Instructions
-    ensures { λ r. ⌜ Checked r (instructionsFrom (now (s .entry)) p n) ⌝ }
+// Stores an entry of the index, where the list reaches that far.
+fn note(list: &mut [u64], i: usize, x: u64)
+    ensures { λ _. ⌜ now (list .exit) ≡ set (now (list .entry)) i x ⌝ }
+{
+    if i < list.len() {
+        list[i] = x;
+    }
+}
+
+fn mark(list: &mut [bool], i: usize, x: bool)
+    ensures { λ _. ⌜ now (list .exit) ≡ set (now (list .entry)) i x ⌝ }
+{
+    if i < list.len() {
+        list[i] = x;
+    }
+}
+
+// The place after n instructions, with the address, the place, the target and the mark of a conditional branch of each at
+// the front of the lent lists, as far as these reach.
+fn read_instructions(
+    s: &[u8],
+    p: Place,
+    n: u64,
+    addresses: &mut [u64],
+    places: &mut [u64],
+    targets: &mut [u64],
+    branches: &mut [bool],
+) -> Place
+    ensures { λ r. ⌜ (r ≡ instructionsFrom (now (s .entry)) p n .next) × (WentOn r → Noted (now (addresses .entry)) (now (addresses .exit)) (now (places .entry)) (now (places .exit)) (now (targets .entry)) (now (targets .exit)) (now (branches .entry)) (now (branches .exit)) (instructionsFrom (now (s .entry)) p n)) ⌝ }
 {
     let mut last: u64 = 0;
     let mut next = p;
     let mut i: u64 = 0;
     while i < n {
+        if sheet_field::is_refused(next) {
+            return next;
+        }
         let r = sheet_instruction::take_instruction(s, next, i == 0, last);
         let it = r.instruction;
+        note(addresses, i as usize, it.address);
+        note(places, i as usize, sheet_field::start(next) as u64);
+        note(targets, i as usize, it.target);
+        mark(branches, i as usize, it.branch);
         last = it.address;
         next = r.next;
         i += 1;
     }
-    Instructions { last, next }
+    next
 }
 
 // The block record at a place.
-pub fn take_block(s: &[u8], p: Place) -> BlockField
+fn take_block(s: &[u8], p: Place) -> BlockReading
     ensures { λ r. ⌜ r ≡ blockAt (now (s .entry)) p ⌝ }
 {
     let from = sheet_field::take_field(s, p, Width::Eight);
     let after = from.next;
     let to = sheet_field::take_field(s, after, Width::Eight);
     let next = to.next;
-    BlockField {
+    BlockReading {
         from: from.value,
         to: to.value,
         next,
@@ -72,6 +117,9 @@ fn check_blocks(s: &[u8], p: Place, n: u64) -> Place
     let mut next = p;
     let mut i: u64 = 0;
     while i < n {
+        if sheet_field::is_refused(next) {
+            return next;
+        }
         let b = take_block(s, next);
         next = b.next;
         i += 1;
@@ -79,14 +127,20 @@ fn check_blocks(s: &[u8], p: Place, n: u64) -> Place
     next
 }
 
-// The place after the first n nodes from a place on.
-pub fn check_nodes(s: &[u8], p: Place, n: u64) -> Place
-    ensures { λ r. ⌜ r ≡ nodesFrom (now (s .entry)) p n .next ⌝ }
+// The place after n nodes, with the place of each at the front of the lent list, as far as it reaches. `words` is lent for
+// the words of expressions.
+fn read_nodes(s: &[u8], p: Place, n: u64, words: &mut [u64], places: &mut [u64]) -> Place
+    requires { ⌜ 256 ≤ length (now words) ⌝ }
+    ensures { λ r. ⌜ (r ≡ nodesFrom (now (s .entry)) p n .next) × (WentOn r → now (places .exit) ≡ over (nodesFrom (now (s .entry)) p n .places) (now (places .entry))) ⌝ }
 {
     let mut next = p;
     let mut i: u64 = 0;
     while i < n {
-        let node = sheet_node::take_node(s, next);
+        if sheet_field::is_refused(next) {
+            return next;
+        }
+        let node = sheet_node::take_node(s, next, words);
+        note(places, i as usize, sheet_field::start(next) as u64);
         next = node.next;
         i += 1;
     }
@@ -110,33 +164,113 @@ fn answer(p: Place, sheet: Sheet) -> Reading
     }
 }
 
-// Any bytes: accepted, or the first refusal.
-pub fn read(s: &[u8]) -> Reading
-    ensures { λ r. ⌜ r ≡ readingOf (now (s .entry)) ⌝ }
+// Any bytes: accepted, or the first refusal. Of an accepted sheet the index stands at the front of the lent lists, as far
+// as these reach: address, place, target and the mark of a conditional branch for each instruction, the place of each node.
+pub fn read_index(
+    s: &[u8],
+    addresses: &mut [u64],
+    places: &mut [u64],
+    targets: &mut [u64],
+    branches: &mut [bool],
+    nodes: &mut [u64],
+) -> Reading
+    ensures { λ r. ⌜ (r ≡ readingOf (now (s .entry))) × ((sheet : Sheet) → r ≡ Accepted sheet → Indexed (now (addresses .entry)) (now (addresses .exit)) (now (places .entry)) (now (places .exit)) (now (targets .entry)) (now (targets .exit)) (now (branches .entry)) (now (branches .exit)) (now (nodes .entry)) (now (nodes .exit)) (sheetAt (now (s .entry)))) ⌝ }
 {
+    let mut words = [0u64; 256];
     let i = sheet_field::count(s, Place::At(0), 0, 2048);
-    let code = i.next;
-    let instructions = check_instructions(s, code, i.value);
-    let after_instructions = instructions.next;
+    let first_instruction = i.next;
+    let after_instructions = read_instructions(
+        s,
+        first_instruction,
+        i.value,
+        addresses,
+        places,
+        targets,
+        branches,
+    );
     let b = sheet_field::count(s, after_instructions, 0, 1024);
-    let ranges = b.next;
-    let after_blocks = check_blocks(s, ranges, b.value);
+    let first_block = b.next;
+    let after_blocks = check_blocks(s, first_block, b.value);
     let n = sheet_field::count(s, after_blocks, 0, 1024);
-    let graph = n.next;
-    let after_nodes = check_nodes(s, graph, n.value);
+    let first_node = n.next;
+    let after_nodes = read_nodes(s, first_node, n.value, &mut words, nodes);
     let sheet = Sheet {
         instructions: Section {
             count: i.value,
-            at: sheet_field::start(code),
+            at: sheet_field::start(first_instruction),
         },
         blocks: Section {
             count: b.value,
-            at: sheet_field::start(ranges),
+            at: sheet_field::start(first_block),
         },
         nodes: Section {
             count: n.value,
-            at: sheet_field::start(graph),
+            at: sheet_field::start(first_node),
         },
     };
     answer(end(s, after_nodes), sheet)
+}
+
+// Any bytes: accepted, or the first refusal. No index is kept.
+pub fn read(s: &[u8]) -> Reading
+    ensures { λ r. ⌜ r ≡ readingOf (now (s .entry)) ⌝ }
+{
+    let mut addresses = [0u64; 1];
+    let mut places = [0u64; 1];
+    let mut targets = [0u64; 1];
+    let mut branches = [false; 1];
+    let mut nodes = [0u64; 1];
+    read_index(
+        s,
+        &mut addresses,
+        &mut places,
+        &mut targets,
+        &mut branches,
+        &mut nodes,
+    )
+}
+
+// The block of that number, of an accepted sheet.
+pub fn nth_block(s: &[u8], sheet: Sheet, number: u64) -> Block
+    requires { ⌜ readingOf (now s) ≡ Accepted sheet ⌝ }
+    requires { ⌜ number < sheet .blocks .count ⌝ }
+    ensures { λ r. ⌜ r ≡ getD (sheetAt (now (s .entry)) .blocks .list) number noBlock ⌝ }
+{
+    let section = sheet.blocks;
+    let b = take_block(s, Place::At(section.at + 16 * (number as usize)));
+    Block {
+        from: b.from,
+        to: b.to,
+    }
+}
+
+// The instruction of that number, of an accepted sheet whose instructions stand at these places.
+pub fn nth_instruction(s: &[u8], sheet: Sheet, places: &[u64], number: usize) -> Instruction
+    requires { ⌜ readingOf (now s) ≡ Accepted sheet ⌝ }
+    requires { ⌜ now places ≡ sheetAt (now s) .instructions .places ⌝ }
+    requires { ⌜ number < length (now places) ⌝ }
+    ensures { λ r. ⌜ ((d : Instruction) → r ≡ getD (sheetAt (now (s .entry)) .instructions .list) number d) ⌝ }
+{
+    let at = places[number];
+    let r = sheet_instruction::take_instruction(s, Place::At(at as usize), true, 0);
+    r.instruction
+}
+
+// The node of that number, of an accepted sheet whose nodes stand at these places. `words` is lent for the words of its
+// expressions.
+pub fn nth_node(
+    s: &[u8],
+    sheet: Sheet,
+    places: &[u64],
+    number: usize,
+    words: &mut [u64],
+) -> NodeReading
+    requires { ⌜ readingOf (now s) ≡ Accepted sheet ⌝ }
+    requires { ⌜ now places ≡ sheetAt (now s) .nodes .places ⌝ }
+    requires { ⌜ number < length (now places) ⌝ }
+    requires { ⌜ 256 ≤ length (now words) ⌝ }
+    ensures { λ r. ⌜ ReadNode (now (s .entry)) r × ((d : Node) → nodeOf (now (s .entry)) r ≡ getD (sheetAt (now (s .entry)) .nodes .list) number d) ⌝ }
+{
+    let at = places[number];
+    sheet_node::take_node(s, Place::At(at as usize), words)
 }

@@ -1,2 +1,3 @@
 -- laws of the definitions, which other proofs cite
 pub mod Fields
+pub mod Counted

@@ -31,6 +31,10 @@ fieldAt n s (Refused k at) = record { value = 0; next = Refused k at }
 abbrev pub WentOn : Place → Type 0
 WentOn p = (b : ℕ) × (p ≡ At b)
 
+abbrev pub isRefused : Place → Bool
+isRefused (At at) = false
+isRefused (Refused k at) = true
+
 -- where a record that is read from a place on starts
 abbrev pub startOf : Place → ℕ
 startOf (At at) = at

@@ -3,7 +3,7 @@
 ghost use mathlib.Core.Path.{_≡_};
 ghost use Prim.Native.Nat.{_+_, _<_, _≤_};
 ghost use lib.ListN.{length};
-ghost use Rattle.sheet_field.specs.Field.{little, bytesOf, fieldAt, startOf, judge, keep, checkField, codeAt, countAt};
+ghost use Rattle.sheet_field.specs.Field.{little, bytesOf, fieldAt, startOf, isRefused, judge, keep, checkField, codeAt, countAt};
 
 // Where reading stands: the next byte's place, or the first refusal, its number and its place.
 pub enum Place {
@@ -106,6 +106,16 @@ pub fn start(p: Place) -> usize
     match p {
         Place::At(at) => at,
         Place::Refused(_, at) => at,
+    }
+}
+
+// Whether reading was refused.
+pub fn is_refused(p: Place) -> bool
+    ensures { λ r. ⌜ r ≡ isRefused p ⌝ }
+{
+    match p {
+        Place::At(_) => false,
+        Place::Refused(_, _) => true,
     }
 }
 

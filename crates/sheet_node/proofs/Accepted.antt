@@ -1,14 +1,12 @@
 -- Where reading goes on after a statement or a node, it went on before it.
 use Prim.Native.Nat.{ℕ, zero, suc, _+_, _≤_, _<_}
 use mathlib.Core.Path.{_≡_, refl, sym, _∙_}
-use mathlib.Core.List.{List, []}
-use mathlib.Core.Logic.{⊎-elim}
+use mathlib.Core.List.{List, [], _∷_, _++_}
 use native.Mathlib.Omega.{arith}
-use native.Mathlib.Nat.{eq-or-lt-of-le}
 use mathlib.Core.Bool.{Bool, true, false, false≢true}
 use lib.Dec.{eqb}
-use lib.ListN.{length, getD, take, drop, length-append, length-drop, List·getD-append}
-use lib.Seq.{getD-at, length-take-le}
+use lib.ListN.{length, getD, take, drop, length-drop}
+use lib.Seq.{length-take-le}
 use Rattle.expr.specs.Tree.{Wf}
 use Rattle.expr.specs.Statement.{Statement}
 use Rattle.sheet_field.specs.declared.Place.{Place}
@@ -17,8 +15,10 @@ use Rattle.sheet_field.specs.Field.{fieldAt, startOf, codeAt, countAt, WentOn}
 use Rattle.sheet_field.proofs.Fields.{judge-at, check-at, field-at, code-at, count-at, count-most, count-on}
 use Rattle.sheet_expression.specs.Expression.{expressionAt}
 use Rattle.sheet_expression.proofs.Accepted.{one-tree}
-use Rattle.sheet_node.proofs.Nodes.{types-inside}
-use Rattle.sheet_node.specs.Node.{mapAt, assignmentAt, statementAt, statementOf, statementsFrom, typesFrom, typesOf, addressesFrom, nodeAt}
+use Rattle.sheet_field.proofs.Counted.{back, counted, nth}
+use Rattle.sheet_node.proofs.Nodes.{types-keep, statements-keep, addresses-keep, types-inside}
+use Rattle.sheet_node.specs.declared.NodeReading.{NodeReading}
+use Rattle.sheet_node.specs.Node.{mapAt, assignmentAt, statementAt, statementOf, statementsFrom, typesFrom, typesOf, addressesFrom, nodeAt, typesIn, ReadNode}
 
 map-on : (s : List ℕ) (p : Place) {a : ℕ} → mapAt s p .next ≡ At a → WentOn p
 unfolding mapAt
@@ -41,18 +41,15 @@ statement-on types s p e = go (eqb (mapAt s p .value) 3) refl
 
 pub statements-on : (types s : List ℕ) (p : Place) (k : ℕ) {a : ℕ} → statementsFrom types s p k .next ≡ At a → WentOn p
 unfolding statementsFrom
-statements-on types s p zero {a} e = (a, e)
-statements-on types s p (suc k) e = statements-on types s p k (statement-on types s (statementsFrom types s p k .next) e .1)
+statements-on types s p k e = back (λ j. statementsFrom types s p j .next) (statements-keep types s p) k 0 e (omega arith)
 
 types-on : (s : List ℕ) (p : Place) (k : ℕ) {a : ℕ} → typesFrom s p k ≡ At a → WentOn p
 unfolding typesFrom
-types-on s p zero {a} e = (a, e)
-types-on s p (suc k) e = types-on s p k (code-at 10 s (typesFrom s p k) e .whole .there)
+types-on s p k e = back (λ j. typesFrom s p j) (types-keep s p) k 0 e (omega arith)
 
 addresses-on : (s : List ℕ) (p : Place) (k : ℕ) {a : ℕ} → addressesFrom s p k .next ≡ At a → WentOn p
 unfolding addressesFrom
-addresses-on s p zero {a} e = (a, e)
-addresses-on s p (suc k) e = addresses-on s p k (field-at 8 s (addressesFrom s p k .next) e .there)
+addresses-on s p k e = back (λ j. addressesFrom s p j .next) (addresses-keep s p) k 0 e (omega arith)
 
 pub node-on : (s : List ℕ) (p : Place) {a : ℕ} → nodeAt s p .next ≡ At a → WentOn p
 unfolding nodeAt
@@ -74,29 +71,27 @@ node-on s p e =
 -- statements that were read whole were so one by one
 pub statements-back : (types s : List ℕ) (p : Place) (k j : ℕ) {a : ℕ} → statementsFrom types s p k .next ≡ At a → j ≤ k
     → WentOn (statementsFrom types s p j .next)
-unfolding statementsFrom
-statements-back types s p zero j {a} e le = let z : j ≡ 0 = omega arith in (a, rw z e)
-statements-back types s p (suc k) j {a} e le =
-    ⊎-elim
-    (λ (z : j ≡ suc k). (a, rw z e))
-    (λ (lt : j < suc k). statements-back types s p k j (statement-on types s (statementsFrom types s p k .next) e .1) (omega arith))
-    (eq-or-lt-of-le le)
+statements-back types s p = back (λ j. statementsFrom types s p j .next) (statements-keep types s p)
 
-pub statements-length : (types s : List ℕ) (p : Place) (k : ℕ) → length (statementsFrom types s p k .list) ≡ k
-unfolding statementsFrom
-statements-length types s p zero = refl
-statements-length types s p (suc k) = rw (length-append, statements-length types s p k) (omega arith)
+module _ (types s : List ℕ) (p : Place) where
+  statement-nth : ℕ → Statement
+  statement-nth j = statementOf (statementAt types s (statementsFrom types s p j .next))
 
-pub statements-nth : (types s : List ℕ) (p : Place) (k j : ℕ) (d : Statement) → j < k
-    → getD (statementsFrom types s p k .list) j d ≡ statementOf (statementAt types s (statementsFrom types s p j .next))
-unfolding statementsFrom
-statements-nth types s p zero j d lt = absurd (omega arith)
-statements-nth types s p (suc k) j d lt =
-    let l = statementsFrom types s p k .list in
-    ⊎-elim
-    (λ (z : j ≡ k). rw z (getD-at l _ [] d k (statements-length types s p k)))
-    (λ (below : j < k). List·getD-append l _ d j (rw (statements-length types s p k) below) ∙ statements-nth types s p k j d below)
-    (eq-or-lt-of-le (omega arith))
+  none : statementsFrom types s p 0 .list ≡ []
+  unfolding statementsFrom
+  none = refl
+
+  more : (k : ℕ) → statementsFrom types s p (suc k) .list ≡ statementsFrom types s p k .list ++ (statement-nth k ∷ [])
+  unfolding statementsFrom statement-nth
+  more k = refl
+
+  pub statements-length : (k : ℕ) → length (statementsFrom types s p k .list) ≡ k
+  statements-length = counted (λ j. statementsFrom types s p j .list) statement-nth none more
+
+  pub statements-nth : (k j : ℕ) (d : Statement) → j < k
+      → getD (statementsFrom types s p k .list) j d ≡ statementOf (statementAt types s (statementsFrom types s p j .next))
+  unfolding statement-nth
+  statements-nth = nth (λ j. statementsFrom types s p j .list) statement-nth none more
 
 -- an assignment that was read whole has one tree of at most 128 records, and its variable is declared
 pub record Assigned (types s : List ℕ) (p : Place) : Type 0 where
@@ -126,14 +121,10 @@ pub record WholeNode (s : List ℕ) (p : Place) (types : List ℕ) : Type 0 wher
   pub statements : WentOn (statementsFrom types s (nodeAt s p .body) (nodeAt s p .statements) .next)
   pub condition : WentOn (expressionAt (length types) s (nodeAt s p .condition) .next)
 
--- the types of a node, as a part of the sheet
-abbrev pub typesIn : List ℕ → Place → List ℕ
-typesIn s p = take (nodeAt s p .variables) (drop (startOf (nodeAt s p .types)) s)
-
 types-whole : {end : Place} {a : ℕ} (from n : ℕ) (s : List ℕ) → end ≡ At a → typesOf end from n s ≡ take n (drop from s)
 types-whole from n s e = rw e
 
-pub whole-node : (s : List ℕ) (p : Place) {a : ℕ} → nodeAt s p .next ≡ At a → WholeNode s p (typesIn s p)
+pub whole-node : (s : List ℕ) (p : Place) {a : ℕ} → nodeAt s p .next ≡ At a → WholeNode s p (typesIn s (nodeAt s p))
 unfolding nodeAt
 whole-node s p e =
     let v = countAt 0 32 s p in
@@ -159,3 +150,7 @@ whole-node s p e =
       statements = (one .from, one .there);
       condition = judged;
     }
+
+-- its types stand inside the sheet
+pub read-inside : (s : List ℕ) (node : NodeReading) → ReadNode s node → startOf (node .types) + node .variables ≤ length s
+read-inside s node r = let w = whole-node s (r .at) {a = r .on .0} (rw (r .is) at (r .on .1)) in rw (r .is) (w .inside)

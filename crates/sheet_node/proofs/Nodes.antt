@@ -2,17 +2,19 @@
 use Prim.Native.Nat.{ℕ, zero, suc, _+_, _-_, _*_, _≤_, _<_}
 use mathlib.Core.Path.{_≡_, refl, sym, ap, _∙_}
 use mathlib.Core.List.{List}
+use mathlib.Core.Bool.{true}
 use native.Mathlib.Omega.{arith}
 use native.Mathlib.Numerals.{add-one}
 use lib.ListN.{length, drop, take, length-take}
 use Rattle.sheet_field.specs.declared.Place.{Place}
 use Rattle.sheet_field.specs.declared.Place.the-variants.{At, Refused}
 use Rattle.sheet_field.specs.declared.Field.{Field}
-use Rattle.sheet_field.specs.Field.{fieldAt, codeAt, countAt, startOf}
+use Rattle.sheet_field.specs.Field.{fieldAt, codeAt, checkField, countAt, startOf, isRefused}
 use Rattle.sheet_field.proofs.Fields.{code-at, count-at, count-most}
+use Rattle.sheet_field.proofs.Counted.{stopped}
 use Rattle.sheet_expression.specs.Expression.{expressionAt}
-use Rattle.sheet_node.specs.declared.NodeField.{NodeField}
-use Rattle.sheet_node.specs.Node.{statementAt, statementsFrom, typesFrom, typesOf, addressesFrom, nodeAt}
+use Rattle.sheet_node.specs.declared.NodeReading.{NodeReading}
+use Rattle.sheet_node.specs.Node.{mapAt, statementAt, statementsFrom, typesFrom, typesOf, addressesFrom, nodeAt}
 
 -- one type, statement or address more
 pub types-more : (s : List ℕ) (p : Place) (k : ℕ) → codeAt 10 s (typesFrom s p k) .next ≡ typesFrom s p (k + 1)
@@ -28,6 +30,33 @@ pub addresses-more : (s : List ℕ) (p : Place) (k : ℕ)
     → fieldAt 8 s (addressesFrom s p k .next) .next ≡ addressesFrom s p (k + 1) .next
 unfolding addressesFrom
 addresses-more s p k = rw (add-one k)
+
+-- one that is read where reading was refused leaves the refusal
+pub types-keep : (s : List ℕ) (p : Place) (j k at : ℕ) → typesFrom s p j ≡ Refused k at → typesFrom s p (suc j) ≡ Refused k at
+unfolding typesFrom codeAt checkField fieldAt
+types-keep s p j k at e = rw e
+
+pub statements-keep : (types s : List ℕ) (p : Place) (j k at : ℕ) → statementsFrom types s p j .next ≡ Refused k at
+    → statementsFrom types s p (suc j) .next ≡ Refused k at
+unfolding statementsFrom statementAt mapAt checkField fieldAt
+statements-keep types s p j k at e = rw e
+
+pub addresses-keep : (s : List ℕ) (p : Place) (j k at : ℕ) → addressesFrom s p j .next ≡ Refused k at
+    → addressesFrom s p (suc j) .next ≡ Refused k at
+unfolding addressesFrom fieldAt
+addresses-keep s p j k at e = rw e
+
+-- so a loop may end there
+pub types-stopped : (s : List ℕ) (p : Place) (n j : ℕ) (q : Place) → q ≡ typesFrom s p j → isRefused q ≡ true → j ≤ n → q ≡ typesFrom s p n
+types-stopped s p = stopped (λ j. typesFrom s p j) (types-keep s p)
+
+pub statements-stopped : (types s : List ℕ) (p : Place) (n j : ℕ) (q : Place) → q ≡ statementsFrom types s p j .next → isRefused q ≡ true
+    → j ≤ n → q ≡ statementsFrom types s p n .next
+statements-stopped types s p = stopped (λ j. statementsFrom types s p j .next) (statements-keep types s p)
+
+pub addresses-stopped : (s : List ℕ) (p : Place) (n j : ℕ) (q : Place) → q ≡ addressesFrom s p j .next → isRefused q ≡ true
+    → j ≤ n → q ≡ addressesFrom s p n .next
+addresses-stopped s p = stopped (λ j. addressesFrom s p j .next) (addresses-keep s p)
 
 -- types that were read whole stand inside the sheet
 types-end : (s : List ℕ) (p : Place) (k a : ℕ) → ((b : ℕ) → p ≡ At b → b ≤ length s) → typesFrom s p k ≡ At a
@@ -60,7 +89,7 @@ pub node-is : (s : List ℕ) (p : Place) {v k a : Field} {typesEnd condition con
     → k ≡ countAt 0 64 s typesEnd → condition ≡ statementsFrom types s (k .next) (k .value) .next
     → conditionEnd ≡ expressionAt (length types) s condition .next
     → a ≡ countAt 0 16 s conditionEnd → next ≡ addressesFrom s (a .next) (a .value) .next
-    → _≡_ {A = NodeField}
+    → _≡_ {A = NodeReading}
     (record { variables = v .value; types = v .next; statements = k .value; body = k .next; condition = condition; addresses = a .value; sites = a .next; next = next })
     (nodeAt s p)
 unfolding nodeAt

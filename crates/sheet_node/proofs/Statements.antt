@@ -16,7 +16,7 @@ use Rattle.expr.specs.Tree.{Wf}
 use Rattle.sheet_expression.specs.declared.Expression.{Expression}
 use Rattle.sheet_expression.specs.Expression.{Taken, expressionAt, TookExpression}
 use Rattle.sheet_expression.proofs.Accepted.{one-tree}
-use Rattle.sheet_node.specs.declared.StatementField.{StatementField}
+use Rattle.sheet_node.specs.declared.StatementReading.{StatementReading}
 use Rattle.sheet_node.specs.Node.{mapAt, typedAt, assignmentAt, statementAt, StatementRead, TookStatement}
 
 -- a list that keeps its length has room for the words
@@ -50,7 +50,7 @@ module _ (types s : List ℕ) (p : Place) {v : Field} {e : Expression} {before a
       record { assigned = refl; variable = refl; size = took .size; place = rw (next-is, took-front took, took .place); list = took .list }
 
 module _ (types s : List ℕ) (p : Place) {map : Field} (map-is : map ≡ mapAt s p) where
-  pub statement-assignment : {begin : ℕ} {f : StatementField} {before after : List ℕ} → map .value ≡ 3 → begin ≡ startOf p
+  pub statement-assignment : {begin : ℕ} {f : StatementReading} {before after : List ℕ} → map .value ≡ 3 → begin ≡ startOf p
       → TookStatement f before after (assignmentAt types begin s (map .next))
       → TookStatement f before after (statementAt types s p)
   unfolding statementAt

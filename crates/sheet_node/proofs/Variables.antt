@@ -15,8 +15,8 @@ use Rattle.expr.specs.Statement.{Statement}
 use Rattle.expr.specs.Statement.Statement.{assignment, other}
 use Rattle.sheet_expression.specs.Expression.{expressionAt}
 use Rattle.sheet_expression.proofs.Variables.{variables-below}
-use Rattle.sheet_node.specs.Node.{mapAt, assignmentAt, statementAt, statementOf, statementsFrom, Node, nodeAt, nodeOf}
-use Rattle.sheet_node.proofs.Accepted.{statement-on, typesIn, whole-node}
+use Rattle.sheet_node.specs.Node.{mapAt, assignmentAt, statementAt, statementOf, statementsFrom, Node, nodeAt, nodeOf, typesIn}
+use Rattle.sheet_node.proofs.Accepted.{statement-on, whole-node}
 
 -- an expression that reads only the first n variables
 abbrev pub Below : ℕ → Expr → Type 0
@@ -64,6 +64,6 @@ unfolding nodeOf
 reads-declared s p e =
     let w = whole-node s p e in
     record {
-      statements = below-all (typesIn s p) s (nodeAt s p .body) (nodeAt s p .statements) (w .statements .1);
-      condition = condition-below (nodeAt s p .variables) (length (typesIn s p)) s (nodeAt s p .condition) (w .count) (w .condition .1);
+      statements = below-all (typesIn s (nodeAt s p)) s (nodeAt s p .body) (nodeAt s p .statements) (w .statements .1);
+      condition = condition-below (nodeAt s p .variables) (length (typesIn s (nodeAt s p))) s (nodeAt s p .condition) (w .count) (w .condition .1);
     }

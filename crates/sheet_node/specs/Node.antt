@@ -8,14 +8,14 @@ use lib.ListN.{length, getD, take, drop}
 use Rattle.sheet_field.specs.declared.Place.{Place}
 use Rattle.sheet_field.specs.declared.Place.the-variants.{At, Refused}
 use Rattle.sheet_field.specs.declared.Field.{Field}
-use Rattle.sheet_field.specs.Field.{fieldAt, startOf, judge, checkField, codeAt, countAt}
+use Rattle.sheet_field.specs.Field.{fieldAt, startOf, judge, checkField, codeAt, countAt, WentOn}
 use Rattle.expr.specs.Tree.{Expr, treeOf}
 use Rattle.expr.specs.Statement.{Statement}
 use Rattle.expr.specs.Statement.Statement.{assignment, other}
 use Rattle.expr.specs.Types.{typeOf, sameType}
 use Rattle.sheet_expression.specs.Expression.{expressionAt}
-use Rattle.sheet_node.specs.declared.StatementField.{StatementField}
-use Rattle.sheet_node.specs.declared.NodeField.{NodeField}
+use Rattle.sheet_node.specs.declared.StatementReading.{StatementReading}
+use Rattle.sheet_node.specs.declared.NodeReading.{NodeReading}
 
 -- what reading a statement gives: whether it is an assignment, its variable, its value's words, and the place after it
 pub record StatementRead : Type 0 where
@@ -54,7 +54,7 @@ statementAt types s p =
 
 -- what a reader of a statement leaves: the statement, and a lent list that was `before` and is `after`: the value's words
 -- stand at its front, and the rest is as it was
-pub record TookStatement (f : StatementField) (before after : List ℕ) (r : StatementRead) : Type 0 where
+pub record TookStatement (f : StatementReading) (before after : List ℕ) (r : StatementRead) : Type 0 where
   pub assigned : f .assigned ≡ r .assigned
   pub variable : f .variable ≡ r .variable
   pub size : length (r .words) ≡ 2 * f .records
@@ -97,7 +97,7 @@ addressesFrom s p (suc k) =
 
 -- A node's parts in reading order: at most 32 variables, each by its type; at most 64 statements; the condition; at most 16 addresses
 -- (S27, S28, S29, S30, R2).
-unfoldable pub nodeAt : List ℕ → Place → NodeField
+unfoldable pub nodeAt : List ℕ → Place → NodeReading
 nodeAt s p =
     let v = countAt 0 32 s p in
     let typesEnd = typesFrom s (v .next) (v .value) in
@@ -123,10 +123,20 @@ pub record Node : Type 0 where
   pub condition : Expr
   pub addresses : List ℕ
 
+-- the types of a node that was read whole, as a part of the sheet
+abbrev pub typesIn : List ℕ → NodeReading → List ℕ
+typesIn s n = take (n .variables) (drop (startOf (n .types)) s)
+
+-- a node that was read whole
+pub record ReadNode (s : List ℕ) (node : NodeReading) : Type 0 where
+  pub at : Place
+  pub is : node ≡ nodeAt s at
+  pub on : WentOn (node .next)
+
 -- what a node that was read whole holds
-unfoldable pub nodeOf : List ℕ → NodeField → Node
+unfoldable pub nodeOf : List ℕ → NodeReading → Node
 nodeOf s n =
-    let types = take (n .variables) (drop (startOf (n .types)) s) in
+    let types = typesIn s n in
     record {
       types = types;
       statements = statementsFrom types s (n .body) (n .statements) .list;

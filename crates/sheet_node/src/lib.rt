@@ -9,12 +9,11 @@ ghost use lib.ListN.{length};
 ghost use Rattle.sheet_field.specs.declared.Place.the-variants.{At};
 ghost use Rattle.expr.specs.Tree.{Wf, treeOf};
 ghost use Rattle.expr.specs.Types.{typeOf};
-ghost use Rattle.sheet_expression.specs.Expression.{expressionAt};
-ghost use Rattle.sheet_node.specs.Node.{mapAt, typedAt, assignmentAt, statementAt, TookStatement, statementsFrom, typesFrom, typesOf, addressesFrom, nodeAt};
+ghost use Rattle.sheet_node.specs.Node.{mapAt, typedAt, assignmentAt, statementAt, TookStatement, statementsFrom, typesFrom, typesOf, addressesFrom, nodeAt, typesIn, ReadNode};
 
 // A statement: whether it is an assignment, to which variable, how many records its value has, and the place after it.
 // Any other statement has no variable and no records.
-pub struct StatementField {
+pub struct StatementReading {
     pub assigned: bool,
     pub variable: u64,
     pub records: u64,
@@ -23,7 +22,7 @@ pub struct StatementField {
 
 // A node: its counts of variables, statements and addresses, and the places at which its types, its statements (body),
 // its condition and its addresses (sites) start; next is the place after it.
-pub struct NodeField {
+pub struct NodeReading {
     pub variables: u64,
     pub types: Place,
     pub statements: u64,
@@ -57,14 +56,14 @@ fn typed(end: Place, begin: usize, words: &[u64], types: &[u8], variable: u64) -
     }
 }
 
-// The rest of an assignment behind its map byte; begin is the statement's place.
+// The rest of an assignment after its map byte; begin is the statement's place.
 fn take_assignment(
     s: &[u8],
     p: Place,
     begin: usize,
     types: &[u8],
     out: &mut [u64],
-) -> StatementField
+) -> StatementReading
     requires { ⌜ (length (now types) ≤ 32) × (256 ≤ length (now out)) ⌝ }
     ensures { λ r. ⌜ TookStatement r (now (out .entry)) (now (out .exit)) (assignmentAt (now (types .entry)) begin (now (s .entry)) p) ⌝ }
 {
@@ -74,7 +73,7 @@ fn take_assignment(
     let e = sheet_expression::take_expression(s, after, variables, out);
     let end = e.next;
     let n = 2 * (e.records as usize);
-    StatementField {
+    StatementReading {
         assigned: true,
         variable: v.value,
         records: e.records,
@@ -83,7 +82,7 @@ fn take_assignment(
 }
 
 // The statement at a place. The records of an assigned value stand as words at the front of `out`.
-pub fn take_statement(s: &[u8], p: Place, types: &[u8], out: &mut [u64]) -> StatementField
+pub fn take_statement(s: &[u8], p: Place, types: &[u8], out: &mut [u64]) -> StatementReading
     requires { ⌜ (length (now types) ≤ 32) × (256 ≤ length (now out)) ⌝ }
     ensures { λ r. ⌜ TookStatement r (now (out .entry)) (now (out .exit)) (statementAt (now (types .entry)) (now (s .entry)) p) ⌝ }
 {
@@ -92,7 +91,7 @@ pub fn take_statement(s: &[u8], p: Place, types: &[u8], out: &mut [u64]) -> Stat
     if map.value == 3 {
         take_assignment(s, after, sheet_field::start(p), types, out)
     } else {
-        StatementField {
+        StatementReading {
             assigned: false,
             variable: 0,
             records: 0,
@@ -101,34 +100,19 @@ pub fn take_statement(s: &[u8], p: Place, types: &[u8], out: &mut [u64]) -> Stat
     }
 }
 
-// The place after a statement.
-fn check_statement(s: &[u8], p: Place, types: &[u8]) -> Place
-    requires { ⌜ length (now types) ≤ 32 ⌝ }
-    ensures { λ r. ⌜ r ≡ statementAt (now (types .entry)) (now (s .entry)) p .next ⌝ }
-{
-    let mut words = [0u64; 256];
-    let r = take_statement(s, p, types, &mut words);
-    r.next
-}
-
-// The place after a condition.
-fn check_condition(s: &[u8], p: Place, variables: u64) -> Place
-    requires { ⌜ variables ≤ 32 ⌝ }
-    ensures { λ r. ⌜ r ≡ expressionAt variables (now (s .entry)) p .next ⌝ }
-{
-    let mut words = [0u64; 256];
-    let r = sheet_expression::take_expression(s, p, variables, &mut words);
-    r.next
-}
-
-fn check_statements(s: &[u8], p: Place, types: &[u8], n: u64) -> Place
-    requires { ⌜ length (now types) ≤ 32 ⌝ }
+// The place after n statements. The words of their values are taken into `words`, one after the other.
+fn check_statements(s: &[u8], p: Place, types: &[u8], n: u64, words: &mut [u64]) -> Place
+    requires { ⌜ (length (now types) ≤ 32) × (256 ≤ length (now words)) ⌝ }
     ensures { λ r. ⌜ r ≡ statementsFrom (now (types .entry)) (now (s .entry)) p n .next ⌝ }
 {
     let mut next = p;
     let mut i: u64 = 0;
     while i < n {
-        next = check_statement(s, next, types);
+        if sheet_field::is_refused(next) {
+            return next;
+        }
+        let r = take_statement(s, next, types, words);
+        next = r.next;
         i += 1;
     }
     next
@@ -140,6 +124,9 @@ fn check_types(s: &[u8], p: Place, n: u64) -> Place
     let mut next = p;
     let mut i: u64 = 0;
     while i < n {
+        if sheet_field::is_refused(next) {
+            return next;
+        }
         let f = sheet_field::code(s, next, 10);
         next = f.next;
         i += 1;
@@ -153,6 +140,9 @@ fn check_addresses(s: &[u8], p: Place, n: u64) -> Place
     let mut next = p;
     let mut i: u64 = 0;
     while i < n {
+        if sheet_field::is_refused(next) {
+            return next;
+        }
         let f = sheet_field::take_field(s, next, Width::Eight);
         next = f.next;
         i += 1;
@@ -171,8 +161,20 @@ pub fn types_of(s: &[u8], end: Place, from: usize, n: usize) -> &[u8]
     }
 }
 
-// The node record at a place.
-pub fn take_node(s: &[u8], p: Place) -> NodeField
+// The types of a node that was read whole.
+pub fn node_types(s: &[u8], node: NodeReading) -> &[u8]
+    requires { ⌜ ReadNode (now s) node ⌝ }
+    ensures { λ r. ⌜ now r ≡ typesIn (now (s .entry)) node ⌝ }
+{
+    let types = node.types;
+    let from = sheet_field::start(types);
+    let n = node.variables as usize;
+    &s[from..from + n]
+}
+
+// The node record at a place. `words` is lent for the words of its expressions, one after the other.
+pub fn take_node(s: &[u8], p: Place, words: &mut [u64]) -> NodeReading
+    requires { ⌜ 256 ≤ length (now words) ⌝ }
     ensures { λ r. ⌜ r ≡ nodeAt (now (s .entry)) p ⌝ }
 {
     let v = sheet_field::count(s, p, 0, 32);
@@ -181,11 +183,12 @@ pub fn take_node(s: &[u8], p: Place) -> NodeField
     let types = types_of(s, types_end, sheet_field::start(types_at), v.value as usize);
     let k = sheet_field::count(s, types_end, 0, 64);
     let body = k.next;
-    let condition = check_statements(s, body, types, k.value);
-    let condition_end = check_condition(s, condition, types.len() as u64);
+    let condition = check_statements(s, body, types, k.value, words);
+    let e = sheet_expression::take_expression(s, condition, types.len() as u64, words);
+    let condition_end = e.next;
     let a = sheet_field::count(s, condition_end, 0, 16);
     let sites = a.next;
-    NodeField {
+    NodeReading {
         variables: v.value,
         types: types_at,
         statements: k.value,

@@ -7,7 +7,7 @@ use mathlib.Core.Logic.{_⊎_, inl, inr, ⊎-elim, _↔_}
 use native.Mathlib.Omega.{arith}
 use borrow.Author.Tests.{ltb-true}
 use lib.Dec.{ltb}
-use lib.ListN.{getD}
+use lib.ListN.{length, getD}
 use Rattle.sheet_field.specs.declared.Place.the-variants.{At}
 use Rattle.sheet_node.specs.Node.{nodeAt}
 use Rattle.sheet_node.proofs.Variables.{ReadsDeclared, reads-declared}
@@ -15,8 +15,8 @@ use Rattle.concrete.proofs.Arithmetic.{byTest}
 use Rattle.sheet.specs.declared.Sheet.{Sheet}
 use Rattle.sheet.specs.declared.Reading.{Reading}
 use Rattle.sheet.specs.declared.Reading.the-variants as reading
-use Rattle.sheet.specs.Sheet.{nodesFrom, readingOf}
-use Rattle.sheet.proofs.Accepted.{accepted, nodes-nth}
+use Rattle.sheet.specs.Sheet.{sheetAt, readingOf}
+use Rattle.sheet.proofs.ByNumber.{node-places-count, nth-node-read, nth-node-is}
 use Rattle.sheet.proofs.Refusals.{ByReading, reading-number}
 use Rattle.value.specs.declared.Truth.{Truth}
 use Rattle.value.specs.declared.Truth.the-variants as truth
@@ -27,17 +27,17 @@ use Rattle.evaluate_node.specs.Evaluate.{onTruth, StartsFrom, Gives, FromRun}
 use Rattle.evaluate_node.proofs.Every.{every-run, evaluation-outcome, evaluation-number}
 use Rattle.pomthija.specs.Evaluation.{Evaluated, inNumbers, noNode, evaluatedNode, nodeOn, evaluationAnswer, nodeNumbered, nodePlace, nodeRun, SaysOf, AnswerFromRun, Returned}
 use Rattle.pomthija.specs.Evaluation.Evaluated.{outcome, refused}
-use Rattle.pomthija.proofs.Nodes.{node-read}
 
 -- a node of an accepted sheet reads only variables that it declares
 declared-only : (s : List ℕ) (sheet : Sheet) → readingOf s ≡ reading.Accepted sheet → (number : ℕ) → number < sheet .nodes .count
     → ReadsDeclared (nodeNumbered s number)
 declared-only s sheet read number below =
-    let acc = accepted s sheet read in
-    let place = nodesFrom s (At (sheet .nodes .at)) number .next in
-    let r = node-read s sheet read number below {place = place} {node = nodeAt s place} refl refl in
-    rw (← acc .nodes, nodes-nth s (At (sheet .nodes .at)) (sheet .nodes .count) number noNode below)
-    (reads-declared s place {a = r .on .0} (r .on .1))
+    let places = sheetAt s .nodes .places in
+    let node = nodeAt s (At (getD places number 0)) in
+    let there : number < length places = rw (node-places-count s sheet read) below in
+    let r = nth-node-read s sheet read number {places = places} {r = node} refl there refl in
+    rw (← nth-node-is s sheet read number {places = places} {r = node} refl there refl noNode)
+    (reads-declared s (At (getD places number 0)) {a = r .on .0} (r .on .1))
 
 says : (e : Evaluation) (t : Truth) → Gives e t → SaysOf (inNumbers e) t
 says evaluation.Holds t h = h

@@ -26,10 +26,10 @@ use Rattle.sheet_instruction.specs.Instruction.{instructionAt}
 use Rattle.sheet_instruction.proofs.Accepted.{Well, instruction-on}
 use Rattle.sheet.specs.declared.Sheet.{Sheet}
 use Rattle.sheet.specs.declared.Reading.the-variants as reading
-use Rattle.sheet.specs.Sheet.{instructionsFrom, sheetAt, readingOf}
+use Rattle.sheet.specs.Sheet.{noBlock, instructionsFrom, sheetAt, readingOf}
 use Rattle.sheet.proofs.Accepted.{accepted}
 use Rattle.verdict.specs.declared.Verdict.the-variants as answer
-use Rattle.verdict_block.specs.Verdict.{within, codeOf, Parts, preceded, apart, flagVerdict, judged, verdictAt, endAt, endFrom, endOn, verdictOn, jumpOf, noBlock}
+use Rattle.verdict_block.specs.Verdict.{within, codeOf, Parts, preceded, apart, flagVerdict, judged, verdictAt, endAt, endFrom, endOn, verdictOn, jumpOf}
 use Rattle.verdict_block.specs.Verdict.Parts.{none, ending}
 use Rattle.theorems.specs.Runs.{Outcome, runAt, runFrom, runOn, NotAgainst}
 use Rattle.theorems.specs.Runs.Outcome.{jumped, nothing}

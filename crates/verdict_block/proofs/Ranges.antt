@@ -11,7 +11,7 @@ use borrow.Author.Tests.{lt-ltb, le-ltb, le-leb, lt-leb, ltb-true, ltb-false, le
 use Rattle.isa.specs.declared.Instruction.{Instruction}
 use Rattle.search.specs.Ascending.{Ascending, countBelow}
 use Rattle.search.proofs.Laws.{ascending-rest, ascending-below, count-is, Bracket}
-use Rattle.index.specs.Index.{addressesOf}
+use Rattle.sheet.specs.Index.{addressesOf}
 use Rattle.verdict_block.specs.Verdict.{within}
 
 -- every element is at or above x

@@ -1,12 +1,10 @@
 -- A block's end and the verdict there, by the rules of the machine.
 use Prim.Native.Nat.{ℕ}
-use mathlib.Core.List.{List, [], _∷_, map}
-use mathlib.Core.Bool.{Bool, true, cond, _&&_}
+use mathlib.Core.List.{List, [], _∷_}
+use mathlib.Core.Bool.{cond, _&&_}
 use lib.Dec.{leb, ltb}
 use lib.ListN.{getD}
-use Rattle.sheet_field.specs.declared.Place.the-variants.{At}
 use Rattle.isa.specs.declared.Instruction.{Instruction}
-use Rattle.sheet_instruction.specs.Instruction.{instructionAt}
 use Rattle.machine.specs.declared.State.{State}
 use Rattle.alu.specs.declared.Flag.{Flag}
 use Rattle.alu.specs.declared.Flag.the-variants.{Known, Unknown}
@@ -16,7 +14,7 @@ use Rattle.machine.specs.Conditions.{conditionOf}
 use Rattle.verdict.specs.declared.Reason.the-variants.{Flags}
 use Rattle.verdict.specs.declared.Verdict.{Verdict}
 use Rattle.verdict.specs.declared.Verdict.the-variants.{Always, Never, Undecided, NoBranch}
-use Rattle.sheet.specs.Sheet.{Block, sheetAt}
+use Rattle.sheet.specs.Sheet.{noBlock, sheetAt}
 use Rattle.verdict_block.specs.declared.End.{End}
 use Rattle.verdict_block.specs.declared.Jump.{Jump}
 use Rattle.verdict_block.specs.declared.Jump.the-variants.{Conditional, Nothing}
@@ -25,10 +23,6 @@ use Rattle.verdict_block.specs.declared.Jump.the-variants.{Conditional, 
 unfoldable pub within : ℕ → ℕ → List Instruction → List Instruction
 within from to [] = []
 within from to (i ∷ l) = cond (leb from (i .address) && ltb (i .address) to) (i ∷ within from to l) (within from to l)
-
--- a block that no sheet has, for a number that is out of range
-abbrev pub noBlock : Block
-noBlock = record { from = 0; to = 0 }
 
 -- the instructions of the block of that number
 unfoldable pub codeOf : List ℕ → ℕ → List Instruction
@@ -84,7 +78,3 @@ endOn s number start = endFrom start (codeOf s number)
 -- The verdict on the block of that number: nothing is known where it starts (M4).
 unfoldable pub verdictOn : List ℕ → ℕ → Verdict
 verdictOn s number = verdictAt (endOn s number nothingKnown)
-
--- the instructions whose records stand at given places
-unfoldable pub instructionsOf : List ℕ → List ℕ → List Instruction
-instructionsOf s places = map (λ (p : ℕ). instructionAt true 0 s (At p) .instruction) places

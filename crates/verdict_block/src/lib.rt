@@ -5,21 +5,17 @@ use isa::Instruction;
 use isa::Mnemonic;
 use machine::State;
 use sheet::Sheet;
-use sheet_field::Place;
 use verdict::Reason;
 use verdict::Verdict;
 ghost use mathlib.Core.Path.{_≡_};
-ghost use mathlib.Core.Bool.{true};
 ghost use Prim.Native.Nat.{_≤_, _<_};
 ghost use lib.ListN.{length};
 ghost use lib.Seq.{slice};
-ghost use Rattle.sheet_field.specs.declared.Place.the-variants.{At};
-ghost use Rattle.sheet_instruction.specs.Instruction.{instructionAt};
 ghost use Rattle.machine.specs.Rules.{steppedAll};
 ghost use Rattle.sheet.specs.declared.Reading.the-variants.{Accepted};
 ghost use Rattle.sheet.specs.Sheet.{sheetAt, readingOf};
-ghost use Rattle.index.specs.Index.{addressesOf};
-ghost use Rattle.verdict_block.specs.Verdict.{instructionsOf, jumpOf, flagVerdict, verdictAt, endFrom, endOn, verdictOn};
+ghost use Rattle.sheet.specs.Index.{addressesOf};
+ghost use Rattle.verdict_block.specs.Verdict.{jumpOf, flagVerdict, verdictAt, endFrom, endOn, verdictOn};
 
 // A block's last instruction, as far as a verdict asks for it: a conditional branch of a mnemonic, or nothing to judge.
 pub enum Jump {
@@ -33,14 +29,6 @@ pub struct End {
     pub jump: Jump,
 }
 
-// The instruction whose record stands at a place.
-fn instruction_at(s: &[u8], place: u64) -> Instruction
-    ensures { λ r. ⌜ r ≡ instructionAt true 0 (now (s .entry)) (At place) .instruction ⌝ }
-{
-    let r = sheet_instruction::take_instruction(s, Place::At(place as usize), true, 0);
-    r.instruction
-}
-
 fn jump_of(i: Instruction) -> Jump
     ensures { λ r. ⌜ r ≡ jumpOf i ⌝ }
 {
@@ -52,25 +40,43 @@ fn jump_of(i: Instruction) -> Jump
     }
 }
 
-// What is known after the instructions whose places stand from `first` up to `end` in the list.
-fn step_over(s: &[u8], places: &[u64], first: usize, end: usize, start: State) -> State
+// What is known after the instructions of an accepted sheet from number `first` up to `end`.
+fn step_over(
+    s: &[u8],
+    sheet: Sheet,
+    places: &[u64],
+    first: usize,
+    end: usize,
+    start: State,
+) -> State
+    requires { ⌜ readingOf (now s) ≡ Accepted sheet ⌝ }
+    requires { ⌜ now places ≡ sheetAt (now s) .instructions .places ⌝ }
     requires { ⌜ end ≤ length (now places) ⌝ }
-    ensures { λ r. ⌜ r ≡ steppedAll start (slice first end (instructionsOf (now (s .entry)) (now (places .entry)))) ⌝ }
+    ensures { λ r. ⌜ r ≡ steppedAll start (slice first end (sheetAt (now (s .entry)) .instructions .list)) ⌝ }
 {
     let mut state = start;
     let mut i = first;
     while i < end {
-        let it = instruction_at(s, places[i]);
+        let it = sheet::nth_instruction(s, sheet, places, i);
         state = machine::step(state, it);
         i += 1;
     }
     state
 }
 
-// The end of the instructions whose places stand from `first` up to `end` in the list.
-fn end_between(s: &[u8], places: &[u64], first: usize, end: usize, start: State) -> End
+// The end of the instructions of an accepted sheet from number `first` up to `end`.
+fn end_between(
+    s: &[u8],
+    sheet: Sheet,
+    places: &[u64],
+    first: usize,
+    end: usize,
+    start: State,
+) -> End
+    requires { ⌜ readingOf (now s) ≡ Accepted sheet ⌝ }
+    requires { ⌜ now places ≡ sheetAt (now s) .instructions .places ⌝ }
     requires { ⌜ end ≤ length (now places) ⌝ }
-    ensures { λ r. ⌜ r ≡ endFrom start (slice first end (instructionsOf (now (s .entry)) (now (places .entry)))) ⌝ }
+    ensures { λ r. ⌜ r ≡ endFrom start (slice first end (sheetAt (now (s .entry)) .instructions .list)) ⌝ }
 {
     if end <= first {
         return End {
@@ -79,8 +85,8 @@ fn end_between(s: &[u8], places: &[u64], first: usize, end: usize, start: State)
         };
     }
     let last = end - 1;
-    let known = step_over(s, places, first, last, start);
-    let it = instruction_at(s, places[last]);
+    let known = step_over(s, sheet, places, first, last, start);
+    let it = sheet::nth_instruction(s, sheet, places, last);
     End {
         known,
         jump: jump_of(it),
@@ -102,11 +108,10 @@ pub fn end_on(
     requires { ⌜ now places ≡ sheetAt (now s) .instructions .places ⌝ }
     ensures { λ r. ⌜ r ≡ endOn (now (s .entry)) number start ⌝ }
 {
-    let section = sheet.blocks;
-    let block = sheet::take_block(s, Place::At(section.at + 16 * (number as usize)));
+    let block = sheet::nth_block(s, sheet, number);
     let first = search::first_at_or_above(addresses, block.from);
     let end = search::first_at_or_above(addresses, block.to);
-    end_between(s, places, first, end, start)
+    end_between(s, sheet, places, first, end, start)
 }
 
 fn flag_verdict(f: Flag) -> Verdict

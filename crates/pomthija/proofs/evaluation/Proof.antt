@@ -1,15 +1,31 @@
-use Rattle.pomthija.proofs.Nodes.{evaluation-refused, evaluation-missing, evaluation-is}
+use Rattle.pomthija.proofs.Nodes.{evaluation-refused}
+use Rattle.sheet.proofs.ByNumber.{front-nodes}
 use mathlib.Core.Path.{sym, _∙_}
 use borrow.Author.Needs.{needs}
 use Rattle.pomthija.proofs.evaluation.Statement.{statement}
 use Rattle.pomthija.proofs.evaluation.Tie as tie
 use Rattle.pomthija.proofs.evaluation.Reads as reads
 use Rattle.pomthija.proofs.evaluation.Lts as lts
-use Rattle.sheet.proofs.read.Reads as read-reads
 use Rattle.pomthija.proofs.evaluate_number.Reads as evaluate-number-reads
+use Rattle.sheet.proofs.read_index.Reads as read-index-reads
 
-read-requires : tie.Need-read-requires
-read-requires c κs = search needs
+slice-aggregate-read-index : tie.Need-slice-aggregate-read-index
+slice-aggregate-read-index c = search needs
+
+slice-aggregate-read-index-2 : tie.Need-slice-aggregate-read-index-2
+slice-aggregate-read-index-2 c = search needs
+
+slice-aggregate-read-index-3 : tie.Need-slice-aggregate-read-index-3
+slice-aggregate-read-index-3 c = search needs
+
+slice-aggregate-read-index-4 : tie.Need-slice-aggregate-read-index-4
+slice-aggregate-read-index-4 c = search needs
+
+slice-aggregate-read-index-5 : tie.Need-slice-aggregate-read-index-5
+slice-aggregate-read-index-5 c = search needs
+
+read-index-requires : tie.Need-read-index-requires
+read-index-requires c κs = search needs
 
 enum-known-reading : tie.Need-enum-known-reading
 enum-known-reading c = search needs
@@ -17,26 +33,31 @@ enum-known-reading c = search needs
 enum-known-reading-2 : tie.Need-enum-known-reading-2
 enum-known-reading-2 c = search needs
 
+slice-aggregate-evaluate-number : tie.Need-slice-aggregate-evaluate-number
+slice-aggregate-evaluate-number c = search needs
+
 evaluate-number-requires : tie.Need-evaluate-number-requires
-evaluate-number-requires c κs = (sym (c .before .before .before .before .before .before .read .ensures) ∙ c .before .before .before .before .reading2 .given .1, c .if1 .taken)
+evaluate-number-requires c κs = ((sym (c .before .before .before .before .before .before .before .before .before .read-index .ensures .0) ∙ c .before .before .reading2 .given .1), front-nodes _ _ (sym (c .before .before .before .before .before .before .before .before .before .read-index .ensures .0) ∙ c .before .before .reading2 .given .1) (c .before .before .before .before .before .before .before .before .before .read-index .ensures .1 _ (c .before .before .reading2 .given .1)) (search needs))
 
 returns : tie.Need-returns
-returns c = evaluation-is _ _ _ (c .before .before .before .before .before .before .before .read .ensures) (c .before .before .before .before .before .reading2 .given .1) (c .before .if1 .taken) (c .evaluate-number .ensures)
+returns c = evaluation-refused _ _ _ (c .before .before .before .before .before .before .before .before .read-index .ensures .0) (c .before .reading .given .1)
 
 returns-2 : tie.Need-returns-2
-returns-2 c = evaluation-refused _ _ _ (c .before .before .before .read .ensures) (c .before .reading .given .1)
-
-returns-3 : tie.Need-returns-3
-returns-3 c = evaluation-missing _ _ _ (c .before .before .before .before .before .before .read .ensures) (c .before .before .before .before .reading2 .given .1) (c .if1 .left)
+returns-2 c = search needs
 
 pub evaluation-spec : {M : Type 1} → statement M
 evaluation-spec =
     tie.close
     (tie.spec
-    read-requires
+    slice-aggregate-read-index
+    slice-aggregate-read-index-2
+    slice-aggregate-read-index-3
+    slice-aggregate-read-index-4
+    slice-aggregate-read-index-5
+    read-index-requires
     enum-known-reading
     enum-known-reading-2
+    slice-aggregate-evaluate-number
     evaluate-number-requires
     returns
-    returns-2
-    returns-3)
+    returns-2)

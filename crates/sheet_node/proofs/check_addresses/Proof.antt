@@ -1,17 +1,19 @@
-use Prim.Native.Nat.{_≤_, _-_}
-use mathlib.Core.Path.{_≡_, refl}
-use borrow.Author.Needs.{needs}
-use native.Mathlib.Omega.{arith}
+use Rattle.sheet_node.proofs.Nodes.{addresses-more, addresses-stopped}
 use Rattle.sheet_node.specs.Node.{addressesFrom}
-use Rattle.sheet_node.proofs.Nodes.{addresses-more}
+use native.Mathlib.Omega.{arith}
+use borrow.Author.Needs.{needs}
+use mathlib.Core.Path.{_≡_, refl, sym, _∙_}
+use Prim.Native.Nat.{_≤_, _-_}
 use Rattle.sheet_node.proofs.check_addresses.Statement.{statement}
 use Rattle.sheet_node.proofs.check_addresses.Tie as tie
 use Rattle.sheet_node.proofs.check_addresses.Reads as reads
 use Rattle.sheet_node.proofs.check_addresses.Lts as lts
+use Rattle.sheet_field.proofs.is_refused.Reads as is-refused-reads
 use Rattle.sheet_field.proofs.take_field.Reads as take-field-reads
 
 abbrev Inv-loop : tie.InvT-loop
-Inv-loop s n next₀ i₀ next i = (i ≤ n) × (next ≡ addressesFrom s next₀ i .next)
+Inv-loop s n next₀ i₀ next i =
+    (i ≤ n) × (next ≡ addressesFrom s next₀ i .next)
 
 abbrev μ-loop : tie.MeasureT-loop
 μ-loop s n next₀ i₀ next i = n - i
@@ -19,6 +21,12 @@ abbrev μ-loop : tie.MeasureT-loop
 loop-holds : tie.Need-loop-holds Inv-loop μ-loop
 unfolding addressesFrom
 loop-holds c = (search needs, refl)
+
+is-refused-requires : tie.Need-is-refused-requires Inv-loop μ-loop
+is-refused-requires c κs = search needs
+
+returns : tie.Need-returns Inv-loop μ-loop
+returns c = addresses-stopped _ _ _ _ _ (c .before .before .before .loop .inv .1) (sym (c .before .is-refused .ensures) ∙ c .if1 .taken) (omega arith)
 
 take-field-requires : tie.Need-take-field-requires Inv-loop μ-loop
 take-field-requires c κs = search needs
@@ -30,12 +38,22 @@ loop-less : tie.Need-loop-less Inv-loop μ-loop
 loop-less c = search needs
 
 loop-again : tie.Need-loop-again Inv-loop μ-loop
-loop-again c = (search needs, rw (c .take-field .ensures, c .before .before .loop .inv .1) (addresses-more _ _ _))
+loop-again c = (search needs, rw (c .take-field .ensures, c .before .before .before .before .loop .inv .1) (addresses-more _ _ _))
 
-returns : tie.Need-returns Inv-loop μ-loop
-returns c = let e : c .before .before .before .args .n ≡ c .before .loop .i = omega arith in rw e (c .before .loop .inv .1)
+returns-2 : tie.Need-returns-2 Inv-loop μ-loop
+returns-2 c = let e : c .before .before .before .args .n ≡ c .before .loop .i = omega arith in rw e (c .before .loop .inv .1)
 
 pub check-addresses-spec : {M : Type 1} → statement M
 check-addresses-spec =
     tie.close
-    (tie.spec Inv-loop μ-loop loop-holds take-field-requires add-i loop-less loop-again returns)
+    (tie.spec
+    Inv-loop
+    μ-loop
+    loop-holds
+    is-refused-requires
+    returns
+    take-field-requires
+    add-i
+    loop-less
+    loop-again
+    returns-2)

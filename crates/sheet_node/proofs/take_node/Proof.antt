@@ -1,13 +1,14 @@
+use mathlib.Core.Path.{sym, _∙_}
 use Rattle.sheet_node.proofs.Nodes.{types-inside, types-32, node-is}
 use borrow.Author.Needs.{needs}
 use Rattle.sheet_node.proofs.take_node.Statement.{statement}
 use Rattle.sheet_node.proofs.take_node.Tie as tie
 use Rattle.sheet_node.proofs.take_node.Reads as reads
 use Rattle.sheet_node.proofs.take_node.Lts as lts
+use Rattle.sheet_expression.proofs.take_expression.Reads as take-expression-reads
 use Rattle.sheet_field.proofs.count.Reads as count-reads
 use Rattle.sheet_field.proofs.start.Reads as start-reads
 use Rattle.sheet_node.proofs.check_addresses.Reads as check-addresses-reads
-use Rattle.sheet_node.proofs.check_condition.Reads as check-condition-reads
 use Rattle.sheet_node.proofs.check_statements.Reads as check-statements-reads
 use Rattle.sheet_node.proofs.check_types.Reads as check-types-reads
 use Rattle.sheet_node.proofs.types_of.Reads as types-of-reads
@@ -22,16 +23,16 @@ start-requires : tie.Need-start-requires
 start-requires c κs = search needs
 
 types-of-requires : tie.Need-types-of-requires
-types-of-requires c κs = types-inside (c .before .before .before .before .args .s .now) (c .before .before .before .before .args .p) (c .before .before .count .ensures) (c .before .check-types .ensures) (c .start .ensures)
+types-of-requires c κs = types-inside (c .before .before .before .before .before .args .s .now) (c .before .before .before .before .before .args .p) (c .before .before .count .ensures) (c .before .check-types .ensures) (c .start .ensures)
 
 count-requires-2 : tie.Need-count-requires-2
 count-requires-2 c κs = search needs
 
 check-statements-requires : tie.Need-check-statements-requires
-check-statements-requires c κs = types-32 _ _ (c .before .before .before .check-types .result) (c .before .before .start .result) _ (c .before .before .before .before .count .ensures) (c .before .types-of .ensures)
+check-statements-requires c κs = (types-32 _ _ (c .before .before .before .before .check-types .result) (c .before .before .before .start .result) _ (c .before .before .before .before .before .count .ensures) (c .before .before .types-of .ensures), c .before .before .before .before .before .before .before .before .pre)
 
-check-condition-requires : tie.Need-check-condition-requires
-check-condition-requires c κs = types-32 _ _ (c .before .before .before .before .check-types .result) (c .before .before .before .start .result) _ (c .before .before .before .before .before .count .ensures) (c .before .before .types-of .ensures)
+take-expression-requires : tie.Need-take-expression-requires
+take-expression-requires c κs = (types-32 _ _ (c .before .before .before .before .before .before .before .before .check-types .result) (c .before .before .before .before .before .before .before .start .result) _ (c .before .before .before .before .before .before .before .before .before .count .ensures) (c .before .before .before .before .before .before .types-of .ensures), search needs)
 
 count-requires-3 : tie.Need-count-requires-3
 count-requires-3 c κs = search needs
@@ -39,8 +40,11 @@ count-requires-3 c κs = search needs
 check-addresses-requires : tie.Need-check-addresses-requires
 check-addresses-requires c κs = search needs
 
+same-length : tie.Need-same-length
+same-length c = search needs
+
 returns : tie.Need-returns
-returns c = node-is _ _ (c .before .before .before .before .before .before .before .before .count .ensures) (c .before .before .before .before .before .before .before .check-types .ensures) (c .before .before .before .before .before .before .start .ensures) (c .before .before .before .before .before .types-of .ensures) (c .before .before .before .before .count2 .ensures) (c .before .before .before .check-statements .ensures) (c .before .before .check-condition .ensures) (c .before .count3 .ensures) (c .check-addresses .ensures)
+returns c = node-is _ _ (c .before .before .before .before .before .before .before .before .before .before .before .before .before .before .count .ensures) (c .before .before .before .before .before .before .before .before .before .before .before .before .before .check-types .ensures) (c .before .before .before .before .before .before .before .before .before .before .before .before .start .ensures) (c .before .before .before .before .before .before .before .before .before .before .before .types-of .ensures) (c .before .before .before .before .before .before .before .before .before .before .count2 .ensures) (c .before .before .before .before .before .before .before .before .check-statements .ensures) (c .before .before .before .before .take-expression .ensures .place) (c .before .count3 .ensures) (c .check-addresses .ensures)
 
 pub take-node-spec : {M : Type 1} → statement M
 take-node-spec =
@@ -52,7 +56,8 @@ take-node-spec =
     types-of-requires
     count-requires-2
     check-statements-requires
-    check-condition-requires
+    take-expression-requires
     count-requires-3
     check-addresses-requires
+    same-length
     returns)

@@ -1,12 +1,18 @@
+use Rattle.verdict_block.proofs.OnSheet.{inside}
+use Rattle.verdict_block.proofs.Between.{end-none, end-last}
 use Prim.Native.Nat.{_-_}
 use native.Mathlib.Omega.{arith}
-use Rattle.verdict_block.proofs.Between.{end-none, end-last}
 use borrow.Author.Needs.{needs}
 use Rattle.verdict_block.proofs.end_between.Statement.{statement}
 use Rattle.verdict_block.proofs.end_between.Tie as tie
+use Rattle.verdict_block.proofs.end_between.Reads as reads
+use Rattle.verdict_block.proofs.end_between.Lts as lts
+use Rattle.sheet.proofs.nth_instruction.Reads as nth-instruction-reads
+use Rattle.verdict_block.proofs.jump_of.Reads as jump-of-reads
+use Rattle.verdict_block.proofs.step_over.Reads as step-over-reads
 
 returns : tie.Need-returns
-returns c = end-none (c .before .before .before .args .s .now) (c .before .before .before .args .places .now) (c .before .before .before .args .first) (c .before .before .before .args .end) (c .before .before .before .args .start) (c .if1 .taken)
+returns c = end-none _ (c .before .before .before .args .first) (c .before .before .before .args .end) (c .before .before .before .args .start) (c .if1 .taken)
 
 sub-last : tie.Need-sub-last
 sub-last c = search needs
@@ -14,20 +20,14 @@ sub-last c = search needs
 step-over-requires : tie.Need-step-over-requires
 step-over-requires c κs = search needs
 
-mul-instruction-at : tie.Need-mul-instruction-at
-mul-instruction-at c = search needs
-
-shared-slice-read-instruction-at : tie.Need-shared-slice-read-instruction-at
-shared-slice-read-instruction-at c = search needs
-
-instruction-at-requires : tie.Need-instruction-at-requires
-instruction-at-requires c κs = search needs
+nth-instruction-requires : tie.Need-nth-instruction-requires
+nth-instruction-requires c κs = (c .before .before .before .before .pre .0, (c .before .before .before .before .pre .1 .0, omega (arith, c .before .if1, c .before .before .before .before .pre .1 .1)))
 
 jump-of-requires : tie.Need-jump-of-requires
 jump-of-requires c κs = search needs
 
 returns-2 : tie.Need-returns-2
-returns-2 c = end-last (c .before .before .before .before .before .before .before .args .s .now) (c .before .before .before .before .before .before .before .args .places .now) (c .before .before .before .before .before .before .before .args .first) (c .before .before .before .before .before .before .before .args .end - 1) (c .before .before .before .before .before .before .before .args .end) (c .before .before .before .before .before .before .before .args .start) (omega arith) (omega arith) (c .before .before .before .before .before .before .before .pre) (c .before .before .before .step-over .ensures) (c .before .instruction-at .ensures) (c .jump-of .ensures)
+returns-2 c = end-last _ (c .before .before .before .before .before .before .args .first) (c .before .before .before .before .before .before .args .end - 1) (c .before .before .before .before .before .before .args .end) (c .before .before .before .before .before .before .args .start) (omega arith) (omega (arith, c .before .before .before .if1)) (inside (c .before .before .before .before .before .before .args .s .now) (c .before .before .before .before .before .before .args .sheet) (c .before .before .before .before .before .before .pre .0) (c .before .before .before .before .before .before .pre .1 .0) (c .before .before .before .before .before .before .pre .1 .1)) (c .before .before .step-over .ensures) (c .before .nth-instruction .ensures) (c .jump-of .ensures)
 
 pub end-between-spec : {M : Type 1} → statement M
 end-between-spec =
@@ -36,8 +36,6 @@ end-between-spec =
     returns
     sub-last
     step-over-requires
-    mul-instruction-at
-    shared-slice-read-instruction-at
-    instruction-at-requires
+    nth-instruction-requires
     jump-of-requires
     returns-2)

@@ -1,38 +1,34 @@
-use native.Mathlib.Omega.{arith}
-use Rattle.sheet.proofs.Accepted.{blocks-inside}
-use Rattle.verdict_block.proofs.OnSheet.{addresses-rise, end-inside, end-is}
+use Rattle.verdict_block.proofs.OnSheet.{end-inside, end-is}
+use Rattle.sheet.proofs.ByNumber.{addresses-rise}
 use borrow.Author.Needs.{needs}
 use Rattle.verdict_block.proofs.end_on.Statement.{statement}
 use Rattle.verdict_block.proofs.end_on.Tie as tie
+use Rattle.verdict_block.proofs.end_on.Reads as reads
+use Rattle.verdict_block.proofs.end_on.Lts as lts
+use Rattle.search.proofs.first_at_or_above.Reads as first-at-or-above-reads
+use Rattle.sheet.proofs.nth_block.Reads as nth-block-reads
+use Rattle.verdict_block.proofs.end_between.Reads as end-between-reads
 
-mul-t12 : tie.Need-mul-t12
-mul-t12 c = omega (arith, blocks-inside (c .before .before .before .before .args .s .now) (c .before .before .before .before .args .sheet) (c .before .before .before .before .pre .0), c .before .before .before .before .pre .1 .0, c .before .before .before .before .good)
-
-add-t13 : tie.Need-add-t13
-add-t13 c = omega (arith, blocks-inside (c .before .before .before .before .before .args .s .now) (c .before .before .before .before .before .args .sheet) (c .before .before .before .before .before .pre .0), c .before .before .before .before .before .pre .1 .0, c .before .before .before .before .before .good)
-
-take-block-requires : tie.Need-take-block-requires
-take-block-requires c κs = search needs
+nth-block-requires : tie.Need-nth-block-requires
+nth-block-requires c κs = search needs
 
 first-at-or-above-requires : tie.Need-first-at-or-above-requires
-first-at-or-above-requires c κs = rw (c .before .before .before .before .before .before .pre .1 .1 .0) (addresses-rise (c .before .before .before .before .before .before .args .s .now) (c .before .before .before .before .before .before .args .sheet) (c .before .before .before .before .before .before .pre .0))
+first-at-or-above-requires c κs = rw (c .before .before .before .before .pre .1 .1 .0) (addresses-rise (c .before .before .before .before .args .s .now) (c .before .before .before .before .args .sheet) (c .before .before .before .before .pre .0))
 
 first-at-or-above-requires-2 : tie.Need-first-at-or-above-requires-2
-first-at-or-above-requires-2 c κs = rw (c .before .before .before .before .before .before .before .pre .1 .1 .0) (addresses-rise (c .before .before .before .before .before .before .before .args .s .now) (c .before .before .before .before .before .before .before .args .sheet) (c .before .before .before .before .before .before .before .pre .0))
+first-at-or-above-requires-2 c κs = rw (c .before .before .before .before .before .pre .1 .1 .0) (addresses-rise (c .before .before .before .before .before .args .s .now) (c .before .before .before .before .before .args .sheet) (c .before .before .before .before .before .pre .0))
 
 end-between-requires : tie.Need-end-between-requires
-end-between-requires c κs = end-inside (c .before .before .before .before .before .before .before .before .args .s .now) (c .before .before .before .before .before .before .before .before .args .sheet) (c .before .before .before .before .before .before .before .before .pre .0) _ (c .before .before .before .before .before .before .before .before .pre .1 .1 .0) (c .before .before .before .before .before .before .before .before .pre .1 .1 .1) (c .first-at-or-above2 .ensures)
+end-between-requires c κs = (c .before .before .before .before .before .before .pre .0, (c .before .before .before .before .before .before .pre .1 .1 .1, end-inside (c .before .before .before .before .before .before .args .s .now) (c .before .before .before .before .before .before .args .sheet) (c .before .before .before .before .before .before .pre .0) _ (c .before .before .before .before .before .before .pre .1 .1 .0) (c .before .before .before .before .before .before .pre .1 .1 .1) (c .first-at-or-above2 .ensures)))
 
 returns : tie.Need-returns
-returns c = end-is (c .before .before .before .before .before .before .before .before .before .args .s .now) (c .before .before .before .before .before .before .before .before .before .args .sheet) (c .before .before .before .before .before .before .before .before .before .pre .0) _ _ (c .before .before .before .before .before .before .before .before .before .pre .1 .0) (c .before .before .before .before .before .before .before .before .before .pre .1 .1 .0) (c .before .before .before .before .before .before .before .before .before .pre .1 .1 .1) (c .before .before .before .take-block .ensures) (c .before .before .first-at-or-above .ensures) (c .before .first-at-or-above2 .ensures) (c .end-between .ensures)
+returns c = end-is (c .before .before .before .before .before .before .before .args .s .now) (c .before .before .before .before .before .before .before .args .sheet) (c .before .before .before .before .before .before .before .pre .0) _ _ (c .before .before .before .before .before .before .before .pre .1 .1 .0) (c .before .before .before .nth-block .ensures) (c .before .before .first-at-or-above .ensures) (c .before .first-at-or-above2 .ensures) (c .end-between .ensures)
 
 pub end-on-spec : {M : Type 1} → statement M
 end-on-spec =
     tie.close
     (tie.spec
-    mul-t12
-    add-t13
-    take-block-requires
+    nth-block-requires
     first-at-or-above-requires
     first-at-or-above-requires-2
     end-between-requires

@@ -1,0 +1,120 @@
+-- A block, an instruction and a node of an accepted sheet, found by number.
+use Prim.Native.Nat.{ℕ, zero, suc, _+_, _*_, _≤_, _<_}
+use mathlib.Core.Path.{_≡_, refl, sym, ap, _∙_}
+use mathlib.Core.List.{List, [], _∷_, map}
+use mathlib.Core.Bool.{Bool, true}
+use native.Mathlib.Omega.{arith}
+use lib.ListN.{length, take, getD, length-map, List·getD-map}
+use Rattle.sheet_field.specs.declared.Place.{Place}
+use Rattle.sheet_field.specs.declared.Place.the-variants.{At}
+use Rattle.sheet_field.specs.Field.{startOf, WentOn}
+use Rattle.isa.specs.declared.Instruction.{Instruction}
+use Rattle.sheet_instruction.specs.declared.InstructionField.{InstructionField}
+use Rattle.sheet_instruction.specs.Instruction.{instructionAt}
+use Rattle.sheet_node.specs.declared.NodeReading.{NodeReading}
+use Rattle.sheet_node.specs.Node.{Node, nodeAt, nodeOf, ReadNode}
+use Rattle.search.specs.Ascending.{Ascending}
+use Rattle.sheet.specs.declared.Block.{Block}
+use Rattle.sheet.specs.declared.BlockReading.{BlockReading}
+use Rattle.sheet.specs.declared.Sheet.{Sheet}
+use Rattle.sheet.specs.declared.Reading.the-variants as reading
+use Rattle.sheet.specs.Sheet.{noBlock, instructionsFrom, blockAt, nodesFrom, sheetAt, readingOf}
+use Rattle.sheet.specs.Index.{over, addressesOf, Indexed, InFront}
+use Rattle.sheet.proofs.Accepted.{accepted, blockOf, block-at, nodes-back, nodes-next, nodes-nth, node-places-nth, node-places-length}
+use Rattle.sheet.proofs.Fronts.{instructions-length, places-length, over-length, over-front}
+use Rattle.sheet.proofs.Rising.{rising}
+use Rattle.sheet.proofs.Again.{reread, again}
+
+-- within a list no default is asked for
+any-default : {A : Type 0} (l : List A) (i : ℕ) (d e : A) → i < length l → getD l i d ≡ getD l i e
+any-default [] i d e lt = absurd (omega arith)
+any-default (x ∷ l) zero d e lt = refl
+any-default (x ∷ l) (suc i) d e lt = any-default l i d e (omega arith)
+
+module _ (s : List ℕ) (sheet : Sheet) (read : readingOf s ≡ reading.Accepted sheet) where
+  pub nth-block-is : (number : ℕ) {b : BlockReading} → number < sheet .blocks .count → b ≡ blockAt s (At (sheet .blocks .at + 16 * number))
+      → blockOf b ≡ getD (sheetAt s .blocks .list) number noBlock
+  nth-block-is number below b-is =
+      let acc = accepted s sheet read in
+      rw (b-is, ← acc .blocks)
+      (sym (block-at s (sheet .blocks .at) (sheet .blocks .count) number noBlock {a = acc .afterBlocks .0} (rw (acc .blocks) (acc .afterBlocks .1)) below))
+
+  pub addresses-rise : Ascending (addressesOf (sheetAt s .instructions .list))
+  addresses-rise =
+      let acc = accepted s sheet read in
+      rw (← acc .instructions)
+      (rising s (At (sheet .instructions .at)) (sheet .instructions .count) {a = acc .afterInstructions .0} (rw (acc .instructions) (acc .afterInstructions .1)))
+
+  pub instructions-count : length (sheetAt s .instructions .list) ≡ sheet .instructions .count
+  instructions-count =
+      rw (← accepted s sheet read .instructions) (instructions-length s (At (sheet .instructions .at)) (sheet .instructions .count))
+
+  pub places-count : length (sheetAt s .instructions .places) ≡ sheet .instructions .count
+  places-count = rw (← accepted s sheet read .instructions) (places-length s (At (sheet .instructions .at)) (sheet .instructions .count))
+
+  pub node-places-count : length (sheetAt s .nodes .places) ≡ sheet .nodes .count
+  node-places-count = rw (← accepted s sheet read .nodes) (node-places-length s (At (sheet .nodes .at)) (sheet .nodes .count))
+
+  pub nth-instruction-is : (number : ℕ) {places : List ℕ} {r : InstructionField} → places ≡ sheetAt s .instructions .places
+      → number < length places → r ≡ instructionAt true 0 s (At (getD places number 0))
+      → (d : Instruction) → r .instruction ≡ getD (sheetAt s .instructions .list) number d
+  nth-instruction-is number {places} places-are below r-is d =
+      let acc = accepted s sheet read in
+      let whole : map (reread s) places ≡ sheetAt s .instructions .list =
+      rw (places-are, ← acc .instructions)
+      (again s (At (sheet .instructions .at)) (sheet .instructions .count) {a = acc .afterInstructions .0} (rw (acc .instructions) (acc .afterInstructions .1))) in
+      rw (r-is, ← whole)
+      (sym (List·getD-map (reread s) places number 0) ∙ any-default (map (reread s) places) number (reread s 0) d (rw length-map below))
+
+  module _ (number : ℕ) {places : List ℕ} {r : NodeReading} (places-are : places ≡ sheetAt s .nodes .places) (below : number < length places)
+      (r-is : r ≡ nodeAt s (At (getD places number 0))) where
+    counted : number < sheet .nodes .count
+    counted = rw (places-are, node-places-count) at below
+
+    from : Place
+    from = At (sheet .nodes .at)
+
+    stands : WentOn (nodesFrom s from number .next)
+    unfolding from
+    stands =
+        let acc = accepted s sheet read in
+        nodes-back s (At (sheet .nodes .at)) (sheet .nodes .count) number {a = acc .afterNodes .0} (rw (acc .nodes) (acc .afterNodes .1)) (omega (arith, counted))
+
+    here : At (getD places number 0) ≡ nodesFrom s from number .next
+    unfolding from
+    here =
+        let place : getD places number 0 ≡ startOf (nodesFrom s from number .next) =
+        rw (places-are, ← accepted s sheet read .nodes) (node-places-nth s from (sheet .nodes .count) number counted) in
+        rw (place, stands .1)
+
+    pub nth-node-read : ReadNode s r
+    unfolding from
+    nth-node-read =
+        let acc = accepted s sheet read in
+        let w = nodes-back s from (sheet .nodes .count) (number + 1) {a = acc .afterNodes .0} (rw (acc .nodes) (acc .afterNodes .1)) (omega (arith, counted)) in
+        record { at = At (getD places number 0); is = r-is; on = (w .0, ap (λ (n : NodeReading). n .next) r-is ∙ ap (λ (q : Place). nodeAt s q .next) here ∙ nodes-next s from number (w .1)) }
+
+    pub nth-node-is : (d : Node) → nodeOf s r ≡ getD (sheetAt s .nodes .list) number d
+    unfolding from
+    nth-node-is d = rw (r-is, here, ← accepted s sheet read .nodes) (sym (nodes-nth s from (sheet .nodes .count) number d counted))
+
+    -- where its record starts
+    pub nth-node-place : getD places number 0 ≡ getD (sheetAt s .nodes .places) number 0
+    nth-node-place = rw places-are
+
+  -- the index of the sheet in lists that have room for it
+  front : (n : ℕ) {list : List ℕ} (before entries : List ℕ) → list ≡ over entries before → length entries ≡ n → n ≤ length before → InFront n list entries
+  front n before entries is long fits =
+      record { room = rw (is, over-length entries before) fits; are = rw (is, ← long) (over-front entries before (rw long fits)) }
+
+  module _ {a₀ a p₀ p t₀ t : List ℕ} {b₀ b : List Bool} {n₀ n : List ℕ} (index : Indexed a₀ a p₀ p t₀ t b₀ b n₀ n (sheetAt s)) where
+    pub front-addresses : 2048 ≤ length a₀ → InFront (sheet .instructions .count) a (addressesOf (sheetAt s .instructions .list))
+    unfolding addressesOf
+    front-addresses room =
+        front _ _ _ (index .instructions .addresses) (rw length-map instructions-count) (omega (arith, accepted s sheet read .few, room))
+
+    pub front-places : 2048 ≤ length p₀ → InFront (sheet .instructions .count) p (sheetAt s .instructions .places)
+    front-places room = front _ _ _ (index .instructions .places) places-count (omega (arith, accepted s sheet read .few, room))
+
+    pub front-nodes : 1024 ≤ length n₀ → InFront (sheet .nodes .count) n (sheetAt s .nodes .places)
+    front-nodes room = front _ _ _ (index .nodes) node-places-count (omega (arith, accepted s sheet read .fewNodes, room))

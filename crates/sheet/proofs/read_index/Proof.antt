@@ -1,0 +1,92 @@
+use mathlib.Core.Path.{sym, _∙_}
+use Rattle.sheet.proofs.Fronts.{indexed}
+use Rattle.sheet.proofs.Sections.{reading-is}
+use borrow.Author.Needs.{needs}
+use Rattle.sheet.proofs.read_index.Statement.{statement}
+use Rattle.sheet.proofs.read_index.Tie as tie
+use Rattle.sheet.proofs.read_index.Reads as reads
+use Rattle.sheet.proofs.read_index.Lts as lts
+use Rattle.sheet.proofs.answer.Reads as answer-reads
+use Rattle.sheet.proofs.check_blocks.Reads as check-blocks-reads
+use Rattle.sheet.proofs.end.Reads as end-reads
+use Rattle.sheet.proofs.read_instructions.Reads as read-instructions-reads
+use Rattle.sheet.proofs.read_nodes.Reads as read-nodes-reads
+use Rattle.sheet_field.proofs.count.Reads as count-reads
+use Rattle.sheet_field.proofs.start.Reads as start-reads
+
+count-requires : tie.Need-count-requires
+count-requires c κs = search needs
+
+read-instructions-requires : tie.Need-read-instructions-requires
+read-instructions-requires c κs = search needs
+
+count-requires-2 : tie.Need-count-requires-2
+count-requires-2 c κs = search needs
+
+check-blocks-requires : tie.Need-check-blocks-requires
+check-blocks-requires c κs = search needs
+
+count-requires-3 : tie.Need-count-requires-3
+count-requires-3 c κs = search needs
+
+slice-aggregate-read-nodes : tie.Need-slice-aggregate-read-nodes
+slice-aggregate-read-nodes c = search needs
+
+read-nodes-requires : tie.Need-read-nodes-requires
+read-nodes-requires c κs = search needs
+
+start-requires : tie.Need-start-requires
+start-requires c κs = search needs
+
+start-requires-2 : tie.Need-start-requires-2
+start-requires-2 c κs = search needs
+
+start-requires-3 : tie.Need-start-requires-3
+start-requires-3 c κs = search needs
+
+end-requires : tie.Need-end-requires
+end-requires c κs = search needs
+
+answer-requires : tie.Need-answer-requires
+answer-requires c κs = search needs
+
+same-length : tie.Need-same-length
+same-length c = search needs
+
+same-length-2 : tie.Need-same-length-2
+same-length-2 c = search needs
+
+same-length-3 : tie.Need-same-length-3
+same-length-3 c = search needs
+
+same-length-4 : tie.Need-same-length-4
+same-length-4 c = search needs
+
+same-length-5 : tie.Need-same-length-5
+same-length-5 c = search needs
+
+returns : tie.Need-returns
+returns c = let is = reading-is _ (c .before .before .before .before .before .before .before .before .before .before .before .before .before .before .before .before .before .before .before .before .before .before .before .before .before .before .before .count .ensures) (c .before .before .before .before .before .before .before .before .before .before .before .before .before .before .before .before .before .before .before .before .before .before .read-instructions .ensures .0) (c .before .before .before .before .before .before .before .before .before .before .before .before .before .count2 .ensures) (c .before .before .before .before .before .before .before .before .before .before .before .before .check-blocks .ensures) (c .before .before .before .before .before .before .before .before .before .before .before .count3 .ensures) (c .before .before .before .before .before .before .before .before .read-nodes .ensures .0) (c .before .before .before .before .start .ensures) (c .before .before .before .start2 .ensures) (c .before .before .start3 .ensures) (c .before .end .ensures) (c .answer .ensures) in (is, λ sheet e. indexed _ (c .before .before .before .before .before .before .before .before .before .before .before .before .before .before .before .before .before .before .before .before .before .before .before .before .before .before .before .count .ensures) (c .before .before .before .before .before .before .before .before .before .before .before .before .before .before .before .before .before .before .before .before .before .before .read-instructions .ensures .0) (c .before .before .before .before .before .before .before .before .before .before .before .before .before .count2 .ensures) (c .before .before .before .before .before .before .before .before .before .before .before .before .check-blocks .ensures) (c .before .before .before .before .before .before .before .before .before .before .before .count3 .ensures) (c .before .before .before .before .before .before .before .before .read-nodes .ensures .0) (c .before .before .before .before .before .before .before .before .before .before .before .before .before .before .before .before .before .before .before .before .before .before .read-instructions .ensures .1) (c .before .before .before .before .before .before .before .before .read-nodes .ensures .1) sheet (sym is ∙ e))
+
+pub read-index-spec : {M : Type 1} → statement M
+read-index-spec =
+    tie.close
+    (tie.spec
+    count-requires
+    read-instructions-requires
+    count-requires-2
+    check-blocks-requires
+    count-requires-3
+    slice-aggregate-read-nodes
+    read-nodes-requires
+    start-requires
+    start-requires-2
+    start-requires-3
+    end-requires
+    answer-requires
+    same-length
+    same-length-2
+    same-length-3
+    same-length-4
+    same-length-5
+    returns)

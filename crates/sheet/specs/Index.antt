@@ -1,0 +1,41 @@
+-- The index of a sheet: entries for its instructions and nodes, in reading order, at the front of lent lists.
+use Prim.Native.Nat.{ℕ, _≤_}
+use mathlib.Core.Path.{_≡_}
+use mathlib.Core.Bool.{Bool}
+use mathlib.Core.List.{List, [], _∷_, map}
+use lib.ListN.{length, take}
+use Rattle.isa.specs.declared.Instruction.{Instruction}
+use Rattle.sheet.specs.Sheet.{InstructionsRead, SheetRead}
+
+-- entries written over the front of a list, as far as it reaches; the rest is as it was
+unfoldable pub over : {A : Type 0} → List A → List A → List A
+over [] before = before
+over (x ∷ entries) [] = []
+over (x ∷ entries) (b ∷ before) = x ∷ over entries before
+
+unfoldable pub addressesOf : List Instruction → List ℕ
+addressesOf l = map (λ (i : Instruction). i .address) l
+
+unfoldable pub targetsOf : List Instruction → List ℕ
+targetsOf l = map (λ (i : Instruction). i .target) l
+
+-- which instructions are conditional branches
+unfoldable pub branchesOf : List Instruction → List Bool
+branchesOf l = map (λ (i : Instruction). i .branch) l
+
+-- what the index holds of instructions: each lent list, as it was and as it is
+pub record Noted (a₀ a p₀ p t₀ t : List ℕ) (b₀ b : List Bool) (r : InstructionsRead) : Type 0 where
+  pub addresses : a ≡ over (addressesOf (r .list)) a₀
+  pub places : p ≡ over (r .places) p₀
+  pub targets : t ≡ over (targetsOf (r .list)) t₀
+  pub branches : b ≡ over (branchesOf (r .list)) b₀
+
+-- the index of a sheet
+pub record Indexed (a₀ a p₀ p t₀ t : List ℕ) (b₀ b : List Bool) (n₀ n : List ℕ) (r : SheetRead) : Type 0 where
+  pub instructions : Noted a₀ a p₀ p t₀ t b₀ b (r .instructions)
+  pub nodes : n ≡ over (r .nodes .places) n₀
+
+-- the first n elements of a list are these
+pub record InFront (n : ℕ) (list entries : List ℕ) : Type 0 where
+  pub room : n ≤ length list
+  pub are : take n list ≡ entries
