@@ -13,6 +13,7 @@ use lib.Signed.{ltZ, leZ, nonNeg, quotZ, remZ, shrZ}
 use lib.Pow.{pow-pos, pow-mono, mod-mod-pow}
 use borrow.Author.Tests.{lt-ltb, le-ltb, le-leb, lt-leb, leb-true, leb-false, ltb-true, ltb-false, eqb-true}
 use Rattle.arith.specs.Numbers.{bits, signed, negative, number, residue, wrap, convert, quotient, remainder, shiftRight, count, below, atMost}
+use Rattle.laws.proofs.Booleans.{and-left, and-right}
 
 -- a property of each entry of a list
 abbrev Each : (ℕ → Type 0) → List ℕ → Type 0
@@ -98,17 +99,6 @@ below-full m x h = by (ltb x m) refl
     by : (b : Bool) → ltb x m ≡ b → leb x (m - 1) ≡ b
     by true e = let l : x < m = ltb-true x m e in le-leb x (m - 1) (omega arith)
     by false e = let l : m ≤ x = ltb-false x m e in lt-leb x (m - 1) (omega arith)
-
-pub and-left : (a b : Bool) → (a && b) ≡ true → a ≡ true
-and-left true b e = refl
-and-left false b e = e
-
-pub and-right : (a b : Bool) → (a && b) ≡ true → b ≡ true
-and-right true b e = e
-and-right false b e = absurd (false-true e)
-  where
-    false-true : false ≡ true → ⊥
-    false-true h = let z : _≡_ {A = ℕ} 0 1 = cc in omega arith
 
 module _ (t x : ℕ) where
   pub number-negative : negative t x ≡ true → number t x ≡ negsuc (2 ^ bits t - suc x)

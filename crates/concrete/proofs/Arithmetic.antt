@@ -8,10 +8,7 @@ use borrow.Author.Tests.{leb-true, leb-false, lt-ltb, le-ltb, le-leb, lt-leb}
 use lib.Dec.{leb, ltb}
 use Rattle.alu.specs.Arithmetic.{signsOverflow}
 use Rattle.concrete.specs.Concrete.{lifted}
-
-pub byTest : {X : Type 0} (t : Bool) → (t ≡ true → X) → (t ≡ false → X) → X
-byTest true f g = f refl
-byTest false f g = g refl
+use Rattle.laws.proofs.Booleans.{byTest}
 
 pub wrap-below : {x M : ℕ} → x < M → x % M ≡ x
 wrap-below h = mod-eq-of-lt h

@@ -27,10 +27,10 @@ use Rattle.known.specs.declared.Value.the-variants.{Known, Unknown}
 use Rattle.known.specs.Operations.{operationOf, isIdiom, ofItself, noFlags, bitwiseFlags, ofUnknown, ofKnown, onOperands, arithEffect, alone, keptCarry}
 use Rattle.concrete.specs.Concrete.{Status, Result, lifted, sum, difference, bitwise, onesBelow, statusOf, computed, computedAlone, withCf, withOwnCarry}
 use Rattle.concrete.specs.Agreement.{Allows, AllowsValue, FlagsAgree}
-use Rattle.concrete.proofs.Arithmetic.{byTest}
 use Rattle.concrete.proofs.Outcome.{halves, half-pos, Matches, matches, add-matches, sub-matches, neg-matches}
-use Rattle.concrete.proofs.Registers.{never, and-left, and-right}
+use Rattle.concrete.proofs.Registers.{never}
 use Rattle.alu.specs.Arithmetic as rules
+use Rattle.laws.proofs.Booleans.{and-left, and-right, byTest}
 
 -- add to test, one record for all: known operands, a register with itself, an unknown operand
 pub record Right (op : Binary) : Type 0 where

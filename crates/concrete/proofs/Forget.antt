@@ -21,9 +21,9 @@ use Rattle.isa.specs.FlagBits as bit
 use Rattle.machine.specs.Registers.{slotAt, wholeOf, noRegister, forgetRegister, forgetRegisters, forgotten}
 use Rattle.concrete.specs.Concrete.{Status, Processor, Choice, declares, chosen, declaredStatus, byDeclaration}
 use Rattle.concrete.specs.Agreement.{Allows, AllowsValue, FlagsAgree, Agrees}
-use Rattle.concrete.proofs.Arithmetic.{byTest}
-use Rattle.concrete.proofs.Registers.{replaced-same, replaced-other, replaced-flags, and-left, and-right, never}
+use Rattle.concrete.proofs.Registers.{replaced-same, replaced-other, replaced-flags, never}
 use Rattle.alu.specs.declared.Flag.the-variants as flag
+use Rattle.laws.proofs.Booleans.{and-left, and-right, byTest}
 
 -- no more is known
 abbrev pub Less : Value → Value → Type 0

@@ -22,10 +22,10 @@ use Rattle.known.specs.Conditions.{flagCondition, isZero}
 use Rattle.machine.specs.Conditions.{countRegister}
 use Rattle.concrete.specs.Concrete.{Status, Processor, value as valueOf, part, update, withStatus, jumpsOn, jumpsAt}
 use Rattle.concrete.specs.Agreement.{Allows, AllowsValue, FlagsAgree, Agrees}
-use Rattle.concrete.proofs.Arithmetic.{byTest}
 use Rattle.concrete.proofs.Registers.{reads}
 use Rattle.concrete.proofs.Sound.{opposite-allows, unread}
 use Rattle.known.specs.declared.Value.the-variants as value
+use Rattle.laws.proofs.Booleans.{byTest}
 
 -- ---- conditions of flags
 

@@ -18,8 +18,9 @@ use Rattle.alu.specs.declared.Performed.{Performed}
 use Rattle.alu.specs.Width.{bits}
 use Rattle.concrete.specs.Concrete.{Result, lifted, sum, difference, onesBelow, statusOf}
 use Rattle.concrete.specs.Agreement.{FlagsAgree}
-use Rattle.concrete.proofs.Arithmetic.{byTest, wrap-below, carry-law, sum-overflow-law, difference-overflow-law}
+use Rattle.concrete.proofs.Arithmetic.{wrap-below, carry-law, sum-overflow-law, difference-overflow-law}
 use Rattle.alu.specs.Arithmetic as rules
+use Rattle.laws.proofs.Booleans.{byTest}
 
 -- half of a width's numbers, and all of them
 abbrev pub half : Width → ℕ

@@ -24,7 +24,7 @@ use Rattle.known.specs.Registers.{unmarked, contents, slotOf, partOf, withPart}
 use Rattle.machine.specs.Registers.{slotAt, wholeOf, replaced, readOf, written}
 use Rattle.concrete.specs.Concrete.{Processor, value, part, stored, assign}
 use Rattle.concrete.specs.Agreement.{AllowsValue, Agrees}
-use Rattle.concrete.proofs.Arithmetic.{byTest}
+use Rattle.laws.proofs.Booleans.{and-right, byTest}
 
 -- ---- the forms of a register of class 1
 
@@ -45,14 +45,6 @@ low-form size h =
     (λ t16. byTest (eqb size 32) (λ t. subst (λ (n : ℕ). Form n 0) (sym (eqb-true size 32 t)) double)
     (λ t32. byTest (eqb size 64) (λ t. subst (λ (n : ℕ). Form n 0) (sym (eqb-true size 64 t)) quad)
     (λ t64. never (rw (t8, t16, t32, t64) at h)))))
-
-pub and-left : (a b : Bool) → (a && b) ≡ true → a ≡ true
-and-left true b h = refl
-and-left false b h = h
-
-pub and-right : (a b : Bool) → (a && b) ≡ true → b ≡ true
-and-right true b h = h
-and-right false b h = never h
 
 form-of : (high : Bool) (size offset : ℕ)
     → (eqb offset 0 && (eqb size 8 || eqb size 16 || eqb size 32 || eqb size 64) || (eqb offset 8 && eqb size 8 && high)) ≡ true

@@ -42,12 +42,12 @@ use Rattle.machine.specs.Registers.{nothingKnown, slotAt, wholeOf, readOf, writ
 use Rattle.machine.specs.Rules.{writes as writesResult, sameRegister, finished, carryStep, arithStep, unaryUnknown, unaryOn, unaryStep, registerStep, onFirst, modelledStep, stepped, steppedAll}
 use Rattle.concrete.specs.Concrete.{Status, Processor, Choice, value, part, assign, argument, computed, computedAlone, withStatus, withOwnCarry, carryAfter, keeps, binary, alone, onRegister, onOperand, byManual, byDeclaration, executed, executedAll}
 use Rattle.concrete.specs.Agreement.{Allows, AllowsValue, FlagsAgree, Agrees, operandWellFormed, Accepted, AllAccepted}
-use Rattle.concrete.proofs.Arithmetic.{byTest}
 use Rattle.concrete.proofs.Outcome.{Matches}
-use Rattle.concrete.proofs.Registers.{Form, low-byte, high-byte, word, double, quad, form, bits-law, reads, part-below, Stores, stores-known, writes, never, and-left, and-right}
+use Rattle.concrete.proofs.Registers.{Form, low-byte, high-byte, word, double, quad, form, bits-law, reads, part-below, Stores, stores-known, writes, never}
 use Rattle.concrete.proofs.Forget.{less-known, less-both, forgets, forgotten-agrees}
 use Rattle.concrete.proofs.Effects.{right, alone-matches, alone-below, EffectAgrees, arith-agrees, kept-agrees}
 use Rattle.alu.specs.declared.Flag.the-variants as flag
+use Rattle.laws.proofs.Booleans.{and-left, and-right, or-left, or-right, byTest}
 
 -- ---- operands
 
@@ -138,14 +138,6 @@ unread s r one h = on-unknown _ (wholeOf s (r .index)) (rw one at h)
 
 forgot-flag : (declared : Bool) (f : Flag) (b : Bool) → declared ≡ true → Allows (forgetFlag declared f) b
 forgot-flag declared f b h = rw h tt
-
-or-false-left : (a b : Bool) → (a || b) ≡ false → a ≡ false
-or-false-left true b h = h
-or-false-left false b h = refl
-
-or-false-right : (a b : Bool) → (a || b) ≡ false → b ≡ false
-or-false-right true b h = never (sym h)
-or-false-right false b h = h
 
 -- all that inc, dec and neg set, but CF, is declared
 result-declared : (op : Unary) (d : ℕ) → declaresOwn op d ≡ true → declaresResult d ≡ true
@@ -280,7 +272,7 @@ and-false false b h t = never t
 
 -- a register first that is not outside class 1
 inside : (d : Register) (o : Operand) → (true && (outside (Reg d) || outside o)) ≡ false → eqb (d .class) 1 ≡ true
-inside d o h = not-false _ (or-false-left (outside (Reg d)) (outside o) h)
+inside d o h = not-false _ (or-left (outside (Reg d)) (outside o) h)
 
 -- the three faults that a modelled instruction does not have
 record Faultless (m : Mnemonic) (a b : Operand) (flags : ℕ) : Type 0 where
@@ -342,14 +334,14 @@ module _ (s : State) (p : Processor) (free : Choice) (agrees : Agrees s p) (i : 
       let other : Bool = not (isMov (i .mnemonic)) && (outside (i .first) || outside (i .second)) in
       let lacking : Bool = undeclared (i .mnemonic) (i .flags) in
       let none : (differ || other || lacking) ≡ false = and-false (modelled i) (differ || other || lacking) (accepted .sound) is in
-      let both : (differ || other) ≡ false = or-false-left (differ || other) lacking none in
+      let both : (differ || other) ≡ false = or-left (differ || other) lacking none in
       by-mnemonic (i .mnemonic)
       (record {
         first = accepted .first;
         second = accepted .second;
-        sizes = or-false-left differ other both;
-        classes = or-false-right differ other both;
-        declared = or-false-right (differ || other) lacking none;
+        sizes = or-left differ other both;
+        classes = or-right differ other both;
+        declared = or-right (differ || other) lacking none;
       })
 
 replicated : (n k : ℕ) → getD (replicate n unmarked) k unmarked ≡ unmarked

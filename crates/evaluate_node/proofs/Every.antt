@@ -28,8 +28,8 @@ use Rattle.evaluate_node.specs.declared.Evaluation.the-variants.{Holds, 
 use Rattle.evaluate_node.specs.declared.Fit.{Fit}
 use Rattle.evaluate_node.specs.declared.Fit.the-variants.{AllFit, Unfit}
 use Rattle.evaluate_node.specs.Evaluate.{plainAll, unfitFrom, onValues, onFit, onTruth, evaluationOf, StartsFrom, Gives, FromRun}
-use Rattle.arith.proofs.Laws.{and-left, and-right}
 use Rattle.evaluate_node.proofs.Same.{same-run}
+use Rattle.laws.proofs.Booleans.{and-left, and-right}
 
 module _ (n : Node) (place : ℕ) (values : List ℕ) (declared : ReadsDeclared n) (c : Choices) (starts : StartsFrom (n .types) values c) where
   abbrev Run : Truth

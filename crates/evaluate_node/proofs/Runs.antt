@@ -32,10 +32,10 @@ use Rattle.evaluate_node.specs.declared.Fit.the-variants.{AllFit, Unfit}
 use Rattle.evaluate_node.specs.Contracts.{After, stateOf, assignedAll, Started, Running}
 use Rattle.evaluate_node.specs.Contracts.After.{went, stopped}
 use Rattle.evaluate_node.proofs.Laws.{rests}
-use Rattle.arith.proofs.Laws.{and-left, and-right}
 use Rattle.evaluate_node.proofs.Same.{is-plain, Same, same-run}
 use Rattle.evaluate_node.proofs.Whole.{fit-enough}
 use Rattle.sheet_node.proofs.Variables.{Below, AllBelow, ReadsDeclared, reads-declared}
+use Rattle.laws.proofs.Booleans.{and-left, and-right}
 
 -- every assignment's variable is below n
 Declared : ℕ → List Statement → Type 0

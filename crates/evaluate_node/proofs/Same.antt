@@ -19,7 +19,7 @@ use Rattle.value.specs.Run.{Choices, update, given, runFrom}
 use Rattle.value.proofs.Independence.{by-variables-read}
 use Rattle.value.proofs.Steps.{Plain, plain-ev}
 use Rattle.evaluate_node.specs.Evaluate.{plainAll}
-use Rattle.arith.proofs.Laws.{and-left, and-right}
+use Rattle.laws.proofs.Booleans.{and-left, and-right}
 
 pub is-plain : (e : Expr) → plainExpr e ≡ true → Plain e
 is-plain e h =

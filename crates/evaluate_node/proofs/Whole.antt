@@ -15,7 +15,7 @@ use Rattle.arith.specs.Numbers.{fits}
 use Rattle.sheet_expression.specs.declared.Expression.{Expression}
 use Rattle.sheet_expression.specs.Expression.{expressionAt, TookExpression}
 use Rattle.sheet_node.specs.declared.NodeReading.{NodeReading}
-use Rattle.sheet_node.specs.Node.{statementsFrom, nodeAt, nodeOf, ReadNode}
+use Rattle.sheet_node.specs.Node.{statementsFrom, nodeAt, typesIn, nodeOf, ReadNode}
 use Rattle.sheet_node.proofs.Accepted.{WholeNode, whole-node}
 use Rattle.evaluate_node.specs.declared.Fit.{Fit}
 use Rattle.evaluate_node.specs.declared.Fit.the-variants.{AllFit, Unfit}
@@ -40,17 +40,13 @@ fit-enough v (t ∷ types) (x ∷ values) e = go (fits t x) refl (λ h. fit-enou
     go true q rest = let h = rest (rw q at e) in omega arith
     go false q rest = absurd (not-both (rw q at e))
 
--- the types of a node
-abbrev pub typesFor : List ℕ → NodeReading → List ℕ
-typesFor s node = take (node .variables) (drop (startOf (node .types)) s)
-
 -- the parts that the operations on a node ask for
 pub record Parts (s : List ℕ) (node : NodeReading) : Type 0 where
-  pub few : length (typesFor s node) ≤ 32
-  pub counted : node .variables ≡ length (typesFor s node)
+  pub few : length (typesIn s node) ≤ 32
+  pub counted : node .variables ≡ length (typesIn s node)
   pub inside : startOf (node .types) + node .variables ≤ length s
-  pub statements : WentOn (statementsFrom (typesFor s node) s (node .body) (node .statements) .next)
-  pub condition : WentOn (expressionAt (length (typesFor s node)) s (node .condition) .next)
+  pub statements : WentOn (statementsFrom (typesIn s node) s (node .body) (node .statements) .next)
+  pub condition : WentOn (expressionAt (length (typesIn s node)) s (node .condition) .next)
 
 parts-at : (s : List ℕ) (p : Place) {a : ℕ} → nodeAt s p .next ≡ At a → Parts s (nodeAt s p)
 parts-at s p e =
@@ -80,10 +76,8 @@ module _ (s : List ℕ) (node : NodeReading) (read : ReadNode s node) where
         let out : plainExpr (treeOf (expressionAt (node .variables) s (node .condition) .words)) ≡ false = rw (← took-front took) (sym b-is ∙ fails) in
         sym (rw (out, and-false))
 
-    pub running : b ≡ true → {ts : List ℕ} {at : ℕ} → at ≡ startOf (node .types) → ts ≡ take (node .variables) (drop at s)
-        → Running s node ts (take (2 * e .records) after)
-    running holds {ts} at-is ts-are =
-        let these : ts ≡ typesFor s node = rw (ts-are, at-is) in
+    pub running : b ≡ true → {ts : List ℕ} → ts ≡ typesIn s node → Running s node ts (take (2 * e .records) after)
+    running holds {ts} these =
         record {
           at = read .at;
           is = read .is;

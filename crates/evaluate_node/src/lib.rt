@@ -250,10 +250,7 @@ pub fn evaluate_node(s: &[u8], node: NodeReading, place: usize, values: &[u64]) 
     requires { ⌜ ReadNode (now s) node ⌝ }
     ensures { λ r. ⌜ r ≡ evaluationOf (nodeOf (now (s .entry)) node) place (now (values .entry)) ⌝ }
 {
-    let types_at = node.types;
-    let at = sheet_field::start(types_at);
-    let n = node.variables as usize;
-    let types = sheet_node::types_of(s, Place::At(0), at, n);
+    let types = sheet_node::node_types(s, node);
     let mut words = [0u64; 256];
     let condition = node.condition;
     let e = sheet_expression::take_expression(s, condition, node.variables, &mut words);

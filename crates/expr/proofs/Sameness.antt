@@ -11,14 +11,7 @@ use lib.Seq.{drop-cons}
 use Rattle.expr.specs.Tree.{Expr, flat, treeOf, Wf}
 use Rattle.expr.specs.Scan.{sameWords, sameTree}
 use Rattle.expr.proofs.Laws.{flat-injective}
-
-and-left : (a b : Bool) → (a && b) ≡ true → a ≡ true
-and-left true b h = refl
-and-left false b h = h
-
-and-right : (a b : Bool) → (a && b) ≡ true → b ≡ true
-and-right true b h = h
-and-right false b h = absurd (true≢false (sym h))
+use Rattle.laws.proofs.Booleans.{and-left, and-right}
 
 words-true : (a b : List ℕ) → sameWords a b ≡ true → a ≡ b
 unfolding sameWords

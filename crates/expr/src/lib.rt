@@ -203,7 +203,7 @@ pub fn promoted(t: u64) -> u64
 }
 
 // Of two promoted types the wider one, and at one width the unsigned one.
-pub fn common(a: u64, b: u64) -> u64
+fn common(a: u64, b: u64) -> u64
     ensures { λ r. ⌜ r ≡ commonOf a b ⌝ }
 {
     let wa = width(a);

@@ -15,6 +15,7 @@ use Rattle.format.specs.Syntax.Operand.{reg, imm, mem}
 use Rattle.format.specs.Faults.{NeedsNone, NeedsTwo, NeedsOne, Modelled, Sound}
 use Rattle.format.specs.Faults.Modelled.{anyOperands, twoOperands, oneOperand}
 use Rattle.format.proofs.Tests.{both-false, never, Tests, of-eq, of-le, of-and, of-or, table, same-table}
+use Rattle.laws.proofs.Booleans.{and-both, or-none}
 
 -- the mnemonics that need no operand, two, or one
 abbrev withNone : ℕ → Bool
@@ -106,14 +107,6 @@ fault-is : (call : Bool) (a b : Option Operand) (f : Option ℕ) (m : ℕ) → m
 unfolding table meansInstruction Rattle.isa.specs.Mnemonics.named Rattle.isa.specs.Mnemonics.table
 fault-is call a b f m lt = same-table (judgedAt call a b f) (λ m. asked call a b m && faulty a b f m) 35 refl m lt
 
-both-true : (a b : Bool) → (a && b) ≡ true → (a ≡ true) × (b ≡ true)
-both-true true b e = (refl, e)
-both-true false b e = never e
-
-or-false : (a b : Bool) → (a || b) ≡ false → (a ≡ false) × (b ≡ false)
-or-false true b e = (e, cc)
-or-false false b e = (refl, e)
-
 after-true : (a b : Bool) → (a && b) ≡ false → a ≡ true → b ≡ false
 after-true a b e t = rw t at e
 
@@ -164,10 +157,10 @@ is-four f = of-and (of-and (of-and (of-eq (f / 2 % 2) 1) (of-eq (f / 4 % 2) 1)) 
 four-of : (m f : ℕ) → undeclared m f ≡ false → Counts m → four f ≡ true
 four-of m f e (inl q) = not-false _ (rw q at e)
 four-of m f e (inr (inl q)) = not-false _ (rw q at e)
-four-of m f e (inr (inr q)) = both-true (four f) (eqb (f / 1 % 2) 1) (not-false _ (rw q at e)) .0
+four-of m f e (inr (inr q)) = and-both (four f) (eqb (f / 1 % 2) 1) (not-false _ (rw q at e)) .0
 
 carry-of : (m f : ℕ) → undeclared m f ≡ false → m ≡ 15 → f / 1 % 2 ≡ 1
-carry-of m f e q = eqb-true (f / 1 % 2) 1 (both-true (four f) (eqb (f / 1 % 2) 1) (not-false _ (rw q at e)) .1)
+carry-of m f e q = eqb-true (f / 1 % 2) 1 (and-both (four f) (eqb (f / 1 % 2) 1) (not-false _ (rw q at e)) .1)
 
 all-declared : (i : Instruction) → Sound i → undeclared (i .mnemonic) (valueOf (i .flags)) ≡ false
 all-declared i h =
@@ -200,12 +193,12 @@ sound-holds : (i : Instruction) → faulty (i .first) (i .second) (i .flags) (i 
 sound-holds i e =
     let m = i .mnemonic in
     let v = valueOf (i .flags) in
-    let parts = or-false _ (undeclared m v) e in
-    let front = or-false (sizesDiffer (meansOptional (i .first)) (meansOptional (i .second))) _ (parts .0) in
+    let parts = or-none _ (undeclared m v) e in
+    let front = or-none (sizesDiffer (meansOptional (i .first)) (meansOptional (i .second))) _ (parts .0) in
     record {
       sizes = same-size (i .first) (i .second) (front .0);
       classes = λ other r.
-          let o = or-false (outside (meansOptional (i .first))) (outside (meansOptional (i .second))) (after-true (not (eqb m 4)) _ (front .1) (rw (ne-eqb m 4 other))) in
+          let o = or-none (outside (meansOptional (i .first))) (outside (meansOptional (i .second))) (after-true (not (eqb m 4)) _ (front .1) (rw (ne-eqb m 4 other))) in
           ⊎-elim (λ p. of-class (i .first) (o .0) r p) (λ p. of-class (i .second) (o .1) r p);
       declared = λ n.
           let all = is-four v .holds (four-of m v (parts .1) n) in

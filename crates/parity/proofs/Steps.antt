@@ -28,6 +28,7 @@ use Rattle.parity.specs.declared.Size.{Size}
 use Rattle.parity.specs.declared.Size.the-variants.{Of, TooMany}
 use Rattle.parity.specs.Lent.{partAt, atomsAt, Part, Parts, Lent, Sides, Made, Given}
 use Rattle.parity.proofs.Atoms.{number-upto}
+use Rattle.laws.proofs.Booleans.{and-both}
 
 -- a tree whose root is no constant
 not-constant : (e : Expr) → (tagOf e % 16 ≡ 1 → ⊥) → none ≡ constantOf e
@@ -225,10 +226,6 @@ moved-made {fits} {poly} {from} {atoms} {n} {k} terms t h = record {
       ∙ copied-part terms (take n from) 0 n long (omega arith)
       ∙ t .stands;
 }
-
-and-both : (a b : Bool) → (a && b) ≡ true → (a ≡ true) × (b ≡ true)
-and-both true b h = (refl, h)
-and-both false b h = let z : _≡_ {A = ℕ} 0 1 = cc in absurd (omega arith)
 
 no-join : (a b c : Bool) → (a && b) ≡ false → (a && (b && c)) ≡ false
 no-join true true c h = let z : _≡_ {A = ℕ} 0 1 = cc in absurd (omega arith)

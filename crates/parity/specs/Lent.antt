@@ -87,7 +87,7 @@ pub record Lent (whole : List ℕ) (at : ℕ) (part atoms : List ℕ) (count : �
   pub parts : Parts whole (take count atoms)
   pub space : 64 * length part + 512 ≤ length terms
 
--- the same for two sides, one behind the other
+-- the same for two sides, one after the other
 pub record LentTwo (whole : List ℕ) (at : ℕ) (left right atoms : List ℕ) (count : ℕ) (terms : List ℕ) : Type 0 where
   pub leftWf : Wf left
   pub rightWf : Wf right
@@ -100,7 +100,7 @@ pub record LentTwo (whole : List ℕ) (at : ℕ) (left right atoms : List ℕ) (
   pub parts : Parts whole (take count atoms)
   pub space : 64 * (length left + length right + 2) + 512 ≤ length terms
 
--- The first n terms and the k behind them are the sides' polynomials, and there is room to put them together.
+-- The first n terms and the k after them are the sides' polynomials, and there is room to put them together.
 pub record Sides (terms : List ℕ) (n k : ℕ) (scratch : List ℕ) : Type 0 where
   pub left : n ≤ 256
   pub right : k ≤ 256

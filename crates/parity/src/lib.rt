@@ -1,6 +1,6 @@
 // The low bit of a part as a polynomial over the low bits of its atoms. Parts are slices of the words of one equality; an atom is
 // kept as its place there. Polynomials stand at the front of a lent list, which serves as a stack: the left side's is made at its
-// front, the right side's behind it, and the two are put together at the front.
+// front, the right side's after it, and the two are put together at the front.
 ghost use mathlib.Core.Path.{_≡_};
 ghost use mathlib.Core.Bool.{true, cond, _&&_};
 ghost use Prim.Native.Nat.{_≤_};
@@ -228,7 +228,7 @@ fn join_sides(terms: &mut [u64], n: usize, k: usize, scratch: &mut [u64], atoms:
     }
 }
 
-// A part's polynomial from its sides', which stand one behind the other.
+// A part's polynomial from its sides', which stand one after the other.
 fn combined(
     pair: Pair,
     terms: &mut [u64],
@@ -283,7 +283,7 @@ pub fn sides(
 }
 
 // The polynomial of a part that stands at `at` in the whole, given the atoms that have numbers already: its terms at the front of
-// `terms`, and its new atoms behind the others in the table.
+// `terms`, and its new atoms after the others in the table.
 pub fn parity(
     whole: &[u64],
     at: usize,

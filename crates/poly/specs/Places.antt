@@ -11,7 +11,7 @@ pub record PutIn (old new : List ℕ) (n at t : ℕ) : Type 0 where
   pub moved : (i : ℕ) → at ≤ i → i < n → getD new (i + 1) 0 ≡ getD old i 0
   pub beyond : (i : ℕ) → n < i → getD new i 0 ≡ getD old i 0
 
--- Of the first n entries those behind `at` are one place further down; all else is as it was, also the last of them.
+-- Of the first n entries those after `at` are one place further down; all else is as it was, also the last of them.
 pub record TakenOut (old new : List ℕ) (n at : ℕ) : Type 0 where
   pub before : (i : ℕ) → i < at → getD new i 0 ≡ getD old i 0
   pub moved : (i : ℕ) → at ≤ i → i + 1 < n → getD new i 0 ≡ getD old (i + 1) 0

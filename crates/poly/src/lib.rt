@@ -21,7 +21,7 @@ fn put_in(list: &mut [u64], count: usize, at: usize, term: u64)
     list[at] = term;
 }
 
-// Moves the terms behind `at` one place down, the first first.
+// Moves the terms after `at` one place down, the first first.
 fn take_out(list: &mut [u64], count: usize, at: usize)
     requires { ⌜ (at < count) × (count ≤ length (now list)) ⌝ }
     ensures { λ _. ⌜ TakenOut (now (list .entry)) (now (list .exit)) count at ⌝ }

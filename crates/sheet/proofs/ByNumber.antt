@@ -9,7 +9,7 @@ use Rattle.sheet_field.specs.declared.Place.{Place}
 use Rattle.sheet_field.specs.declared.Place.the-variants.{At}
 use Rattle.sheet_field.specs.Field.{startOf, WentOn}
 use Rattle.isa.specs.declared.Instruction.{Instruction}
-use Rattle.sheet_instruction.specs.declared.InstructionField.{InstructionField}
+use Rattle.sheet_instruction.specs.declared.InstructionReading.{InstructionReading}
 use Rattle.sheet_instruction.specs.Instruction.{instructionAt}
 use Rattle.sheet_node.specs.declared.NodeReading.{NodeReading}
 use Rattle.sheet_node.specs.Node.{Node, nodeAt, nodeOf, ReadNode}
@@ -55,7 +55,7 @@ module _ (s : List ℕ) (sheet : Sheet) (read : readingOf s ≡ reading.Accepted
   pub node-places-count : length (sheetAt s .nodes .places) ≡ sheet .nodes .count
   node-places-count = rw (← accepted s sheet read .nodes) (node-places-length s (At (sheet .nodes .at)) (sheet .nodes .count))
 
-  pub nth-instruction-is : (number : ℕ) {places : List ℕ} {r : InstructionField} → places ≡ sheetAt s .instructions .places
+  pub nth-instruction-is : (number : ℕ) {places : List ℕ} {r : InstructionReading} → places ≡ sheetAt s .instructions .places
       → number < length places → r ≡ instructionAt true 0 s (At (getD places number 0))
       → (d : Instruction) → r .instruction ≡ getD (sheetAt s .instructions .list) number d
   nth-instruction-is number {places} places-are below r-is d =

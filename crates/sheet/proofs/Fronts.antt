@@ -13,7 +13,7 @@ use Rattle.sheet_field.specs.declared.Field.{Field}
 use Rattle.sheet_field.specs.Field.{countAt, startOf, WentOn}
 use Rattle.sheet_field.proofs.Counted.{counted}
 use Rattle.isa.specs.declared.Instruction.{Instruction}
-use Rattle.sheet_instruction.specs.declared.InstructionField.{InstructionField}
+use Rattle.sheet_instruction.specs.declared.InstructionReading.{InstructionReading}
 use Rattle.sheet_instruction.specs.Instruction.{instructionAt}
 use Rattle.sheet_node.specs.Node.{nodeAt}
 use Rattle.sheet.specs.Sheet.{InstructionsRead, NodesRead, instructionsFrom, blocksFrom, nodesFrom, sheetAt, readingOf}
@@ -100,7 +100,7 @@ unfolding instructionsFrom over addressesOf targetsOf branchesOf
 noting-none s from a p t b =
     record { before = refl; place = refl; noted = record { addresses = refl; places = refl; targets = refl; branches = refl } }
 
-module _ (s : List ℕ) (from : Place) (k : ℕ) {a₀ a a′ p₀ p p′ t₀ t t′ : List ℕ} {b₀ b b′ : List Bool} {last start : ℕ} {next : Place} {r : InstructionField}
+module _ (s : List ℕ) (from : Place) (k : ℕ) {a₀ a a′ p₀ p p′ t₀ t t′ : List ℕ} {b₀ b b′ : List Bool} {last start : ℕ} {next : Place} {r : InstructionReading}
     (f : Noting k a₀ a p₀ p t₀ t b₀ b last next (instructionsFrom s from k)) (r-is : r ≡ instructionAt (eqb k 0) last s next)
     (a-is : a′ ≡ set a k (r .instruction .address)) (start-is : start ≡ startOf next) (p-is : p′ ≡ set p k start)
     (t-is : t′ ≡ set t k (r .instruction .target)) (b-is : b′ ≡ set b k (r .instruction .branch)) where

@@ -12,7 +12,7 @@ use Rattle.sheet_field.specs.declared.Place.{Place}
 use Rattle.sheet_field.specs.declared.Place.the-variants.{At, Refused}
 use Rattle.sheet_field.specs.declared.Field.{Field}
 use Rattle.sheet_field.specs.Field.{little, fieldAt, startOf, judge, checkField, codeAt, countAt}
-use Rattle.sheet_instruction.specs.declared.OperandField.{OperandField}
+use Rattle.sheet_instruction.specs.declared.OperandReading.{OperandReading}
 use Rattle.sheet_instruction.specs.declared.Registers.{Registers}
 use Rattle.sheet_instruction.specs.Instruction.{registerAt, operandAt, withRegister, registersFrom, registersAt, optionalRegisters, optionalOperand, bitOf, mapAt, addressAt, headAt, tailAt, instructionAt}
 use Rattle.sheet_expression.specs.Expression.{hasArgument, argumentAt, constantAt, recordAt, takenMore, takenFrom, expressionAt}
@@ -84,8 +84,8 @@ module _ (s : List ℕ) where
   operand p h =
       let k = code 3 p h in
       let kind = codeAt 3 s p in
-      either (λ (f : OperandField). f .next) (eqb (kind .value) 0) _ _ (register (kind .next) k)
-      (either (λ (f : OperandField). f .next) (eqb (kind .value) 1) _ _ (field 8 (kind .next) k) k)
+      either (λ (f : OperandReading). f .next) (eqb (kind .value) 0) _ _ (register (kind .next) k)
+      (either (λ (f : OperandReading). f .next) (eqb (kind .value) 1) _ _ (field 8 (kind .next) k) k)
 
   registers : (p : Place) (k : ℕ) → Placed p → Placed (registersFrom s p k .next)
   unfolding registersFrom withRegister
@@ -110,8 +110,8 @@ module _ (s : List ℕ) where
       let one = optionalOperand (bitOf map 4) s p in
       let two = optionalOperand (bitOf map 8) s (one .next) in
       let list = optionalRegisters (bitOf map 16) s (two .next) in
-      let h-one : Placed (one .next) = either (λ (f : OperandField). f .next) (bitOf map 4) _ _ (operand p h) h in
-      let h-two : Placed (two .next) = either (λ (f : OperandField). f .next) (bitOf map 8) _ _ (operand (one .next) h-one) h-one in
+      let h-one : Placed (one .next) = either (λ (f : OperandReading). f .next) (bitOf map 4) _ _ (operand p h) h in
+      let h-two : Placed (two .next) = either (λ (f : OperandReading). f .next) (bitOf map 8) _ _ (operand (one .next) h-one) h-one in
       let h-list : Placed (list .next) = either (λ (f : Registers). f .next) (bitOf map 16) _ _ (written (two .next) h-two) h-two in
       either after (bitOf map 32) _ _ (code 32 (list .next) h-list) h-list
 

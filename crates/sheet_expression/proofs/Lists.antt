@@ -7,7 +7,7 @@ use native.Mathlib.Numerals.{add-one}
 use lib.ListN.{length, drop, set, getD, length-append, length-drop}
 use lib.Seq.{set-at, drop-cons, append-snoc}
 use Rattle.sheet_field.specs.declared.Place.{Place}
-use Rattle.sheet_expression.specs.declared.RecordField.{RecordField}
+use Rattle.sheet_expression.specs.declared.RecordReading.{RecordReading}
 use Rattle.sheet_expression.specs.Expression.{depthAfter, recordAt, Taken, takenMore, takenFrom, Took, expressionAt, TookExpression}
 use Rattle.sheet_field.specs.declared.Field.{Field}
 use Rattle.sheet_field.specs.Field.{countAt}
@@ -45,7 +45,7 @@ stored-two front rest n a b e fits =
     rw (d, set-at front _ _ a n e) (second front (drop (n + 2) rest) n a b (getD rest (suc n) 0) e)
 
 -- one record more keeps what a loop over the records leaves
-took-one : (variables left : ℕ) (s : List ℕ) (t : Taken) (n : ℕ) {depth : ℕ} {next : Place} {before after : List ℕ} {r : RecordField}
+took-one : (variables left : ℕ) (s : List ℕ) (t : Taken) (n : ℕ) {depth : ℕ} {next : Place} {before after : List ℕ} {r : RecordReading}
     → length (t .words) ≡ n → Took depth next before after t → r ≡ recordAt variables depth left s next → n + 2 ≤ length before
     → Took (r .depth) (r .next) before (set (set after n (r .tag)) (n + 1) (r .value)) (takenMore variables left s t)
 unfolding takenMore
@@ -54,8 +54,8 @@ took-one variables left s t n {depth} {next} {before} {after} {r} long took r-is
     let words : after ≡ t .words ++ drop n before = rw (← long) (took .list) in
     let both : length (t .words ++ (r .tag ∷ r .value ∷ [])) ≡ n + 2 = rw length-append (omega arith) in
     record {
-      trees = ap (λ (x : RecordField). x .depth) r-now;
-      place = ap (λ (x : RecordField). x .next) r-now;
+      trees = ap (λ (x : RecordReading). x .depth) r-now;
+      place = ap (λ (x : RecordReading). x .next) r-now;
       list = rw (← r-now, both, words) (stored-two (t .words) before n (r .tag) (r .value) long fits);
     }
 
@@ -64,7 +64,7 @@ pub taken-next : (variables total : ℕ) (s : List ℕ) (p : Place) (k : ℕ)
 unfolding takenFrom
 taken-next variables total s p k = let left : total - k - 1 ≡ total - suc k = omega arith in rw (add-one k, left)
 
-pub took-more : (variables total : ℕ) (s : List ℕ) (p : Place) (k : ℕ) {depth : ℕ} {next : Place} {before after : List ℕ} {r : RecordField}
+pub took-more : (variables total : ℕ) (s : List ℕ) (p : Place) (k : ℕ) {depth : ℕ} {next : Place} {before after : List ℕ} {r : RecordReading}
     → Took depth next before after (takenFrom variables total s p k)
     → r ≡ recordAt variables depth (total - k - 1) s next → 2 * k + 2 ≤ length before
     → Took (r .depth) (r .next) before (set (set after (2 * k) (r .tag)) (2 * k + 1) (r .value)) (takenFrom variables total s p (k + 1))

@@ -12,16 +12,13 @@ use Rattle.sheet_field.specs.declared.Field.{Field}
 use Rattle.sheet_field.specs.Field.{fieldAt, startOf, judge, checkField, codeAt, countAt}
 use Rattle.sheet_field.proofs.Fields.{check-below}
 use Rattle.expr.specs.Tree.{arityOf}
-use Rattle.sheet_expression.specs.declared.RecordField.{RecordField}
+use Rattle.sheet_expression.specs.declared.RecordReading.{RecordReading}
 use Rattle.sheet_expression.specs.Expression.{hasArgument, argumentOk, argumentAt, constantAt, fitsWidth, depthAfter, recordAt}
+use Rattle.laws.proofs.Booleans.{and-both}
 
 or-true : (a b : Bool) → (a || b) ≡ true → (a ≡ true) ⊎ (b ≡ true)
 or-true true b e = inl refl
 or-true false b e = inr e
-
-and-both : (a b : Bool) → (a && b) ≡ true → (a ≡ true) × (b ≡ true)
-and-both true b e = (refl, e)
-and-both false b e = (cc, cc)
 
 width-small : (x : ℕ) → (eqb x 1 || eqb x 2 || eqb x 4 || eqb x 8) ≡ true → x ≤ 32
 width-small x e =
@@ -89,7 +86,7 @@ pub record-is : (variables depth left : ℕ) (s : List ℕ) (p : Place) {kind ar
     → end ≡ startOf (value .next) → one ≡ judge (not (eqb left 0) || eqb after 1) 7 end whole
     → fits ≡ fitsWidth (kind .value) (argument .value) (value .value)
     → behind ≡ startOf (argument .next) → last ≡ judge fits 8 behind one
-    → _≡_ {A = RecordField}
+    → _≡_ {A = RecordReading}
     (record { tag = kind .value + 16 * argument .value; value = value .value; depth = after; next = last })
     (recordAt variables depth left s p)
 unfolding recordAt

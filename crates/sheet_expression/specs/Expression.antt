@@ -11,7 +11,7 @@ use Rattle.sheet_field.specs.declared.Field.{Field}
 use Rattle.sheet_field.specs.Field.{fieldAt, startOf, judge, checkField, codeAt, countAt}
 use Rattle.expr.specs.Codes.{kindVariable, kindConstant, kindTrue, kindFalse, kindEffect, kindCast, kindBinary, kindTernary, kindCount, typeCount, operatorCount}
 use Rattle.expr.specs.Tree.{arityOf}
-use Rattle.sheet_expression.specs.declared.RecordField.{RecordField}
+use Rattle.sheet_expression.specs.declared.RecordReading.{RecordReading}
 
 -- True, false and ternary have no argument; every other kind has one, a byte (S39, S44).
 abbrev pub hasArgument : ℕ → Bool
@@ -50,7 +50,7 @@ depthAfter depth arity = depth - arity + 1
 -- A record, with `depth` complete trees before it and `left` records after it. Its checks are made at its last byte, in the order of their numbers:
 -- 7, a record lacks a child, placed at its kind byte; 7, after the last record there is more than one tree, placed at the byte after the
 -- expression; 8, a constant above its width, placed at its value (S36, S37, S38, S40, S41, S42, S43, R2, R4, R8, R18, R19, R20).
-unfoldable pub recordAt : ℕ → ℕ → ℕ → List ℕ → Place → RecordField
+unfoldable pub recordAt : ℕ → ℕ → ℕ → List ℕ → Place → RecordReading
 recordAt variables depth left s p =
     let kind = codeAt kindCount s p in
     let argument = argumentAt variables (kind .value) s (kind .next) in

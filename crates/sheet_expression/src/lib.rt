@@ -9,7 +9,7 @@ ghost use lib.ListN.{length};
 ghost use Rattle.sheet_expression.specs.Expression.{hasArgument, argumentOk, argumentAt, constantAt, fitsWidth, depthAfter, recordAt, Took, takenFrom, expressionAt, TookExpression};
 
 // A record's two words, how many trees are complete after it, and the place after it.
-pub struct RecordField {
+pub struct RecordReading {
     pub tag: u64,
     pub value: u64,
     pub depth: u64,
@@ -86,7 +86,7 @@ fn depth_after(depth: u64, arity: u64) -> u64
 }
 
 // The record at a place, with `depth` complete trees before it and `left` records after it.
-pub fn take_record(s: &[u8], p: Place, variables: u64, depth: u64, left: u64) -> RecordField
+pub fn take_record(s: &[u8], p: Place, variables: u64, depth: u64, left: u64) -> RecordReading
     requires { ⌜ (variables ≤ 32) × (depth ≤ 128) ⌝ }
     ensures { λ r. ⌜ r ≡ recordAt variables depth left (now (s .entry)) p ⌝ }
 {
@@ -107,7 +107,7 @@ pub fn take_record(s: &[u8], p: Place, variables: u64, depth: u64, left: u64) ->
         sheet_field::start(end),
     );
     let fits = fits_width(kind.value, argument.value, value.value);
-    RecordField {
+    RecordReading {
         tag,
         value: value.value,
         depth: after,

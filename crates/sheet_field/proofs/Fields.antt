@@ -14,6 +14,7 @@ use Rattle.sheet_field.specs.Field.{little, fieldAt, checkField, countAt
 use Rattle.sheet_field.specs.declared.Place.{Place}
 use Rattle.sheet_field.specs.declared.Place.the-variants.{At, Refused}
 use Rattle.sheet_field.specs.declared.Field.{Field}
+use Rattle.laws.proofs.Booleans.{and-left, and-right}
 
 pub little-one : (s : List ℕ) (at : ℕ) → little s at 1 ≡ getD s at 0
 unfolding little
@@ -57,10 +58,6 @@ kept-below ok k at v most (Refused k′ at′) h = omega arith
 pub check-below : (ok : Bool) (k at : ℕ) (f : Field) (most : ℕ) → (ok ≡ true → f .value ≤ most) → checkField ok k at f .value ≤ most
 unfolding checkField
 check-below ok k at f most h = kept-below ok k at (f .value) most (f .next) h
-
-and-right : (a b : Bool) → (a && b) ≡ true → b ≡ true
-and-right true b e = e
-and-right false b e = cc
 
 pub count-most : (least most : ℕ) (s : List ℕ) (p : Place) → countAt least most s p .value ≤ most
 unfolding countAt checkField
@@ -128,10 +125,6 @@ pub record Count (least most : ℕ) (s : List ℕ) (p : Place) (a : ℕ) : Type 
   pub whole : Whole 2 s p a
   pub atLeast : least ≤ countAt least most s p .value
   pub atMost : countAt least most s p .value ≤ most
-
-and-left : (a b : Bool) → (a && b) ≡ true → a ≡ true
-and-left true b e = refl
-and-left false b e = e
 
 pub count-at : (least most : ℕ) (s : List ℕ) (p : Place) {a : ℕ} → countAt least most s p .next ≡ At a → Count least most s p a
 unfolding countAt

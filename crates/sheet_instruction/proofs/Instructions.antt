@@ -6,8 +6,8 @@ use borrow.Author.Tests.{eq-eqb, ne-eqb}
 use Rattle.isa.specs.declared.Operand.the-variants.{Absent, Reg, Imm, Mem}
 use Rattle.sheet_field.specs.declared.Place.{Place}
 use Rattle.sheet_field.specs.declared.Field.{Field}
-use Rattle.sheet_instruction.specs.declared.RegisterField.{RegisterField}
-use Rattle.sheet_instruction.specs.declared.OperandField.{OperandField}
+use Rattle.sheet_instruction.specs.declared.RegisterReading.{RegisterReading}
+use Rattle.sheet_instruction.specs.declared.OperandReading.{OperandReading}
 use Rattle.sheet_field.specs.Field.{fieldAt, codeAt}
 use Rattle.sheet_field.specs.Field.{checkField, countAt, judge, keep, startOf}
 use Rattle.sheet_field.proofs.Fields.{check-below}
@@ -16,7 +16,7 @@ use Rattle.isa.specs.declared.Instruction.{Instruction}
 use Rattle.isa.specs.Modelled.{atFault}
 use Rattle.sheet_instruction.specs.declared.Head.{Head}
 use Rattle.sheet_instruction.specs.declared.Tail.{Tail}
-use Rattle.sheet_instruction.specs.declared.InstructionField.{InstructionField}
+use Rattle.sheet_instruction.specs.declared.InstructionReading.{InstructionReading}
 use native.Mathlib.Numerals.{add-one}
 use native.Mathlib.Omega.{arith}
 use mathlib.Core.Bool.{Bool, true, false, not, _&&_}
@@ -26,18 +26,18 @@ use Rattle.sheet_field.specs.declared.Place.the-variants.{At, Refused}
 use Rattle.sheet_instruction.specs.declared.Registers.{Registers}
 
 module _ (s : List ℕ) (p : Place) {kind : Field} (kind-is : kind ≡ codeAt 3 s p) where
-  pub operand-register : {r : RegisterField} → kind .value ≡ 0 → r ≡ registerAt s (kind .next)
-      → _≡_ {A = OperandField} (record { operand = Reg (r .register); next = r .next }) (operandAt s p)
+  pub operand-register : {r : RegisterReading} → kind .value ≡ 0 → r ≡ registerAt s (kind .next)
+      → _≡_ {A = OperandReading} (record { operand = Reg (r .register); next = r .next }) (operandAt s p)
   unfolding operandAt
   operand-register zero-is r-is = rw (r-is, ← kind-is, eq-eqb _ _ zero-is)
 
   pub operand-immediate : {v : Field} → (kind .value ≡ 0 → ⊥) → kind .value ≡ 1 → v ≡ fieldAt 8 s (kind .next)
-      → _≡_ {A = OperandField} (record { operand = Imm (v .value); next = v .next }) (operandAt s p)
+      → _≡_ {A = OperandReading} (record { operand = Imm (v .value); next = v .next }) (operandAt s p)
   unfolding operandAt
   operand-immediate not-zero one-is v-is = rw (v-is, ← kind-is, ne-eqb _ _ not-zero, eq-eqb _ _ one-is)
 
   pub operand-memory : (kind .value ≡ 0 → ⊥) → (kind .value ≡ 1 → ⊥)
-      → _≡_ {A = OperandField} (record { operand = Mem; next = kind .next }) (operandAt s p)
+      → _≡_ {A = OperandReading} (record { operand = Mem; next = kind .next }) (operandAt s p)
   unfolding operandAt
   operand-memory not-zero not-one = rw (← kind-is, ne-eqb _ _ not-zero, ne-eqb _ _ not-one)
 
@@ -51,7 +51,7 @@ unfolding registersFrom
 registers-more s p k = rw add-one
 
 -- a tail from its parts
-pub tail-is : (map : ℕ) (s : List ℕ) (p : Place) {b4 b8 b16 b32 : Bool} {one two : OperandField} {written : Registers} {flags : Field}
+pub tail-is : (map : ℕ) (s : List ℕ) (p : Place) {b4 b8 b16 b32 : Bool} {one two : OperandReading} {written : Registers} {flags : Field}
     → b4 ≡ bitOf map 4 → one ≡ optionalOperand b4 s p
     → b8 ≡ bitOf map 8 → two ≡ optionalOperand b8 s (one .next)
     → b16 ≡ bitOf map 16 → written ≡ optionalRegisters b16 s (two .next)
@@ -69,7 +69,7 @@ pub instruction-is : (first : Bool) (last : ℕ) (s : List ℕ) (p : Place) {hea
     → branch ≡ bitOf (head .map) 1 → call ≡ bitOf (head .map) 2
     → fault ≡ atFault (record { address = head .address; mnemonic = head .mnemonic; branch = branch; target = head .target; call = call; first = tail .first; second = tail .second; written = tail .written; count = tail .count; flags = tail .flags })
     → start ≡ startOf p → next ≡ judge (not fault) 6 start (tail .next)
-    → _≡_ {A = InstructionField}
+    → _≡_ {A = InstructionReading}
     (record {
       instruction = record { address = head .address; mnemonic = head .mnemonic; branch = branch; target = head .target; call = call; first = tail .first; second = tail .second; written = tail .written; count = tail .count; flags = tail .flags };
       next = next;

@@ -13,17 +13,17 @@ use Rattle.isa.specs.Register.{wellFormed}
 use Rattle.isa.specs.Modelled.{atFault}
 use Rattle.sheet_field.specs.declared.Place.{Place}
 use Rattle.sheet_field.specs.declared.Field.{Field}
-use Rattle.sheet_instruction.specs.declared.RegisterField.{RegisterField}
-use Rattle.sheet_instruction.specs.declared.OperandField.{OperandField}
+use Rattle.sheet_instruction.specs.declared.RegisterReading.{RegisterReading}
+use Rattle.sheet_instruction.specs.declared.OperandReading.{OperandReading}
 use Rattle.sheet_instruction.specs.declared.Registers.{Registers}
 use Rattle.sheet_instruction.specs.declared.Head.{Head}
 use Rattle.sheet_instruction.specs.declared.Tail.{Tail}
-use Rattle.sheet_instruction.specs.declared.InstructionField.{InstructionField}
+use Rattle.sheet_instruction.specs.declared.InstructionReading.{InstructionReading}
 use Rattle.sheet_field.specs.Field.{fieldAt, startOf, judge, checkField, codeAt, countAt}
 
 -- A register: four bytes, for class, index, size and offset. Refusal 5, made at the offset byte and placed at the class byte, where it is of
 -- class 1 and not well formed (S18, R13).
-unfoldable pub registerAt : List ℕ → Place → RegisterField
+unfoldable pub registerAt : List ℕ → Place → RegisterReading
 registerAt s p =
     let class = fieldAt 1 s p in
     let index = fieldAt 1 s (class .next) in
@@ -33,7 +33,7 @@ registerAt s p =
     record { register = it; next = judge (wellFormed it) 5 (startOf p) (offset .next) }
 
 -- An operand: code 0 and a register, 1 and an immediate of 8 bytes, or 2, memory, with nothing more (S17, R8, F18).
-unfoldable pub operandAt : List ℕ → Place → OperandField
+unfoldable pub operandAt : List ℕ → Place → OperandReading
 operandAt s p =
     let kind = codeAt 3 s p in
     let register = registerAt s (kind .next) in
@@ -44,7 +44,7 @@ operandAt s p =
     (record { operand = Imm (immediate .value); next = immediate .next })
     (record { operand = Mem; next = kind .next }))
 
--- Written registers: one register more behind those read so far.
+-- Written registers: one register more after those read so far.
 unfoldable pub withRegister : List ℕ → Registers → Registers
 withRegister s before =
     let r = registerAt s (before .next) in
@@ -66,7 +66,7 @@ registersAt s p =
 abbrev pub optionalRegisters : Bool → List ℕ → Place → Registers
 optionalRegisters there s p = cond there (registersAt s p) (registersFrom s p 0)
 
-abbrev pub optionalOperand : Bool → List ℕ → Place → OperandField
+abbrev pub optionalOperand : Bool → List ℕ → Place → OperandReading
 optionalOperand there s p = cond there (operandAt s p) (record { operand = Absent; next = p })
 
 abbrev pub optionalField : Bool → List ℕ → Place → Field
@@ -116,7 +116,7 @@ tailAt map s p =
 
 -- An instruction record. Bit 0 makes it a conditional branch, bit 1 call-like. Refusal 6, made at its last byte and placed at its first, where it is
 -- modelled and at fault (S6, S7, S8, R2, R4, R17).
-unfoldable pub instructionAt : Bool → ℕ → List ℕ → Place → InstructionField
+unfoldable pub instructionAt : Bool → ℕ → List ℕ → Place → InstructionReading
 instructionAt first last s p =
     let head = headAt first last s p in
     let tail = tailAt (head .map) s (head .next) in

@@ -10,12 +10,12 @@ ghost use mathlib.Core.Path.{_≡_};
 ghost use Prim.Native.Nat.{_<_, _≤_};
 ghost use Rattle.sheet_instruction.specs.Instruction.{registerAt, operandAt, withRegister, registersFrom, registersAt, optionalRegisters, bitOf, mapOk, mapAt, addressAt, optionalField, optionalCode, optionalOperand, headAt, tailAt, instructionAt};
 
-pub struct RegisterField {
+pub struct RegisterReading {
     pub register: Register,
     pub next: Place,
 }
 
-pub struct OperandField {
+pub struct OperandReading {
     pub operand: Operand,
     pub next: Place,
 }
@@ -44,12 +44,12 @@ pub struct Tail {
     pub next: Place,
 }
 
-pub struct InstructionField {
+pub struct InstructionReading {
     pub instruction: Instruction,
     pub next: Place,
 }
 
-pub fn take_register(s: &[u8], p: Place) -> RegisterField
+pub fn take_register(s: &[u8], p: Place) -> RegisterReading
     ensures { λ r. ⌜ r ≡ registerAt (now (s .entry)) p ⌝ }
 {
     let class = sheet_field::take_field(s, p, Width::One);
@@ -67,13 +67,13 @@ pub fn take_register(s: &[u8], p: Place) -> RegisterField
         offset: offset.value,
     };
     let ok = isa::well_formed(register);
-    RegisterField {
+    RegisterReading {
         register,
         next: sheet_field::judged(after_offset, ok, 5, sheet_field::start(p)),
     }
 }
 
-pub fn take_operand(s: &[u8], p: Place) -> OperandField
+pub fn take_operand(s: &[u8], p: Place) -> OperandReading
     ensures { λ r. ⌜ r ≡ operandAt (now (s .entry)) p ⌝ }
 {
     let kind = sheet_field::code(s, p, 3);
@@ -82,7 +82,7 @@ pub fn take_operand(s: &[u8], p: Place) -> OperandField
         let r = take_register(s, after);
         let register = r.register;
         let next = r.next;
-        return OperandField {
+        return OperandReading {
             operand: Operand::Reg(register),
             next,
         };
@@ -90,12 +90,12 @@ pub fn take_operand(s: &[u8], p: Place) -> OperandField
     if kind.value == 1 {
         let v = sheet_field::take_field(s, after, Width::Eight);
         let next = v.next;
-        return OperandField {
+        return OperandReading {
             operand: Operand::Imm(v.value),
             next,
         };
     }
-    OperandField {
+    OperandReading {
         operand: Operand::Mem,
         next: after,
     }
@@ -160,13 +160,13 @@ fn registers_if(there: bool, s: &[u8], p: Place) -> Registers
     }
 }
 
-fn operand_if(there: bool, s: &[u8], p: Place) -> OperandField
+fn operand_if(there: bool, s: &[u8], p: Place) -> OperandReading
     ensures { λ r. ⌜ r ≡ optionalOperand there (now (s .entry)) p ⌝ }
 {
     if there {
         take_operand(s, p)
     } else {
-        OperandField {
+        OperandReading {
             operand: Operand::Absent,
             next: p,
         }
@@ -270,7 +270,7 @@ fn take_tail(s: &[u8], p: Place, map: u64) -> Tail
 }
 
 // The instruction record at a place; `first` where none stands before it, else `last` is the address before.
-pub fn take_instruction(s: &[u8], p: Place, first: bool, last: u64) -> InstructionField
+pub fn take_instruction(s: &[u8], p: Place, first: bool, last: u64) -> InstructionReading
     ensures { λ r. ⌜ r ≡ instructionAt first last (now (s .entry)) p ⌝ }
 {
     let head = take_head(s, p, first, last);
@@ -294,7 +294,7 @@ pub fn take_instruction(s: &[u8], p: Place, first: bool, last: u64) -> Instructi
         flags: tail.flags,
     };
     let fault = isa::is_at_fault(instruction);
-    InstructionField {
+    InstructionReading {
         instruction,
         next: sheet_field::judged(end, !fault, 6, sheet_field::start(p)),
     }

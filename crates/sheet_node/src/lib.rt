@@ -151,7 +151,7 @@ fn check_addresses(s: &[u8], p: Place, n: u64) -> Place
 }
 
 // The types as a part of the sheet: n bytes from a place on, where they were read whole, else none.
-pub fn types_of(s: &[u8], end: Place, from: usize, n: usize) -> &[u8]
+fn types_of(s: &[u8], end: Place, from: usize, n: usize) -> &[u8]
     requires { ⌜ ((a : ℕ) → end ≡ At a → from + n ≤ length (now s)) ⌝ }
     ensures { λ r. ⌜ now r ≡ typesOf end from n (now (s .entry)) ⌝ }
 {

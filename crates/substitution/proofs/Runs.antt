@@ -22,7 +22,6 @@ use Rattle.expr.specs.Scan.{anyNode, isVariable, isLoad, isEffect, hasLoad, pla
 use Rattle.expr.specs.Types.{typeOf}
 use Rattle.expr.specs.Admission.{AdmittedAll}
 use Rattle.expr.proofs.Plainness.{plain-parts}
-use Rattle.arith.proofs.Laws.{and-left, and-right}
 use Rattle.arith.specs.Numbers.{bits}
 use Rattle.value.specs.declared.Value.{Value}
 use Rattle.value.specs.declared.Value.the-variants.{Of, NoValue}
@@ -37,12 +36,9 @@ use Rattle.value.proofs.Steps.{Plain, plain-ev}
 use Rattle.substitution.specs.Substitution.{Entry, free, held, Table, nothingHeld, standing, substitute, entryReads, kept, ended, holdable, entryOf, assigned, long, Substituted, tooLong, into, substituted, withAssignments}
 use Rattle.substitution.proofs.Alike.{Alike, same-alike, bits-alike}
 use Rattle.substitution.proofs.Kept.{StandsTyped, StandsFor, type-kept, value-kept}
+use Rattle.laws.proofs.Booleans.{and-left, and-right, or-none}
 
 -- or
-or-none : (a b : Bool) → (a || b) ≡ false → (a ≡ false) × (b ≡ false)
-or-none true b h = absurd (false≢true (sym h))
-or-none false b h = (refl, h)
-
 or-map : {a b a′ b′ : Bool} → (a ≡ true → a′ ≡ true) → (b ≡ true → b′ ≡ true) → (a || b) ≡ true → (a′ || b′) ≡ true
 or-map {a} {b} {a′} {b′} f g h = by a a′ f h
   where

@@ -45,7 +45,7 @@ Made TooLong out e = long e ≡ true
 unfoldable pub heldWords : List ℕ → ℕ → ℕ → ℕ
 heldWords lengths left tag = cond (eqb left 0 && eqb (kindOf tag) kindVariable) (getD lengths (argumentOf tag) 0) 0
 
--- and how many trees under a load are still to come behind it
+-- and how many trees under a load are still to come after it
 unfoldable pub pendingAfter : ℕ → ℕ → ℕ
 pendingAfter left tag = cond (eqb left 0) (cond (eqb (kindOf tag) kindLoad) 1 0) (left - 1 + arityOf tag)
 

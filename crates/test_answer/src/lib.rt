@@ -119,7 +119,7 @@ fn line(written: bool) -> Ending {
     }
 }
 
-// A value and the place behind it, or the end of the bytes.
+// A value and the place after it, or the end of the bytes.
 enum Taken {
     Value(u64, usize),
     Cut,
@@ -187,7 +187,7 @@ fn say_sets(sheet: &[u8], node: u64, sets: &[u8], count: u32, values: &mut [u64]
     line(true)
 }
 
-// The frame of an evaluation, behind the operation's number.
+// The frame of an evaluation, after the operation's number.
 fn answer_evaluation(s: &[u8], values: &mut [u64]) -> Ending {
     if s.len() < 16 {
         return Ending::Cut;

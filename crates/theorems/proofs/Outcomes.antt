@@ -11,7 +11,6 @@ use lib.ListN.{length, getD}
 use Rattle.sheet_field.specs.declared.Place.the-variants.{At}
 use Rattle.sheet_node.specs.Node.{nodeAt}
 use Rattle.sheet_node.proofs.Variables.{ReadsDeclared, reads-declared}
-use Rattle.concrete.proofs.Arithmetic.{byTest}
 use Rattle.sheet.specs.declared.Sheet.{Sheet}
 use Rattle.sheet.specs.declared.Reading.{Reading}
 use Rattle.sheet.specs.declared.Reading.the-variants as reading
@@ -27,6 +26,7 @@ use Rattle.evaluate_node.specs.Evaluate.{onTruth, StartsFrom, Gives, FromRun}
 use Rattle.evaluate_node.proofs.Every.{every-run, evaluation-outcome, evaluation-number}
 use Rattle.pomthija.specs.Evaluation.{Evaluated, inNumbers, noNode, evaluatedNode, nodeOn, evaluationAnswer, nodeNumbered, nodePlace, nodeRun, SaysOf, AnswerFromRun, Returned}
 use Rattle.pomthija.specs.Evaluation.Evaluated.{outcome, refused}
+use Rattle.laws.proofs.Booleans.{byTest}
 
 -- a node of an accepted sheet reads only variables that it declares
 declared-only : (s : List ℕ) (sheet : Sheet) → readingOf s ≡ reading.Accepted sheet → (number : ℕ) → number < sheet .nodes .count

@@ -10,7 +10,6 @@ use lib.Dec.{ltb}
 use Rattle.machine.specs.declared.State.{State}
 use Rattle.machine.specs.Registers.{nothingKnown}
 use Rattle.concrete.specs.Concrete.{Processor, Choice}
-use Rattle.concrete.proofs.Arithmetic.{byTest}
 use Rattle.sheet.specs.declared.Sheet.{Sheet}
 use Rattle.sheet.specs.declared.Reading.{Reading}
 use Rattle.sheet.specs.declared.Reading.the-variants as reading
@@ -32,6 +31,7 @@ use Rattle.theorems.specs.Runs.{Outcome, runOn, NotAgainst, Forced}
 use Rattle.theorems.specs.Runs.Outcome.{jumped}
 use Rattle.theorems.proofs.Sound.{blocks-right}
 use Rattle.theorems.proofs.Forced.{saying, blocks-forced}
+use Rattle.laws.proofs.Booleans.{byTest}
 
 -- always is 1, never is 0; the reason of a flag verdict is 1
 abbrev pub said : Bool → Numbers

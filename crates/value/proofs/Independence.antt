@@ -17,22 +17,7 @@ use Rattle.value.specs.declared.Value.{Value}
 use Rattle.value.specs.declared.Value.the-variants.{Of, NoValue}
 use Rattle.value.specs.Evaluation.{Values, Contents, Memory, Effects, under, shared, loaded, ev}
 use Rattle.value.specs.Run.{update}
-
-or-left : (a b : Bool) → (a || b) ≡ false → a ≡ false
-or-left true b h = h
-or-left false b h = refl
-
-or-right : (a b : Bool) → (a || b) ≡ false → b ≡ false
-or-right true b h = absurd (false≢true (sym h))
-or-right false b h = h
-
-in-left : (a b : Bool) → a ≡ true → (a || b) ≡ true
-in-left true b h = refl
-in-left false b h = absurd (false≢true h)
-
-in-right : (a b : Bool) → b ≡ true → (a || b) ≡ true
-in-right true b h = refl
-in-right false b h = h
+use Rattle.laws.proofs.Booleans.{or-left, or-right, in-left, in-right}
 
 -- where there is no effect, the effects play no part
 pub without-effect : (types : List ℕ) (ρ σ : Values) (m : Memory) (f f′ : Effects) (e : Expr) → hasEffect e ≡ false

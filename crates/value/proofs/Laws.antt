@@ -18,7 +18,7 @@ use Rattle.expr.proofs.Children.{OneChild, TwoChildren, ThreeChildren, root-kin
 use Rattle.expr.proofs.Parts.{root-place}
 use Rattle.expr.proofs.Plainness.{plain-cast, plain-binary, plain-ternary, effect-not-plain, load-not-plain}
 use Rattle.arith.specs.Numbers.{bits, convert, quotient, remainder, count, below, atMost}
-use Rattle.arith.proofs.Laws.{and-left, and-right, cut-lt, quotient-typed, remainder-typed, shift-typed, convert-lt}
+use Rattle.arith.proofs.Laws.{cut-lt, quotient-typed, remainder-typed, shift-typed, convert-lt}
 use Rattle.value.specs.declared.Value.{Value}
 use Rattle.value.specs.declared.Value.the-variants.{Of, NoValue}
 use Rattle.value.specs.declared.Truth.{Truth}
@@ -27,6 +27,7 @@ use Rattle.value.specs.Operators.{Typed, integerOf, truthOf, flag, taken
 use Rattle.value.specs.Evaluation.{Values, Contents, Memory, Effects, under, loaded, ev, evaluated}
 use Rattle.value.specs.Root.{rootTag, logicRoot, settles}
 use Rattle.value.specs.Contracts.{Ready}
+use Rattle.laws.proofs.Booleans.{and-left, and-right}
 
 -- a number past four keys
 pub past-four : (k o : ℕ) → k ≤ o → (o ≡ k → ⊥) → (o ≡ k + 1 → ⊥) → (o ≡ k + 2 → ⊥) → (o ≡ k + 3 → ⊥) → k + 4 ≤ o

@@ -31,7 +31,7 @@ pub struct TypedValue {
 }
 
 // A condition as an integer.
-pub fn integer_of(c: Truth) -> Value
+fn integer_of(c: Truth) -> Value
     ensures { λ r. ⌜ r ≡ integerOf c ⌝ }
 {
     match c {
@@ -42,7 +42,7 @@ pub fn integer_of(c: Truth) -> Value
 }
 
 // An integer as a condition.
-pub fn truth_of(v: Value) -> Truth
+fn truth_of(v: Value) -> Truth
     ensures { λ r. ⌜ r ≡ truthOf v ⌝ }
 {
     match v {

@@ -1,0 +1,1 @@
+// Laws on truth values that the proofs of several crates cite. No code.
