@@ -86,7 +86,7 @@ Yields [] = Unit {0}
 Yields (ofBlock code answer ∷ rows) = (verdictNumbers (verdictAt (endFrom nothingKnown code)) ≡ answer) × Yields rows
 Yields (ofNode n answer ∷ rows) = (answerNumbers (nodeVerdict n 0) ≡ answer) × Yields rows
 
--- slot = slot + 1 + 2 × step; step = slot; slot == step, with slot as x and step as y
+-- The probe table: a slot (x) is moved by an odd amount that a step (y) gives, the step takes the new value, and the two are compared.
 abbrev pub probe : Node
 probe = node (assignment 0 (binary opAdd (binary opAdd x (number 1)) (binary opMul (number 2) y)) ∷ assignment 1 x ∷ []) (equal x y)
 
