@@ -3,6 +3,7 @@
 pub mod assembler;
 pub mod c_compiler;
 pub mod evaluator;
+pub mod listing;
 pub mod node_limits;
 pub mod processor;
 pub mod reader;

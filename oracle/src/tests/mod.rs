@@ -1,3 +1,4 @@
 mod evaluation;
+mod listing;
 mod sheets;
 mod verdicts;
