@@ -9,10 +9,10 @@ use Rattle.sheet_node.specs.Node.{Node, nodeOf}
 use Rattle.sheet.specs.declared.Sheet.{Sheet}
 use Rattle.sheet.specs.declared.Reading.{Reading}
 use Rattle.sheet.specs.declared.Reading.the-variants as reading
-use Rattle.sheet.specs.Sheet.{sheetAt, readingOf}
+use Rattle.sheet.specs.Sheet.{sheetAt, readingOf, noNode}
 use Rattle.evaluate_node.specs.declared.Evaluation.{Evaluation}
 use Rattle.evaluate_node.specs.Evaluate.{evaluationOf}
-use Rattle.pomthija.specs.Evaluation.{Evaluated, inNumbers, noNode, evaluatedNode, nodeOn, evaluationAnswer}
+use Rattle.pomthija.specs.Evaluation.{Evaluated, inNumbers, evaluatedNode, nodeOn, evaluationAnswer}
 use Rattle.pomthija.specs.Evaluation.Evaluated.{refused}
 
 pub node-evaluated : (s : List ℕ) (number : ℕ) (values : List ℕ) {places : List ℕ} (node : NodeReading) {r : Evaluation}

@@ -1,15 +1,12 @@
 -- The evaluation: its answers, in the scope document's numbers, from any bytes and any lent values.
 use Prim.Native.Nat.{ℕ, zero, suc}
 use mathlib.Core.Path.{_≡_}
-use mathlib.Core.List.{List, []}
+use mathlib.Core.List.{List}
 use mathlib.Core.Bool.{cond}
 use lib.Dec.{ltb}
-use lib.ListN.{getD}
-use Rattle.expr.specs.Tree.Expr.{conditionTrue}
-use Rattle.sheet_node.specs.Node.{Node}
 use Rattle.sheet.specs.declared.Reading.{Reading}
 use Rattle.sheet.specs.declared.Reading.the-variants as reading
-use Rattle.sheet.specs.Sheet.{sheetAt, readingOf}
+use Rattle.sheet.specs.Sheet.{readingOf, nodeNumbered, nodePlace}
 use Rattle.evaluate_node.specs.declared.Evaluation.{Evaluation}
 use Rattle.evaluate_node.specs.declared.Evaluation.the-variants as evaluation
 use Rattle.value.specs.declared.Truth.{Truth}
@@ -26,18 +23,6 @@ abbrev pub inNumbers : Evaluation → Evaluated
 inNumbers evaluation.Holds = outcome 1
 inNumbers evaluation.Fails = outcome 0
 inNumbers (evaluation.Refused number place) = refused number place
-
--- a node that no sheet has, for a number that is out of range
-abbrev pub noNode : Node
-noNode = record { types = []; statements = []; condition = conditionTrue; addresses = [] }
-
--- the node of that number
-abbrev pub nodeNumbered : List ℕ → ℕ → Node
-nodeNumbered s number = getD (sheetAt s .nodes .list) number noNode
-
--- where its record starts
-abbrev pub nodePlace : List ℕ → ℕ → ℕ
-nodePlace s number = getD (sheetAt s .nodes .places) number 0
 
 -- the evaluation of the node of that number
 unfoldable pub evaluatedNode : List ℕ → ℕ → List ℕ → Evaluation

@@ -8,9 +8,8 @@ use Rattle.verdict.specs.declared.Answer.the-variants.{Refused}
 use Rattle.verdict.specs.Numbers.{Numbers, answerNumbers}
 use Rattle.sheet.specs.declared.Reading.{Reading}
 use Rattle.sheet.specs.declared.Reading.the-variants as reading
-use Rattle.sheet.specs.Sheet.{readingOf}
+use Rattle.sheet.specs.Sheet.{readingOf, nodeNumbered, nodePlace}
 use Rattle.verdict_node.specs.NodeVerdict.{nodeVerdict}
-use Rattle.pomthija.specs.Evaluation.{nodeNumbered, nodePlace}
 
 -- Reading's refusals first; 13, at place 0, where there is no node of that number; else the answer for that node (R1, R5, N25).
 abbrev pub onNode : Reading → List ℕ → ℕ → Answer

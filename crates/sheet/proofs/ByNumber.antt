@@ -19,7 +19,7 @@ use Rattle.sheet.specs.declared.BlockReading.{BlockReading}
 use Rattle.sheet.specs.declared.Sheet.{Sheet}
 use Rattle.sheet.specs.declared.Reading.the-variants as reading
 use Rattle.sheet.specs.Sheet.{noBlock, instructionsFrom, blockAt, nodesFrom, sheetAt, readingOf}
-use Rattle.sheet.specs.Index.{over, addressesOf, Indexed, InFront}
+use Rattle.sheet.specs.Index.{over, addressesOf, targetsOf, branchesOf, Indexed, InFront}
 use Rattle.sheet.proofs.Accepted.{accepted, blockOf, block-at, nodes-back, nodes-next, nodes-nth, node-places-nth, node-places-length}
 use Rattle.sheet.proofs.Fronts.{instructions-length, places-length, over-length, over-front}
 use Rattle.sheet.proofs.Rising.{rising}
@@ -103,7 +103,7 @@ module _ (s : List ℕ) (sheet : Sheet) (read : readingOf s ≡ reading.Accepted
     nth-node-place = rw places-are
 
   -- the index of the sheet in lists that have room for it
-  front : (n : ℕ) {list : List ℕ} (before entries : List ℕ) → list ≡ over entries before → length entries ≡ n → n ≤ length before → InFront n list entries
+  front : {A : Type 0} (n : ℕ) {list : List A} (before entries : List A) → list ≡ over entries before → length entries ≡ n → n ≤ length before → InFront n list entries
   front n before entries is long fits =
       record { room = rw (is, over-length entries before) fits; are = rw (is, ← long) (over-front entries before (rw long fits)) }
 
@@ -115,6 +115,16 @@ module _ (s : List ℕ) (sheet : Sheet) (read : readingOf s ≡ reading.Accepted
 
     pub front-places : 2048 ≤ length p₀ → InFront (sheet .instructions .count) p (sheetAt s .instructions .places)
     front-places room = front _ _ _ (index .instructions .places) places-count (omega (arith, accepted s sheet read .few, room))
+
+    pub front-targets : 2048 ≤ length t₀ → InFront (sheet .instructions .count) t (targetsOf (sheetAt s .instructions .list))
+    unfolding targetsOf
+    front-targets room =
+        front _ _ _ (index .instructions .targets) (rw length-map instructions-count) (omega (arith, accepted s sheet read .few, room))
+
+    pub front-branches : 2048 ≤ length b₀ → InFront (sheet .instructions .count) b (branchesOf (sheetAt s .instructions .list))
+    unfolding branchesOf
+    front-branches room =
+        front _ _ _ (index .instructions .branches) (rw length-map instructions-count) (omega (arith, accepted s sheet read .few, room))
 
     pub front-nodes : 1024 ≤ length n₀ → InFront (sheet .nodes .count) n (sheetAt s .nodes .places)
     front-nodes room = front _ _ _ (index .nodes) node-places-count (omega (arith, accepted s sheet read .fewNodes, room))

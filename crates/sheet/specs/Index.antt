@@ -36,6 +36,6 @@ pub record Indexed (a₀ a p₀ p t₀ t : List ℕ) (b₀ b : List Bool) (n₀ 
   pub nodes : n ≡ over (r .nodes .places) n₀
 
 -- the first n elements of a list are these
-pub record InFront (n : ℕ) (list entries : List ℕ) : Type 0 where
+pub record InFront {A : Type 0} (n : ℕ) (list entries : List A) : Type 0 where
   pub room : n ≤ length list
   pub are : take n list ≡ entries

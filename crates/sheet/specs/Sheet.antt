@@ -18,7 +18,8 @@ use mathlib.Core.Path.{_≡_}
 use mathlib.Core.List.{List, [], _∷_, _++_}
 use mathlib.Core.Bool.{Bool}
 use lib.Dec.{eqb, leb}
-use lib.ListN.{length}
+use lib.ListN.{length, getD}
+use Rattle.expr.specs.Tree.Expr.{conditionTrue}
 use Rattle.sheet_field.specs.declared.Place.{Place}
 use Rattle.sheet_field.specs.declared.Place.the-variants.{At, Refused}
 use Rattle.sheet_field.specs.Field.{fieldAt, startOf, judge, countAt}
@@ -133,3 +134,15 @@ answerOf (Refused number at) sheet = reading.Refused number at
 -- Reading: accepted, or the first refusal, its number and its place (R1, R3, R23, D3).
 unfoldable pub readingOf : List ℕ → Reading
 readingOf s = answerOf (sheetAt s .end) (sheetAt s .sheet)
+
+-- a node that no sheet has, for a number that is out of range
+abbrev pub noNode : Node
+noNode = record { types = []; statements = []; condition = conditionTrue; addresses = [] }
+
+-- the node of that number
+abbrev pub nodeNumbered : List ℕ → ℕ → Node
+nodeNumbered s number = getD (sheetAt s .nodes .list) number noNode
+
+-- where its record starts
+abbrev pub nodePlace : List ℕ → ℕ → ℕ
+nodePlace s number = getD (sheetAt s .nodes .places) number 0

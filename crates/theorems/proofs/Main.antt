@@ -8,7 +8,7 @@ use mathlib.Core.Bool.{Bool, cond}
 use Rattle.concrete.specs.Concrete.{Processor, Choice}
 use Rattle.value.specs.declared.Truth.the-variants as truth
 use Rattle.value.specs.Run.{Choices, run}
-use Rattle.sheet.specs.Sheet.{readingOf}
+use Rattle.sheet.specs.Sheet.{readingOf, nodeNumbered, nodePlace}
 use Rattle.format.specs.Write.{All}
 use Rattle.format.specs.Sheet.{Format}
 use Rattle.format.specs.Examples.{Example, examples}
@@ -16,7 +16,7 @@ use Rattle.format.proofs.Unique.{format}
 use Rattle.format.proofs.Examples.{examples-hold}
 use Rattle.evaluate_node.specs.Evaluate.{StartsFrom}
 use Rattle.pomthija.specs.Block.{blockAnswer}
-use Rattle.pomthija.specs.Evaluation.{evaluationAnswer, nodeNumbered, nodePlace, nodeRun, SaysOf, AnswerFromRun}
+use Rattle.pomthija.specs.Evaluation.{evaluationAnswer, nodeRun, SaysOf, AnswerFromRun}
 use Rattle.pomthija.specs.Evaluation.Evaluated.{outcome, refused}
 use Rattle.theorems.specs.Runs.{runOn}
 use Rattle.theorems.specs.Runs.Outcome.{jumped}

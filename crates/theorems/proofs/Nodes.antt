@@ -42,10 +42,10 @@ use Rattle.verdict_node.specs.NodeVerdict.{onSubstituted, nodeVerdict}
 use Rattle.sheet.specs.declared.Sheet.{Sheet}
 use Rattle.sheet.specs.declared.Reading.{Reading}
 use Rattle.sheet.specs.declared.Reading.the-variants as reading
-use Rattle.sheet.specs.Sheet.{sheetAt, readingOf}
+use Rattle.sheet.specs.Sheet.{sheetAt, readingOf, noNode, nodeNumbered, nodePlace}
 use Rattle.format.proofs.Spans.{Bytes}
 use Rattle.format.proofs.Admitted.{node-admitted-at}
-use Rattle.pomthija.specs.Evaluation.{noNode, nodeNumbered, nodePlace, nodeRun, evaluationAnswer, SaysOf}
+use Rattle.pomthija.specs.Evaluation.{nodeRun, evaluationAnswer, SaysOf}
 use Rattle.pomthija.specs.Evaluation.Evaluated.{outcome}
 use Rattle.theorems.proofs.Outcomes.{answers-run}
 use Rattle.pomthija.specs.Node.{onNode, nodeAnswer}

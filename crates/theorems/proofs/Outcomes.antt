@@ -14,7 +14,7 @@ use Rattle.sheet_node.proofs.Variables.{ReadsDeclared, reads-declared}
 use Rattle.sheet.specs.declared.Sheet.{Sheet}
 use Rattle.sheet.specs.declared.Reading.{Reading}
 use Rattle.sheet.specs.declared.Reading.the-variants as reading
-use Rattle.sheet.specs.Sheet.{sheetAt, readingOf}
+use Rattle.sheet.specs.Sheet.{sheetAt, readingOf, noNode, nodeNumbered, nodePlace}
 use Rattle.sheet.proofs.ByNumber.{node-places-count, nth-node-read, nth-node-is}
 use Rattle.sheet.proofs.Refusals.{ByReading, reading-number}
 use Rattle.value.specs.declared.Truth.{Truth}
@@ -24,7 +24,7 @@ use Rattle.evaluate_node.specs.declared.Evaluation.{Evaluation}
 use Rattle.evaluate_node.specs.declared.Evaluation.the-variants as evaluation
 use Rattle.evaluate_node.specs.Evaluate.{onTruth, StartsFrom, Gives, FromRun}
 use Rattle.evaluate_node.proofs.Every.{every-run, evaluation-outcome, evaluation-number}
-use Rattle.pomthija.specs.Evaluation.{Evaluated, inNumbers, noNode, evaluatedNode, nodeOn, evaluationAnswer, nodeNumbered, nodePlace, nodeRun, SaysOf, AnswerFromRun, Returned}
+use Rattle.pomthija.specs.Evaluation.{Evaluated, inNumbers, evaluatedNode, nodeOn, evaluationAnswer, nodeRun, SaysOf, AnswerFromRun, Returned}
 use Rattle.pomthija.specs.Evaluation.Evaluated.{outcome, refused}
 use Rattle.laws.proofs.Booleans.{byTest}
 
