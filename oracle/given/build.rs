@@ -16,7 +16,10 @@ const INSIDE: &str = "crates/ag-engine/src";
 
 fn main() {
     println!("cargo::rustc-check-cfg=cfg(given_source)");
+    println!("cargo::rustc-check-cfg=cfg(product)");
     println!("cargo::rerun-if-env-changed=GIVEN_SRC");
+    println!("cargo::rerun-if-env-changed=POMTHIJA_LIB");
+    link_product();
     println!("cargo::rerun-if-changed=build.rs");
     let folder = source_folder().join(INSIDE);
     println!("cargo::rerun-if-changed={}", folder.display());
@@ -28,6 +31,18 @@ fn main() {
     store("opaque.rs", opaque(File::read(&folder, "opaque.rs")));
     store("ast.rs", File::read(&folder, "ast.rs"));
     store("cpu_context.rs", cpu_context(File::read(&folder, "cpu_context.rs")));
+}
+
+/// Links the product's archive from the folder that `POMTHIJA_LIB` names, for
+/// `given fuzz`. A relative path is taken from the repository's root.
+fn link_product() {
+    let Ok(named) = std::env::var("POMTHIJA_LIB") else { return };
+    let package = std::env::var("CARGO_MANIFEST_DIR").expect("cargo names the package's folder");
+    let folder = Path::new(&package).join(ROOT).join(named);
+    println!("cargo::rerun-if-changed={}", folder.join("libpomthija.a").display());
+    println!("cargo::rustc-link-search=native={}", folder.display());
+    println!("cargo::rustc-link-lib=static=pomthija");
+    println!("cargo::rustc-cfg=product");
 }
 
 fn source_folder() -> PathBuf {

@@ -28,16 +28,22 @@ pub enum Nodes {
 
 /// The answer to one sheet.
 pub fn line(bytes: &[u8], nodes: Nodes) -> String {
-    let sheet = match reader::read(bytes) {
-        Ok(accepted) => accepted.sheet,
-        Err(refusal) => return refusal.to_string(),
-    };
-    let mut words = vec!["blocks".to_string()];
+    match answers(bytes, nodes) {
+        Ok([blocks, nodes]) => {
+            let words = [&["blocks".to_string()], &blocks[..], &["nodes".to_string()], &nodes[..]];
+            words.concat().join(" ")
+        }
+        Err(refusal) => refusal.to_string(),
+    }
+}
+
+/// The answers for the blocks and for the nodes of a sheet.
+pub fn answers(bytes: &[u8], nodes: Nodes) -> Result<[Vec<String>; 2], reader::Refusal> {
+    let sheet = reader::read(bytes)?.sheet;
     let disasm = Disasm { instructions: sheet.instructions.iter().map(instruction).collect() };
-    words.extend(sheet.blocks.iter().map(|block| block_answer(&disasm, *block)));
-    words.push("nodes".to_string());
-    words.extend(sheet.nodes.iter().map(|node| node_answer(node, nodes)));
-    words.join(" ")
+    let blocks = sheet.blocks.iter().map(|block| block_answer(&disasm, *block)).collect();
+    let nodes = sheet.nodes.iter().map(|node| node_answer(node, nodes)).collect();
+    Ok([blocks, nodes])
 }
 
 fn answer(always: bool, reason: u8) -> String {

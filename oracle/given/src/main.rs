@@ -14,6 +14,8 @@ mod cpu_context {
 }
 #[cfg(given_source)]
 mod engine;
+#[cfg(all(given_source, product))]
+mod fuzz;
 #[cfg(given_source)]
 mod guard;
 #[cfg(given_source)]
@@ -42,9 +44,11 @@ use std::io;
 use std::process::ExitCode;
 
 const USAGE: &str = "usage: given [--differences]
+       given fuzz SECONDS SEED
 Frames for the verdicts on blocks are read from standard input.
 --differences judges nodes with the entries of docs/DIFFERENCES.md and with the
-refusals 10 and 11.";
+refusals 10 and 11. fuzz compares the product's C exports with these answers; it
+is there where the build was told the product's folder.";
 
 fn main() -> ExitCode {
     let args: Vec<String> = std::env::args().skip(1).collect();
@@ -52,6 +56,7 @@ fn main() -> ExitCode {
     let outcome = match words.as_slice() {
         [] => run(false),
         ["--differences"] => run(true),
+        ["fuzz", seconds, seed] => fuzzed(seconds, seed),
         _ => Err(io::Error::other(USAGE)),
     };
     match outcome {
@@ -61,6 +66,20 @@ fn main() -> ExitCode {
             ExitCode::from(2)
         }
     }
+}
+
+#[cfg(all(given_source, product))]
+fn fuzzed(seconds: &str, seed: &str) -> io::Result<()> {
+    let number = |word: &str| word.parse().map_err(|_| io::Error::other(USAGE));
+    match fuzz::run(number(seconds)?, number(seed)?)? {
+        true => Ok(()),
+        false => Err(io::Error::other("the product differs")),
+    }
+}
+
+#[cfg(not(all(given_source, product)))]
+fn fuzzed(_seconds: &str, _seed: &str) -> io::Result<()> {
+    Err(io::Error::other("this build has no product or no source to compare with"))
 }
 
 #[cfg(given_source)]

@@ -1,0 +1,167 @@
+//! Fuzzing of the product's C exports against the given source, guided by the
+//! coverage of the independent reader, the given source and what stands around
+//! them. A sheet that reaches something new, or reaches it another number of
+//! times, is kept and changed further.
+
+mod changes;
+mod coverage;
+mod product;
+
+use crate::engine::{self, Nodes};
+use crate::guard;
+use changes::Kept;
+use coverage::Coverage;
+use oracle::cases::random::Random;
+use oracle::cases::{block_sheet, damaged_sheet};
+use oracle::judges::evaluator;
+use oracle::judges::listing::{due, Due, LINE};
+use oracle::judges::reader::Refusal;
+use product::{Answer, Product};
+use std::io;
+use std::time::{Duration, Instant};
+
+/// Sheets to begin with, half of them aimed at verdicts.
+const FIRST: u64 = 200;
+
+/// Longer sheets are not kept.
+const LONGEST: usize = 6_000;
+
+#[derive(Default)]
+struct Tally {
+    listings: u64,
+    refused: u64,
+    lines: u64,
+    open: u64,
+    evaluations: u64,
+}
+
+/// Fuzzes for so many seconds; true if there was no difference.
+pub fn run(seconds: u64, seed: u64) -> io::Result<bool> {
+    guard::hush();
+    let mut product = Product::new()?;
+    let mut coverage = Coverage::new();
+    let mut random = Random::new(seed, 0);
+    let mut tally = Tally::default();
+    let mut kept = Kept::default();
+    let end = Instant::now() + Duration::from_secs(seconds);
+    let mut index = 0;
+    while Instant::now() < end {
+        let sheet = match index {
+            0..FIRST if index % 2 == 0 => block_sheet::sheet(seed, index, true),
+            0..FIRST => damaged_sheet::sheet(seed, index),
+            _ => changes::changed(&mut random, &kept),
+        };
+        index += 1;
+        if sheet.len() > LONGEST {
+            continue;
+        }
+        coverage.clear();
+        let agreed = tried(&mut product, &mut random, &sheet, &mut tally);
+        if let Err(difference) = agreed {
+            println!("difference: {difference}\nsheet: {}", hexadecimal(&sheet));
+            return Ok(false);
+        }
+        if coverage.is_new() {
+            kept.keep(sheet);
+        }
+    }
+    print(&tally, index, kept.count(), &coverage);
+    Ok(true)
+}
+
+fn print(tally: &Tally, sheets: u64, kept: usize, coverage: &Coverage) {
+    if coverage.places() == 0 {
+        println!("not guided: built without coverage");
+    }
+    println!("sheets {sheets}, kept {kept}");
+    println!("places reached {} of {}", coverage.reached(), coverage.places());
+    let Tally { listings, refused, lines, open, evaluations } = tally;
+    println!("listings {listings}, of them refused {refused}; lines {lines}; not judged {open}");
+    println!("evaluations {evaluations}");
+    println!("differences 0");
+}
+
+fn hexadecimal(bytes: &[u8]) -> String {
+    bytes.iter().map(|byte| format!("{byte:02x}")).collect()
+}
+
+/// One sheet: a listing with a list of some length, and evaluations.
+fn tried(
+    product: &mut Product,
+    random: &mut Random,
+    sheet: &[u8],
+    tally: &mut Tally,
+) -> Result<(), String> {
+    let [blocks, nodes] =
+        engine::answers(sheet, Nodes::WithDifferences).unwrap_or_else(|_| Default::default());
+    let whole = match due(sheet, &blocks, &nodes, usize::MAX) {
+        Due::Lines(lines) => lines.len(),
+        _ => LINE,
+    };
+    let room = match random.below(4) {
+        0 => whole.saturating_sub(1),
+        1 => whole + random.below(40),
+        2 => random.below(4 * LINE),
+        _ => whole,
+    };
+    match due(sheet, &blocks, &nodes, room) {
+        Due::Open => tally.open += 1,
+        expected => {
+            tally.listings += 1;
+            match &expected {
+                Due::Lines(lines) => tally.lines += (lines.len() / LINE) as u64,
+                _ => tally.refused += 1,
+            }
+            same_listing(&product.listing(sheet, room), expected, room)?;
+        }
+    }
+    if random.once_in(2) {
+        let node = random.below(nodes.len() + 1) as u32;
+        let values: Vec<u64> = (0..random.below(6)).map(|_| value(random)).collect();
+        tally.evaluations += 1;
+        let expected = evaluator::evaluation(sheet, node, &values);
+        same_evaluation(product.evaluation(sheet, node, &values), expected)?;
+    }
+    Ok(())
+}
+
+fn value(random: &mut Random) -> u64 {
+    match random.below(3) {
+        0 => random.below(3) as u64,
+        1 => random.draw() >> random.pick(&[56, 48, 32]),
+        _ => random.draw(),
+    }
+}
+
+fn refused(refusal: Refusal) -> Answer {
+    Answer { number: u64::from(refusal.number), out: refusal.place as u64 }
+}
+
+/// The answer, and every byte of the list.
+fn same_listing(found: &(Answer, Vec<u8>), due: Due, room: usize) -> Result<(), String> {
+    let mut list = vec![product::FILL; room];
+    let answer = match due {
+        Due::Refused(refusal) => refused(refusal),
+        Due::Lines(lines) => {
+            list[..lines.len()].copy_from_slice(&lines);
+            Answer { number: 0, out: (lines.len() / LINE) as u64 }
+        }
+        Due::Open => unreachable!("an open answer is not compared"),
+    };
+    if *found == (answer, list.clone()) {
+        return Ok(());
+    }
+    let due = format!("{answer:?} {}", hexadecimal(&list));
+    Err(format!("listing, room {room}: due {due}, found {:?} {}", found.0, hexadecimal(&found.1)))
+}
+
+fn same_evaluation(found: Answer, due: evaluator::Answer) -> Result<(), String> {
+    let answer = match due {
+        Ok(holds) => Answer { number: 0, out: u64::from(holds) },
+        Err(refusal) => refused(refusal),
+    };
+    if found == answer {
+        return Ok(());
+    }
+    Err(format!("evaluation: due {answer:?}, found {found:?}"))
+}
