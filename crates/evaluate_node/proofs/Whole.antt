@@ -16,7 +16,7 @@ use Rattle.sheet_expression.specs.declared.Expression.{Expression}
 use Rattle.sheet_expression.specs.Expression.{expressionAt, TookExpression}
 use Rattle.sheet_node.specs.declared.NodeReading.{NodeReading}
 use Rattle.sheet_node.specs.Node.{statementsFrom, nodeAt, typesIn, nodeOf, ReadNode}
-use Rattle.sheet_node.proofs.Accepted.{WholeNode, whole-node}
+use Rattle.sheet_node.proofs.Accepted.{parts}
 use Rattle.evaluate_node.specs.declared.Fit.{Fit}
 use Rattle.evaluate_node.specs.declared.Fit.the-variants.{AllFit, Unfit}
 use Rattle.evaluate_node.specs.declared.Evaluation.{Evaluation}
@@ -39,22 +39,6 @@ fit-enough v (t ∷ types) (x ∷ values) e = go (fits t x) refl (λ h. fit-enou
         → length (t ∷ types) ≤ length (x ∷ values)
     go true q rest = let h = rest (rw q at e) in omega arith
     go false q rest = absurd (not-both (rw q at e))
-
--- the parts that the operations on a node ask for
-pub record Parts (s : List ℕ) (node : NodeReading) : Type 0 where
-  pub few : length (typesIn s node) ≤ 32
-  pub counted : node .variables ≡ length (typesIn s node)
-  pub inside : startOf (node .types) + node .variables ≤ length s
-  pub statements : WentOn (statementsFrom (typesIn s node) s (node .body) (node .statements) .next)
-  pub condition : WentOn (expressionAt (length (typesIn s node)) s (node .condition) .next)
-
-parts-at : (s : List ℕ) (p : Place) {a : ℕ} → nodeAt s p .next ≡ At a → Parts s (nodeAt s p)
-parts-at s p e =
-    let w = whole-node s p e in
-    record { few = w .few; counted = w .count; inside = w .inside; statements = w .statements; condition = w .condition }
-
-pub parts : (s : List ℕ) (node : NodeReading) → ReadNode s node → Parts s node
-parts s node read = rw (read .is) (parts-at s (read .at) {a = read .on .0} (ap (λ (n : NodeReading). n .next) (sym (read .is)) ∙ read .on .1))
 
 and-false : (b : Bool) → (b && false) ≡ false
 and-false true = refl

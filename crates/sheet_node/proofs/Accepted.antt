@@ -1,6 +1,6 @@
 -- Where reading goes on after a statement or a node, it went on before it.
 use Prim.Native.Nat.{ℕ, zero, suc, _+_, _≤_, _<_}
-use mathlib.Core.Path.{_≡_, refl, sym, _∙_}
+use mathlib.Core.Path.{_≡_, refl, sym, ap, _∙_}
 use mathlib.Core.List.{List, [], _∷_, _++_}
 use native.Mathlib.Omega.{arith}
 use mathlib.Core.Bool.{Bool, true, false, false≢true}
@@ -151,6 +151,22 @@ whole-node s p e =
       condition = judged;
     }
 
+-- what an operation on a node that was read whole asks of its parts
+pub record Parts (s : List ℕ) (node : NodeReading) : Type 0 where
+  pub few : length (typesIn s node) ≤ 32
+  pub counted : node .variables ≡ length (typesIn s node)
+  pub inside : startOf (node .types) + node .variables ≤ length s
+  pub statements : WentOn (statementsFrom (typesIn s node) s (node .body) (node .statements) .next)
+  pub condition : WentOn (expressionAt (length (typesIn s node)) s (node .condition) .next)
+
+parts-at : (s : List ℕ) (p : Place) {a : ℕ} → nodeAt s p .next ≡ At a → Parts s (nodeAt s p)
+parts-at s p e =
+    let w = whole-node s p e in
+    record { few = w .few; counted = w .count; inside = w .inside; statements = w .statements; condition = w .condition }
+
+pub parts : (s : List ℕ) (node : NodeReading) → ReadNode s node → Parts s node
+parts s node read = rw (read .is) (parts-at s (read .at) {a = read .on .0} (ap (λ (n : NodeReading). n .next) (sym (read .is)) ∙ read .on .1))
+
 -- its types stand inside the sheet
 pub read-inside : (s : List ℕ) (node : NodeReading) → ReadNode s node → startOf (node .types) + node .variables ≤ length s
-read-inside s node r = let w = whole-node s (r .at) {a = r .on .0} (rw (r .is) at (r .on .1)) in rw (r .is) (w .inside)
+read-inside s node r = parts s node r .inside

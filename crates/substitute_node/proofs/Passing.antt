@@ -25,7 +25,7 @@ use Rattle.substitution.specs.declared.Written.{Written}
 use Rattle.substitution.specs.declared.Written.the-variants.{From, TooLong}
 use Rattle.substitution.specs.Words.{tableOf, Slots, Holds, Assigned, Made}
 use Rattle.substitution.proofs.Entries.{cleared}
-use Rattle.substitute_node.specs.Node.{Lent, Stepped, Passed, MadeNode}
+use Rattle.substitute_node.specs.Node.{Room, Lent, Stepped, Passed, MadeNode}
 
 -- words that were taken to the front of a list
 pub front-words : (ws before after : List ℕ) (n : ℕ) → length ws ≡ n → after ≡ ws ++ drop n before → take n after ≡ ws
@@ -92,11 +92,11 @@ pub record Passing (types s : List ℕ) (p : Place) (n : ℕ) (table lengths wor
   pub lent : Lent types table lengths words out
   pub due : (c : Expr) → withAssignments (statementsFrom types s p n .list) c ≡ substituted (tableOf table lengths) (drop i (statementsFrom types s p n .list)) c
 
-pub passing-start : (types s : List ℕ) (p : Place) (n : ℕ) {table lengths lengths′ words out : List ℕ} → Lent types table lengths words out
+pub passing-start : (types s : List ℕ) (p : Place) (n : ℕ) {table lengths lengths′ words out : List ℕ} → Room types table lengths words out
     → lengths′ ≡ replicate (length lengths) 0 → Passing types s p n table lengths′ words out p 0
 unfolding statementsFrom
 passing-start types s p n {table} {lengths} {lengths′} {words} {out} l is =
-    let b : Holds table lengths′ nothingHeld = rw (is, l .slots .places) (cleared table (l .slots .room)) in
+    let b : Holds table lengths′ nothingHeld = rw (is, l .lengthsRoom) (cleared table (l .tableRoom)) in
     record {
       within = omega arith;
       place = refl;

@@ -2,7 +2,7 @@
 use mathlib.Core.Path.{_≡_}
 use mathlib.Core.Bool.{Bool, true, false, cond}
 use mathlib.Core.List.{List, [], _∷_}
-use Prim.Native.Nat.{ℕ, _≤_}
+use Prim.Native.Nat.{ℕ, _*_, _≤_}
 use lib.ListN.{length, drop}
 use Rattle.expr.specs.Tree.{Expr, Wf, treeOf}
 use Rattle.expr.specs.Statement.{Statement}
@@ -11,7 +11,15 @@ use Rattle.substitution.specs.declared.Written.the-variants.{From, TooLong}
 use Rattle.substitution.specs.Substitution.{Table, tooLong, into, Substituted, substituted, withAssignments}
 use Rattle.substitution.specs.Words.{tableOf, Slots}
 
--- the lent words: the held table, and 256 words each for the records that are read and for those that are written
+-- room for the held table, and for 256 words each of the records that are read and of those that are written; what stands there is of no account
+pub record Room (types table lengths words out : List ℕ) : Type 0 where
+  pub few : length types ≤ 32
+  pub tableRoom : length table ≡ 32 * 256
+  pub lengthsRoom : length lengths ≡ 32
+  pub wordsRoom : length words ≡ 256
+  pub outRoom : length out ≡ 256
+
+-- the same room, with a table in it
 pub record Lent (types table lengths words out : List ℕ) : Type 0 where
   pub few : length types ≤ 32
   pub slots : Slots table lengths

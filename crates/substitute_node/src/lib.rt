@@ -10,7 +10,7 @@ ghost use Rattle.sheet_expression.specs.Expression.{expressionAt};
 ghost use Rattle.sheet_node.specs.Node.{statementAt, statementOf, statementsFrom};
 ghost use Rattle.substitution.specs.Substitution.{withAssignments};
 ghost use Rattle.substitution.specs.Words.{tableOf};
-ghost use Rattle.substitute_node.specs.Node.{Lent, Stepped, Passed, MadeNode};
+ghost use Rattle.substitute_node.specs.Node.{Room, Lent, Stepped, Passed, MadeNode};
 
 // What one statement leaves: whether its substituted value is within its limit, and the place after the statement.
 pub struct Step {
@@ -43,7 +43,7 @@ fn take_statement(
     Step { fits, next }
 }
 
-// The n statements from a place on, which were read whole, from a table in which nothing is held; false where a substituted value is too long.
+// The n statements from a place on, which were read whole, with nothing held before them; false where a substituted value is too long.
 fn take_statements(
     s: &[u8],
     p: Place,
@@ -54,7 +54,7 @@ fn take_statements(
     words: &mut [u64],
     out: &mut [u64],
 ) -> bool
-    requires { ⌜ Lent (now types) (now table) (now lengths) (now words) (now out) ⌝ }
+    requires { ⌜ Room (now types) (now table) (now lengths) (now words) (now out) ⌝ }
     requires { ⌜ WentOn (statementsFrom (now types) (now s) p n .next) ⌝ }
     ensures { λ r. ⌜ Passed r (now (table .exit)) (now (lengths .exit)) (statementsFrom (now (types .entry)) (now (s .entry)) p n .list) ⌝ }
 {
@@ -84,7 +84,7 @@ pub fn substitute_node(
     words: &mut [u64],
     out: &mut [u64],
 ) -> Written
-    requires { ⌜ Lent (now types) (now table) (now lengths) (now words) (now out) ⌝ }
+    requires { ⌜ Room (now types) (now table) (now lengths) (now words) (now out) ⌝ }
     requires { ⌜ WentOn (statementsFrom (now types) (now s) body n .next) ⌝ }
     requires { ⌜ WentOn (expressionAt (length (now types)) (now s) condition .next) ⌝ }
     ensures { λ r. ⌜ MadeNode r (now (out .exit)) (withAssignments (statementsFrom (now (types .entry)) (now (s .entry)) body n .list) (treeOf (expressionAt (length (now (types .entry))) (now (s .entry)) condition .words))) ⌝ }

@@ -31,13 +31,13 @@ same-length : tie.Need-same-length Inv-loop μ-loop
 same-length c =
     let loop = c .before .before .before .before .before .before .before .before .before .before .before .before .before .before .before .before .loop in
     let start = c .before .before .before .before .before .before .before .before .before .before .before .before .before .before .before .before .before .before .before .before .before .before .before .before .before .before .before in
-    omega (arith, loop .inv .lent .slots .room, start .pre .0 .slots .room)
+    omega (arith, loop .inv .lent .slots .room, start .pre .0 .tableRoom)
 
 same-length-2 : tie.Need-same-length-2 Inv-loop μ-loop
 same-length-2 c =
     let loop = c .before .before .before .before .before .before .before .before .before .before .before .before .before .before .before .before .loop in
     let start = c .before .before .before .before .before .before .before .before .before .before .before .before .before .before .before .before .before .before .before .before .before .before .before .before .before .before .before in
-    omega (arith, loop .inv .lent .slots .places, start .pre .0 .slots .places)
+    omega (arith, loop .inv .lent .slots .places, start .pre .0 .lengthsRoom)
 
 same-length-3 : tie.Need-same-length-3 Inv-loop μ-loop
 same-length-3 c =
@@ -73,13 +73,13 @@ same-length-5 : tie.Need-same-length-5 Inv-loop μ-loop
 same-length-5 c =
     let loop = c .before .loop in
     let start = c .before .before .before .before .before .before .before .before .before .before .before .before in
-    omega (arith, loop .inv .lent .slots .room, start .pre .0 .slots .room)
+    omega (arith, loop .inv .lent .slots .room, start .pre .0 .tableRoom)
 
 same-length-6 : tie.Need-same-length-6 Inv-loop μ-loop
 same-length-6 c =
     let loop = c .before .loop in
     let start = c .before .before .before .before .before .before .before .before .before .before .before .before in
-    omega (arith, loop .inv .lent .slots .places, start .pre .0 .slots .places)
+    omega (arith, loop .inv .lent .slots .places, start .pre .0 .lengthsRoom)
 
 same-length-7 : tie.Need-same-length-7 Inv-loop μ-loop
 same-length-7 c =
