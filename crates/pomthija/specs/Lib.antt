@@ -1,3 +1,4 @@
 pub mod Block
 pub mod Node
 pub mod Evaluation
+pub mod Listing

@@ -11,6 +11,12 @@ ghost use Rattle.verdict.specs.Numbers.{answerNumbers};
 ghost use Rattle.pomthija.specs.Evaluation.{inNumbers, evaluationAnswer, Returned};
 ghost use Rattle.pomthija.specs.Block.{blockAnswer};
 
+// What the listing answers: how many lines there are, or a refusal, its number and its place.
+pub enum Listed {
+    Lines(u64),
+    Refused(u64, usize),
+}
+
 // The block of that number, of an accepted sheet with its index at the front of two lists.
 fn judge_block(s: &[u8], sheet: Sheet, addresses: &[u64], places: &[u64], number: u64) -> Answer
     requires { ⌜ readingOf (now s) ≡ Accepted sheet ⌝ }
