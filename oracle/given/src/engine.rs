@@ -5,9 +5,13 @@ use crate::cfg::{Block, ProcedureCfg};
 use crate::cpu_context::{Access, DecodedInsn, Flow, Operand, RegisterUse};
 use crate::guard;
 use crate::lift::Statement;
+#[cfg(product)]
+use crate::lift::{Node, Stages};
 use crate::opaque;
 use crate::pipeline::Disasm;
 use crate::register::RegisterId;
+#[cfg(product)]
+use crate::structure::Terminator;
 use oracle::sheets::syntax as sheet;
 use oracle::judges::substitution::{substitute, Rule};
 use oracle::judges::node_limits;
@@ -44,6 +48,18 @@ pub fn answers(bytes: &[u8], nodes: Nodes) -> Result<[Vec<String>; 2], reader::R
     let blocks = sheet.blocks.iter().map(|block| block_answer(&disasm, *block)).collect();
     let nodes = sheet.nodes.iter().map(|node| node_answer(node, nodes)).collect();
     Ok([blocks, nodes])
+}
+
+/// The source's own entry on a whole sheet: how many branches it finds, or
+/// nothing where it was not run to its end.
+#[cfg(product)]
+pub fn branches(sheet: &sheet::Sheet) -> Option<usize> {
+    let disasm = Disasm { instructions: sheet.instructions.iter().map(instruction).collect() };
+    let blocks = sheet.blocks.iter().map(|block| Block { from: block.from, to: block.to });
+    let graph = ProcedureCfg { blocks: blocks.collect() };
+    let mut builder = Builder { effects: None };
+    let stages = Stages { medium: sheet.nodes.iter().map(|node| builder.node(node)).collect() };
+    guard::limited(|| opaque::opaque_predicates(&disasm, &graph, Some(&stages)).len())
 }
 
 fn answer(always: bool, reason: u8) -> String {
@@ -192,6 +208,18 @@ struct Builder {
 }
 
 impl Builder {
+    #[cfg(product)]
+    fn node(&mut self, node: &sheet::Node) -> Node {
+        let statements = node.statements.iter();
+        Node {
+            statements: statements.map(|s| Statement { node: self.statement(s, true) }).collect(),
+            terminator: Terminator::Branch {
+                cond: self.expression(&node.condition),
+                addresses: node.addresses.clone(),
+            },
+        }
+    }
+
     /// An assignment that is not to be held gets a value that the source
     /// does not hold.
     fn statement(&mut self, statement: &sheet::Statement, held: bool) -> AstNode {

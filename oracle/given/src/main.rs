@@ -15,6 +15,8 @@ mod cpu_context {
 #[cfg(given_source)]
 mod engine;
 #[cfg(all(given_source, product))]
+mod bench;
+#[cfg(all(given_source, product))]
 mod fuzz;
 #[cfg(given_source)]
 mod guard;
@@ -33,6 +35,8 @@ mod opaque {
         decide(&with_assignments(statements, condition))
     }
 }
+#[cfg(all(given_source, product))]
+mod product;
 #[cfg(given_source)]
 mod stand_ins;
 #[cfg(all(test, given_source))]
@@ -45,10 +49,12 @@ use std::process::ExitCode;
 
 const USAGE: &str = "usage: given [--differences]
        given fuzz SECONDS SEED
+       given bench PLOT
 Frames for the verdicts on blocks are read from standard input.
 --differences judges nodes with the entries of docs/DIFFERENCES.md and with the
-refusals 10 and 11. fuzz compares the product's C exports with these answers; it
-is there where the build was told the product's folder.";
+refusals 10 and 11. fuzz compares the product's C exports with these answers, and
+bench times both on the same sheets and writes a plot; they are there where the
+build was told the product's folder.";
 
 fn main() -> ExitCode {
     let args: Vec<String> = std::env::args().skip(1).collect();
@@ -57,6 +63,7 @@ fn main() -> ExitCode {
         [] => run(false),
         ["--differences"] => run(true),
         ["fuzz", seconds, seed] => fuzzed(seconds, seed),
+        ["bench", plot] => timed(plot),
         _ => Err(io::Error::other(USAGE)),
     };
     match outcome {
@@ -77,9 +84,22 @@ fn fuzzed(seconds: &str, seed: &str) -> io::Result<()> {
     }
 }
 
+#[cfg(all(given_source, product))]
+fn timed(plot: &str) -> io::Result<()> {
+    bench::run(plot)
+}
+
+#[cfg(not(all(given_source, product)))]
+const NO_PRODUCT: &str = "this build has no product or no source to compare with";
+
 #[cfg(not(all(given_source, product)))]
 fn fuzzed(_seconds: &str, _seed: &str) -> io::Result<()> {
-    Err(io::Error::other("this build has no product or no source to compare with"))
+    Err(io::Error::other(NO_PRODUCT))
+}
+
+#[cfg(not(all(given_source, product)))]
+fn timed(_plot: &str) -> io::Result<()> {
+    Err(io::Error::other(NO_PRODUCT))
 }
 
 #[cfg(given_source)]

@@ -5,10 +5,10 @@
 
 mod changes;
 mod coverage;
-mod product;
 
 use crate::engine::{self, Nodes};
 use crate::guard;
+use crate::product::{self, Answer, Product};
 use changes::Kept;
 use coverage::Coverage;
 use oracle::cases::random::Random;
@@ -16,7 +16,6 @@ use oracle::cases::{block_sheet, damaged_sheet};
 use oracle::judges::evaluator;
 use oracle::judges::listing::{due, Due, LINE};
 use oracle::judges::reader::Refusal;
-use product::{Answer, Product};
 use std::io;
 use std::time::{Duration, Instant};
 

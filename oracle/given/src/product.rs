@@ -40,7 +40,7 @@ const ANONYMOUS: c_int = 0x20;
 const PAGE: usize = 4096;
 
 /// Bytes of each room, enough for every sheet and list that is tried.
-const ROOM: usize = 16 * PAGE;
+const ROOM: usize = 256 * PAGE;
 
 /// What stands in the list before a call.
 pub const FILL: u8 = 0xA5;
@@ -102,6 +102,16 @@ impl Product {
         let number = unsafe { pomthija_listing(at, sheet.len(), list, room, &mut out) };
         let after = unsafe { std::slice::from_raw_parts(list, room) }.to_vec();
         (Answer { number, out }, after)
+    }
+
+    /// The answer alone, where a call is to be timed: the list is what the
+    /// call before it left.
+    pub fn call(&mut self, sheet: &[u8], room: usize) -> Answer {
+        let list = unsafe { self.other.start.add(ROOM - room) };
+        let mut out = u64::MAX;
+        let number =
+            unsafe { pomthija_listing(sheet.as_ptr(), sheet.len(), list, room, &mut out) };
+        Answer { number, out }
     }
 
     pub fn evaluation(&mut self, sheet: &[u8], node: u32, values: &[u64]) -> Answer {
