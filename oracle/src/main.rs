@@ -1,8 +1,8 @@
 //! The commands. README.md has an example of each.
 
 use oracle::comparisons::frames::{self, Question};
-use oracle::comparisons::{evaluations, processor, reading, times, verdicts};
-use oracle::judges::{evaluator, reader};
+use oracle::comparisons::{evaluations, nodes, processor, reading, runs, times, verdicts};
+use oracle::judges::{evaluator, node_verdict, reader};
 use oracle::sheets::{from_text, to_text, words};
 use oracle::stored;
 use std::io::{self, BufReader, BufWriter, Read, Write};
@@ -13,14 +13,19 @@ const USAGE: &str = "usage:
   oracle fields TEXT               the start and name of each field
   oracle dump SHEET                sheet bytes to text, or the refusal
   oracle read SHEET                the reader's answer in one line
-  oracle answer                    answers frames of reading and of evaluation
+  oracle answer                    answers frames, but for those of blocks
   oracle compare --program PATH [--sheets N] [--seed S]
   oracle compare --stub [--sheets N] [--seed S]
   oracle bench [--program PATH] [--save SHEET]
   oracle stored FRAMES LINES --given PATH
                                    the stored cases, and the lines due
-  oracle verdicts --program PATH --given PATH [--sheets N] [--seed S] [--blocks-only]
-  oracle verdicts --stub --given PATH [--sheets N] [--seed S] [--blocks-only]
+  oracle verdicts --program PATH --given PATH [--sheets N] [--seed S]
+  oracle verdicts --stub --given PATH [--sheets N] [--seed S]
+  oracle nodes --program PATH --given PATH [--nodes N] [--seed S] [--smallest]
+  oracle nodes --stub --given PATH [--nodes N] [--seed S] [--smallest]
+  oracle runs --program PATH [--runs N] [--seed S]
+  oracle runs --stub [--runs N] [--seed S]
+  oracle runs --given PATH [--runs N] [--seed S]
   oracle processor --program PATH [--runs N] [--seed S]
   oracle evaluations --program PATH [--cases N] [--seed S]
   oracle evaluations --stub [--cases N] [--seed S]
@@ -53,6 +58,8 @@ fn command(args: &[String]) -> Outcome {
         ["processor", options @ ..] => judge_by_processor(&Options::parse(options)?),
         ["stored", frames, lines, options @ ..] => store(frames, lines, &Options::parse(options)?),
         ["verdicts", options @ ..] => compare_verdicts(&Options::parse(options)?),
+        ["nodes", options @ ..] => compare_nodes(&Options::parse(options)?),
+        ["runs", options @ ..] => judge_by_runs(&Options::parse(options)?),
         ["evaluations", options @ ..] => compare_evaluations(&Options::parse(options)?),
         _ => Err(USAGE.to_string()),
     }
@@ -63,8 +70,9 @@ struct Options {
     program: Option<String>,
     given: Option<String>,
     stub: bool,
-    blocks_only: bool,
+    smallest: bool,
     sheets: Option<u64>,
+    nodes: Option<u64>,
     runs: Option<u64>,
     cases: Option<u64>,
     seed: Option<u64>,
@@ -78,7 +86,7 @@ impl Options {
         while let Some(word) = words.next() {
             let plain = match *word {
                 "--stub" => Some(&mut options.stub),
-                "--blocks-only" => Some(&mut options.blocks_only),
+                "--smallest" => Some(&mut options.smallest),
                 _ => None,
             };
             if let Some(plain) = plain {
@@ -92,6 +100,7 @@ impl Options {
                 "--given" => options.given = Some(value.to_string()),
                 "--save" => options.save = Some(value.to_string()),
                 "--sheets" => options.sheets = Some(number()?),
+                "--nodes" => options.nodes = Some(number()?),
                 "--runs" => options.runs = Some(number()?),
                 "--cases" => options.cases = Some(number()?),
                 "--seed" => options.seed = Some(number()?),
@@ -169,6 +178,7 @@ fn answer() -> Outcome {
     let line = |question: &Question| match question {
         Question::Reading(sheet) => Ok(reader::line(&reader::read(sheet))),
         Question::Blocks(_) => Err(io::Error::other("the given source answers this")),
+        Question::Nodes(sheet) => Ok(node_verdict::line(sheet)),
         Question::Evaluation { sheet, node, sets } => {
             Ok(evaluator::evaluations(sheet, *node, sets))
         }
@@ -189,21 +199,47 @@ fn compare_verdicts(options: &Options) -> Outcome {
     let Some(given) = &options.given else {
         return Err(format!("verdicts needs --given\n{USAGE}"));
     };
-    // The driver with the differences stands in for a program of ours.
     let program = match &options.program {
-        _ if options.stub => vec![given.clone(), "--differences".to_string()],
-        Some(path) => vec![path.clone()],
+        _ if options.stub => given,
+        Some(path) => path,
         None => return Err(format!("verdicts needs --program or --stub\n{USAGE}")),
     };
     let job = verdicts::Job {
-        program: &program,
+        program: std::slice::from_ref(program),
         given: std::slice::from_ref(given),
         sheets: options.sheets.unwrap_or(10_000),
         seed: options.seed.unwrap_or(1),
-        blocks_only: options.blocks_only,
+    };
+    let programs = format!("{program} or {given}");
+    verdicts::compare(&job).map_err(|error| format!("{programs}: {error}"))
+}
+
+fn compare_nodes(options: &Options) -> Outcome {
+    let (Some(given), Some(program)) = (&options.given, options.command()?) else {
+        return Err(format!("nodes needs --given, and --program or --stub\n{USAGE}"));
+    };
+    let job = nodes::Job {
+        program: &program,
+        given: std::slice::from_ref(given),
+        nodes: options.nodes.unwrap_or(20_000),
+        seed: options.seed.unwrap_or(1),
+        smallest: options.smallest,
     };
     let programs = format!("{} or {given}", program[0]);
-    verdicts::compare(&job).map_err(|error| format!("{programs}: {error}"))
+    nodes::compare(&job).map_err(|error| format!("{programs}: {error}"))
+}
+
+/// The given source's verdicts are judged as they are: what docs/DIFFERENCES.md
+/// says must be found.
+fn judge_by_runs(options: &Options) -> Outcome {
+    let (program, verdicts) = match (options.command()?, &options.given) {
+        (Some(program), None) => (program, runs::Verdicts::OfAProgram),
+        (None, Some(given)) => (vec![given.clone()], runs::Verdicts::GivenAsTheyAre),
+        _ => return Err(format!("runs needs --program, --stub or --given\n{USAGE}")),
+    };
+    let amounts = [options.runs.unwrap_or(200_000), options.seed.unwrap_or(1)];
+    let judged = runs::judge(&program, verdicts, amounts);
+    judged.map_err(|error| format!("{}: {error}", program[0]))
 }
 
 fn judge_by_processor(options: &Options) -> Outcome {

@@ -50,7 +50,7 @@ use std::process::ExitCode;
 const USAGE: &str = "usage: given [--differences]
        given fuzz SECONDS SEED
        given bench PLOT
-Frames for the verdicts on blocks are read from standard input.
+Frames for the verdicts on blocks and on nodes are read from standard input.
 --differences judges nodes with the entries of docs/DIFFERENCES.md and with the
 refusals 10 and 11. fuzz compares the product's C exports with these answers, and
 bench times both on the same sheets and writes a plot; they are there where the
@@ -112,6 +112,7 @@ fn run(differences: bool) -> io::Result<()> {
     let mut output = io::BufWriter::new(io::stdout());
     oracle::comparisons::frames::serve(&mut input, &mut output, |question| match question {
         Question::Blocks(sheet) => Ok(engine::line(sheet, nodes)),
+        Question::Nodes(sheet) => Ok(engine::node_line(sheet, nodes)),
         _ => Err(io::Error::other("the given source judges blocks and nodes alone")),
     })
 }

@@ -4,5 +4,6 @@ pub mod any_sheet;
 pub mod block_sheet;
 pub mod damaged_sheet;
 pub mod evaluation_node;
+pub mod limit_node;
 pub mod random;
 pub mod verdict_node;

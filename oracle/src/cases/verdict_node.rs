@@ -3,6 +3,7 @@
 //! them.
 
 use crate::cases::any_sheet::{Generator, SMALL};
+use crate::cases::limit_node::{long_node, wide_node};
 use crate::judges::substitution::{substitute, Rule};
 use crate::sheets::names::operator::{self, *};
 use crate::sheets::names::value_type::{self, S32, S64, U32, U64, U8};
@@ -11,12 +12,18 @@ use crate::sheets::types;
 
 const MOST_RECORDS: usize = 120;
 
+/// Node number `index` of the run with this seed.
+pub fn numbered(seed: u64, index: u64) -> Node {
+    node(&mut Generator::new(seed, index, 0))
+}
+
 pub fn node(generator: &mut Generator) -> Node {
-    if generator.random.once_in(10) {
-        return generator.node(SMALL, &[]);
-    }
-    if generator.random.once_in(600) {
-        return wide_node(generator);
+    match generator.random.below(200) {
+        0..=19 => return generator.node(SMALL, &[]),
+        20 | 21 => return wide_node(generator),
+        22..=26 => return long_node(generator),
+        27..=60 => return chain(generator),
+        _ => {}
     }
     let count = 1 + generator.random.below(3);
     let mut variables: Vec<u8> = vec![generator.random.pick(&[U32, U32, U64, U8, S32, S64]); count];
@@ -28,12 +35,39 @@ pub fn node(generator: &mut Generator) -> Node {
     let mut writer = Writer { generator, variables };
     let count = writer.below(5);
     let statements = (0..count).map(|_| writer.statement()).collect();
-    let mut node = Node { statements, ..Default::default() };
-    node.condition = match writer.below(6) {
+    let condition = match writer.below(6) {
         0 => writer.limited(|writer| writer.value(2)),
+        1 => writer.limited(|writer| writer.condition(4)),
         _ => writer.limited(|writer| writer.condition(2)),
     };
-    node.variables = writer.variables;
+    let variables = writer.variables;
+    let mut node = Node { variables, statements, condition, addresses: Vec::new() };
+    if generator.random.once_in(4) {
+        echo(generator, &mut node);
+    }
+    node
+}
+
+/// Assignments that read each other and themselves, over variables of one type
+/// or of the two that count as one.
+fn chain(generator: &mut Generator) -> Node {
+    let count = 2 + generator.random.below(3);
+    let code = generator.random.pick(&[U32, U32, U64]);
+    let mut variables = vec![code; count];
+    if code == U64 {
+        variables[0] = value_type::POINTER;
+    }
+    let many = generator.random.once_in(20);
+    let statements = 2 + generator.random.below(if many { 63 } else { 6 });
+    let mut writer = Writer { generator, variables };
+    let statements = (0..statements).map(|_| writer.link()).collect();
+    let condition = match writer.below(4) {
+        0 => writer.limited(|writer| writer.condition(1)),
+        1 => join(writer.link_value(), EQUAL, writer.link_value()),
+        _ => join(writer.leaf(), EQUAL, writer.leaf()),
+    };
+    let variables = writer.variables;
+    let mut node = Node { variables, statements, condition, addresses: Vec::new() };
     if generator.random.once_in(4) {
         echo(generator, &mut node);
     }
@@ -54,47 +88,6 @@ fn echo(generator: &mut Generator, node: &mut Node) {
         let operator = generator.random.pick(&[EQUAL, NOT_EQUAL]);
         node.condition = join(node.condition.clone(), operator, other);
     }
-}
-
-/// Lengths of sums whose products come near the limits on terms.
-const FACTORS: [&[u8]; 8] = [
-    &[2, 2, 2, 2, 2, 2, 2, 2],
-    &[2, 2, 2, 2, 2, 2, 2, 2, 2],
-    &[16, 16],
-    &[16, 17],
-    &[3, 5, 17],
-    &[3, 3, 3, 3, 3, 3],
-    &[4, 4, 4, 3],
-    &[4, 4, 4, 4],
-];
-
-/// A product of sums over many variables.
-fn wide_node(generator: &mut Generator) -> Node {
-    let mut next = 0;
-    let mut sum = |terms: u8| {
-        let mut all = vec![Record::Variable(next % 32)];
-        for _ in 1..terms {
-            next += 1;
-            all = join(all, ADD, vec![Record::Variable(next % 32)]);
-        }
-        next += 1;
-        all
-    };
-    let sizes = generator.random.pick(&FACTORS);
-    let operator = generator.random.pick(&[MUL, AND, OR]);
-    let mut side = sum(sizes[0]);
-    for terms in &sizes[1..] {
-        side = join(side, operator, sum(*terms));
-    }
-    if generator.random.once_in(3) {
-        side = inside(side, Record::Cast(generator.random.below(value_type::COUNT.into()) as u8));
-    }
-    let low = Record::Constant { width: 4, value: 1 };
-    if generator.random.once_in(2) {
-        side = join(side, AND, vec![low]);
-    }
-    let condition = join(side, EQUAL, vec![low]);
-    Node { variables: vec![U32; 32], condition, ..Default::default() }
 }
 
 struct Writer<'a> {
@@ -128,6 +121,41 @@ impl Writer<'_> {
             value.push(Record::Cast(declared));
         }
         Statement::Assign { variable, value }
+    }
+
+    /// An assignment of a chain.
+    fn link(&mut self) -> Statement {
+        if self.below(40) == 0 {
+            return Statement::Other;
+        }
+        let variable = self.below(self.variables.len()) as u8;
+        let declared = self.variables[variable as usize];
+        let mut value = match self.below(8) {
+            0..=2 => vec![Record::Variable(self.below(self.variables.len()) as u8)],
+            // Itself and something odd or even.
+            3 | 4 => {
+                let operator = self.generator.random.pick(&[ADD, SUB, XOR, OR, MUL]);
+                let parts = [self.link_value(), self.even(1), self.one()];
+                join(vec![Record::Variable(variable)], operator, {
+                    let choice = self.below(3);
+                    parts[choice].clone()
+                })
+            }
+            _ => self.link_value(),
+        };
+        let found = types::of_expression(&value, &self.variables);
+        if found.is_none_or(|found| types::plain(found) != types::plain(declared)) {
+            value.push(Record::Cast(declared));
+        }
+        Statement::Assign { variable, value }
+    }
+
+    /// One operator on two leaves, at times with an odd part.
+    fn link_value(&mut self) -> Expression {
+        let operator = self.generator.random.pick(&[ADD, SUB, MUL, AND, OR, XOR]);
+        let odd = self.below(3) == 0;
+        let right = if odd { join(self.leaf(), OR, self.one()) } else { self.leaf() };
+        join(self.leaf(), operator, right)
     }
 
     fn condition(&mut self, depth: usize) -> Expression {

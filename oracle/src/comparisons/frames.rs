@@ -12,6 +12,7 @@ pub enum Operation {
     Reading = 0,
     Blocks = 1,
     Evaluation = 2,
+    Nodes = 3,
 }
 
 /// The content of a frame.
@@ -20,6 +21,7 @@ pub enum Question {
     Reading(Vec<u8>),
     Blocks(Vec<u8>),
     Evaluation { sheet: Vec<u8>, node: u32, sets: Vec<Vec<u64>> },
+    Nodes(Vec<u8>),
 }
 
 fn put(out: &mut Vec<u8>, operation: Operation, parts: &[&[u8]]) {
@@ -37,6 +39,11 @@ pub fn ask_reading(out: &mut Vec<u8>, sheet: &[u8]) {
 /// Appends the question for the verdicts on all of a sheet's blocks.
 pub fn ask_blocks(out: &mut Vec<u8>, sheet: &[u8]) {
     put(out, Operation::Blocks, &[sheet]);
+}
+
+/// Appends the question for the verdicts on all of a sheet's nodes.
+pub fn ask_nodes(out: &mut Vec<u8>, sheet: &[u8]) {
+    put(out, Operation::Nodes, &[sheet]);
 }
 
 /// Appends the question for a node's evaluation on each set of values. All sets
@@ -98,6 +105,7 @@ fn question(frame: &[u8]) -> io::Result<Question> {
             let sets = (0..count).map(|_| set()).collect::<io::Result<_>>()?;
             Ok(Question::Evaluation { sheet, node, sets })
         }
+        3 => Ok(Question::Nodes(rest.0.to_vec())),
         _ => Err(io::Error::other("a frame names no operation")),
     }
 }

@@ -2,7 +2,10 @@
 
 pub mod evaluations;
 pub mod frames;
+pub mod nodes;
 pub mod processor;
 pub mod reading;
+pub mod runs;
+pub mod smaller;
 pub mod times;
 pub mod verdicts;

@@ -1,16 +1,10 @@
 //! The comparison of a test program with the given source: both answer the
-//! same sheets, and their answers are compared block by block and node by
-//! node.
+//! same sheets, and their answers are compared block by block.
 //!
-//! A line is `blocks`, an answer for each block, `nodes`, an answer for each
-//! node; or the refusal. Answers are `n` (no branch at the block's end), `u`
-//! (undecided), `a` or `v` with the reason's number (always, never), and for
-//! nodes `r10` and `r11` (refused), and `-` where the given source was not
-//! run to its end.
-//!
-//! For nodes the given source answers twice: as it is, and with the entries
-//! of docs/DIFFERENCES.md and the refusals that it does not have. The second
-//! answers are the ones due; where they are not the first, that is counted.
+//! A line is `blocks` and an answer for each block, or the refusal. Answers are
+//! `n` (no branch at the block's end), `u` (undecided), `a` or `v` with the
+//! reason's number (always, never). In answers on nodes there are also `r10`
+//! and `r11` (refused), and `-` where the given source was not run to its end.
 
 use crate::cases::block_sheet;
 use crate::comparisons::frames::{ask_blocks, run};
@@ -34,7 +28,6 @@ pub struct Job<'a> {
     pub given: &'a [String],
     pub sheets: u64,
     pub seed: u64,
-    pub blocks_only: bool,
 }
 
 /// A program's line taken apart.
@@ -50,32 +43,23 @@ impl Line {
         if line.starts_with("refused ") {
             return Line::Refused(line.to_string());
         }
-        let mut words = line.split(' ');
-        if words.next() != Some("blocks") {
-            return Line::Unclear;
-        }
-        let words: Vec<String> = words.map(str::to_string).collect();
+        let words: Vec<String> = line.split(' ').map(str::to_string).collect();
         let mut parts = words.split(|word| word == "nodes");
-        let [blocks, nodes] = [(); 2].map(|()| parts.next().unwrap_or(&[]).to_vec());
+        let blocks = match parts.next() {
+            Some([]) => Vec::new(),
+            Some([first, answers @ ..]) if first == "blocks" => answers.to_vec(),
+            _ => return Line::Unclear,
+        };
+        let nodes = parts.next().unwrap_or(&[]).to_vec();
         if parts.next().is_some() {
             return Line::Unclear;
         }
         Line::Answers { blocks, nodes }
     }
-
-    /// The answers for blocks and nodes, if they are as many as these.
-    fn complete(self, counts: [usize; 2]) -> Option<[Vec<String>; 2]> {
-        match self {
-            Line::Answers { blocks, nodes } if [blocks.len(), nodes.len()] == counts => {
-                Some([blocks, nodes])
-            }
-            _ => None,
-        }
-    }
 }
 
 /// An answer in words, for the counts.
-fn named(answer: &str) -> String {
+pub fn named(answer: &str) -> String {
     let (verdict, reason) = answer.split_at(answer.len().min(1));
     match verdict {
         "a" => format!("always {reason}"),
@@ -89,13 +73,9 @@ fn named(answer: &str) -> String {
 
 #[derive(Default)]
 struct Tally {
-    blocks: BTreeMap<String, u64>,
-    nodes: BTreeMap<String, u64>,
+    answers: BTreeMap<String, u64>,
     refused: u64,
-    compared: [u64; 2],
-    /// Nodes for which another answer is due than the given source's.
-    excused: u64,
-    limited: u64,
+    compared: u64,
     differences: u64,
 }
 
@@ -112,18 +92,11 @@ impl Tally {
     }
 
     fn print(&self) {
-        for (what, counts) in [("blocks", &self.blocks), ("nodes", &self.nodes)] {
-            for (answer, count) in counts {
-                println!("{what} {answer}: {count}");
-            }
+        for (answer, count) in &self.answers {
+            println!("blocks {answer}: {count}");
         }
         println!("sheets refused: {}", self.refused);
-        if self.compared[1] > 0 {
-            println!("nodes that differ as docs/DIFFERENCES.md says: {}", self.excused);
-            println!("nodes refused for their size: {}", self.limited);
-        }
-        let [blocks, nodes] = self.compared;
-        println!("compared {blocks} blocks, {nodes} nodes, differences {}", self.differences);
+        println!("compared {} blocks, differences {}", self.compared, self.differences);
     }
 }
 
@@ -133,9 +106,8 @@ pub fn compare(job: &Job) -> io::Result<bool> {
     let mut first = 0;
     while first < job.sheets {
         let end = job.sheets.min(first + BATCH);
-        let sheets: Vec<Vec<u8>> = (first..end)
-            .map(|index| block_sheet::sheet(job.seed, index, !job.blocks_only))
-            .collect();
+        let sheets: Vec<Vec<u8>> =
+            (first..end).map(|index| block_sheet::sheet(job.seed, index, false)).collect();
         if !batch(job, first, &sheets, &mut tally)? {
             println!("{ABSENT}");
             return Ok(true);
@@ -152,24 +124,13 @@ fn answers(program: &[String], sheets: &[Vec<u8>]) -> io::Result<Vec<String>> {
     run(program, input)
 }
 
-/// The answers due on nodes; for blocks alone the driver is not asked again.
-fn due_answers(job: &Job, sheets: &[Vec<u8>], given: &[String]) -> io::Result<Vec<String>> {
-    if job.blocks_only {
-        return Ok(given.to_vec());
-    }
-    let mut command = job.given.to_vec();
-    command.push("--differences".to_string());
-    answers(&command, sheets)
-}
-
 /// False if the source is absent.
 fn batch(job: &Job, first: u64, sheets: &[Vec<u8>], tally: &mut Tally) -> io::Result<bool> {
     let given = answers(job.given, sheets)?;
     if given.first().is_some_and(|line| line == ABSENT) {
         return Ok(false);
     }
-    let due = due_answers(job, sheets, &given)?;
-    if [given.len(), due.len()] != [sheets.len(); 2] {
+    if given.len() != sheets.len() {
         return Err(io::Error::other("the given source's driver did not answer every sheet"));
     }
     let program = answers(job.program, sheets)?;
@@ -179,62 +140,45 @@ fn batch(job: &Job, first: u64, sheets: &[Vec<u8>], tally: &mut Tally) -> io::Re
     }
     for (number, sheet) in sheets.iter().enumerate() {
         let found = program.get(number).map_or("no line", String::as_str);
-        let lines = [given[number].as_str(), due[number].as_str(), found];
-        compare_sheet(job, first + number as u64, sheet, lines, tally)?;
+        compare_sheet(first + number as u64, sheet, [&given[number], found], tally)?;
     }
     Ok(true)
 }
 
-/// The lines are those of the given source, the one due, and the program's.
-fn compare_sheet(
-    job: &Job,
-    index: u64,
-    sheet: &[u8],
-    lines: [&str; 3],
-    tally: &mut Tally,
-) -> io::Result<()> {
+/// The lines are those of the given source and of the program.
+fn compare_sheet(index: u64, sheet: &[u8], lines: [&str; 2], tally: &mut Tally) -> io::Result<()> {
     let Ok(accepted) = read(sheet) else {
         tally.refused += 1;
-        if lines[0] != lines[2] {
-            tally.difference(index, "a refused sheet", [lines[0], lines[2]], &to_text::dump(sheet));
+        if lines[0] != lines[1] {
+            tally.difference(index, "a refused sheet", lines, &to_text::dump(sheet));
         }
         return Ok(());
     };
-    let [given, due, found] = lines.map(Line::parse);
-    let counts = [accepted.sheet.blocks.len(), accepted.sheet.nodes.len()];
-    let (Some(given), Some(due)) = (given.complete(counts), due.complete(counts)) else {
-        return Err(io::Error::other("the given source's driver did not answer in full"));
+    let due = match Line::parse(lines[0]) {
+        Line::Answers { blocks, .. } if blocks.len() == accepted.sheet.blocks.len() => blocks,
+        _ => return Err(io::Error::other("the given source's driver did not answer in full")),
     };
-    let Line::Answers { blocks, nodes } = found else {
-        let pair = [lines[0], lines[2]];
-        tally.difference(index, "the whole line", pair, &to_text::dump(sheet));
+    let Line::Answers { blocks: found, .. } = Line::parse(lines[1]) else {
+        tally.difference(index, "the whole line", lines, &to_text::dump(sheet));
         return Ok(());
     };
-    compare_blocks(&accepted.sheet, index, [&given[0], &blocks], tally);
-    if !job.blocks_only {
-        compare_nodes(&accepted.sheet, index, [&given[1], &due[1], &nodes], tally);
-    }
+    compare_blocks(&accepted.sheet, index, [&due, &found], tally);
     Ok(())
 }
 
 fn compare_blocks(sheet: &Sheet, index: u64, lists: [&[String]; 2], tally: &mut Tally) {
     for (number, block) in sheet.blocks.iter().enumerate() {
         let pair = lists.map(|list| list.get(number).map_or("no answer", String::as_str));
-        tally.compared[0] += 1;
-        *tally.blocks.entry(named(pair[0])).or_default() += 1;
+        tally.compared += 1;
+        *tally.answers.entry(named(pair[0])).or_default() += 1;
         if pair[0] != pair[1] {
             let text = to_text::text(&alone(sheet, *block));
             tally.difference(index, &format!("block {number}"), pair, &text);
         }
     }
-    too_many(index, "blocks", lists, sheet.blocks.len(), tally);
-}
-
-fn too_many(index: u64, what: &str, lists: [&[String]; 2], due: usize, tally: &mut Tally) {
-    let counts = lists.map(<[String]>::len);
-    if counts.iter().any(|count| *count > due) {
-        let words = counts.map(|count| format!("{count} answers for {due} {what}"));
-        tally.difference(index, what, [&words[0], &words[1]], "");
+    let counts = lists.map(|list| format!("{} answers", list.len()));
+    if lists[1].len() > lists[0].len() {
+        tally.difference(index, "the number of blocks", [&counts[0], &counts[1]], "");
     }
 }
 
@@ -243,29 +187,4 @@ pub fn alone(sheet: &Sheet, block: Block) -> Sheet {
     let inside = |address: u64| block.from <= address && address < block.to;
     let chosen = sheet.instructions.iter().filter(|insn| inside(insn.address));
     Sheet { instructions: chosen.cloned().collect(), blocks: vec![block], nodes: Vec::new() }
-}
-
-/// Answers of the given source, those due, and the program's.
-fn compare_nodes(sheet: &Sheet, index: u64, lists: [&[String]; 3], tally: &mut Tally) {
-    for (number, node) in sheet.nodes.iter().enumerate() {
-        let [given, due, found] =
-            lists.map(|list| list.get(number).map_or("no answer", String::as_str));
-        *tally.nodes.entry(named(due)).or_default() += 1;
-        if due == "-" {
-            continue;
-        }
-        tally.compared[1] += 1;
-        match due {
-            _ if due == given => {}
-            "r10" | "r11" => tally.limited += 1,
-            _ => tally.excused += 1,
-        }
-        if due != found {
-            let text = to_text::text(&Sheet { nodes: vec![node.clone()], ..Default::default() });
-            let both = format!("{due} (as it is: {given})");
-            tally.difference(index, &format!("node {number}"), [&both, found], &text);
-        }
-    }
-    let [_, due, found] = lists;
-    too_many(index, "nodes", [due, found], sheet.nodes.len(), tally);
 }

@@ -1,4 +1,6 @@
-//! The evaluation of a node on lent values, written from the value rules.
+//! The evaluation of a node on lent values, written from the value rules. What
+//! effects and loads yield comes from a source, so that `node_runs.rs` can run
+//! any node.
 //!
 //! A value is a whole number in the range of its type. Operators work on whole
 //! numbers, and their results are wrapped to their types.
@@ -17,62 +19,85 @@ pub struct DivisionByZero;
 
 pub type Value = Result<i128, DivisionByZero>;
 
-/// An expression as a tree; each part has its static type.
-struct Tree {
+/// Where the values of leaves and loads come from. A record is known by its
+/// number in the expression.
+pub trait Source {
+    fn variable(&self, number: u8) -> i128;
+    fn effect(&self, record: usize, code: u8) -> i128;
+    fn load(&self, record: usize, code: u8, address: i128) -> i128;
+}
+
+/// Values of variables alone: the evaluation refuses nodes that need more.
+impl Source for Vec<i128> {
+    fn variable(&self, number: u8) -> i128 {
+        self[number as usize]
+    }
+
+    fn effect(&self, _record: usize, _code: u8) -> i128 {
+        unreachable!("refused before the run")
+    }
+
+    fn load(&self, _record: usize, _code: u8, _address: i128) -> i128 {
+        unreachable!("refused before the run")
+    }
+}
+
+/// An expression as a tree; each part has its static type, and the number of
+/// its record.
+pub struct Tree {
     record: Record,
+    at: usize,
     code: u8,
     children: Vec<Tree>,
 }
 
 impl Tree {
     /// The tree of an accepted expression.
-    fn of(records: &[Record], variables: &[u8]) -> Tree {
+    pub fn of(records: &[Record], variables: &[u8]) -> Tree {
         let mut stack: Vec<Tree> = Vec::new();
-        for record in records {
+        for (at, record) in records.iter().enumerate() {
             let children = stack.split_off(stack.len() - record.children());
             let codes: Vec<u8> = children.iter().map(|child| child.code).collect();
             let code = types::of_record(*record, &codes, variables);
             let code = code.expect("an accepted expression has a type");
-            stack.push(Tree { record: *record, code, children });
+            stack.push(Tree { record: *record, at, code, children });
         }
         stack.pop().expect("an accepted expression is one tree")
     }
 
-    fn child_holds(&self, child: usize, variables: &[i128]) -> Result<bool, DivisionByZero> {
-        Ok(self.children[child].value(variables)? != 0)
+    fn child_holds(&self, child: usize, source: &impl Source) -> Result<bool, DivisionByZero> {
+        Ok(self.children[child].value(source)? != 0)
     }
 
-    fn value(&self, variables: &[i128]) -> Value {
+    pub fn value(&self, source: &impl Source) -> Value {
         let value = match self.record {
-            Record::Variable(number) => variables[number as usize],
+            Record::Variable(number) => source.variable(number),
             Record::Constant { value, .. } => i128::from(value),
             Record::True => 1,
             Record::False => 0,
-            Record::Cast(_) => self.children[0].value(variables)?,
+            Record::Cast(_) => self.children[0].value(source)?,
             Record::Binary(BOTH) => {
-                let both = self.child_holds(0, variables)? && self.child_holds(1, variables)?;
+                let both = self.child_holds(0, source)? && self.child_holds(1, source)?;
                 i128::from(both)
             }
             Record::Binary(EITHER) => {
-                let either = self.child_holds(0, variables)? || self.child_holds(1, variables)?;
+                let either = self.child_holds(0, source)? || self.child_holds(1, source)?;
                 i128::from(either)
             }
-            Record::Binary(operator) => self.binary(operator, variables)?,
-            Record::Ternary if self.child_holds(0, variables)? => {
-                self.children[1].value(variables)?
-            }
-            Record::Ternary => self.children[2].value(variables)?,
-            Record::Effect(_) | Record::Load(_) | Record::Unknown(_) => {
-                unreachable!("refused before the run")
-            }
+            Record::Binary(operator) => self.binary(operator, source)?,
+            Record::Ternary if self.child_holds(0, source)? => self.children[1].value(source)?,
+            Record::Ternary => self.children[2].value(source)?,
+            Record::Effect(code) => source.effect(self.at, code),
+            Record::Load(code) => source.load(self.at, code, self.children[0].value(source)?),
+            Record::Unknown(_) => unreachable!("an accepted record has a known kind"),
         };
         Ok(wrapped(value, self.code))
     }
 
     /// Operators that need both sides; the caller wraps the result.
-    fn binary(&self, operator: u8, variables: &[i128]) -> Value {
+    fn binary(&self, operator: u8, source: &impl Source) -> Value {
         let [a, b] = [&self.children[0], &self.children[1]];
-        let (x, y) = (a.value(variables)?, b.value(variables)?);
+        let (x, y) = (a.value(source)?, b.value(source)?);
         if operator == SHL || operator == SHR {
             // The count's value modulo the width is never negative.
             let left = types::promoted(a.code);

@@ -5,6 +5,8 @@ pub mod c_compiler;
 pub mod evaluator;
 pub mod listing;
 pub mod node_limits;
+pub mod node_runs;
+pub mod node_verdict;
 pub mod processor;
 pub mod reader;
 pub mod substitution;

@@ -25,10 +25,11 @@ pub fn refusal(node: &Node) -> Option<u8> {
 }
 
 /// A polynomial passed a limit.
-struct Passed;
+#[derive(Debug)]
+pub struct Passed;
 
 /// Terms are sets of atoms, as bits.
-type Poly = BTreeSet<u128>;
+pub type Poly = BTreeSet<u128>;
 
 /// Whether a limit is passed at an equality reached through logic alone.
 fn passes(condition: &[Record]) -> bool {
@@ -47,7 +48,7 @@ fn equality(left: &[Record], right: &[Record]) -> Result<(), Passed> {
     checked(sum).map(|_| ())
 }
 
-fn is_constant(records: &[Record], wanted: u64) -> bool {
+pub fn is_constant(records: &[Record], wanted: u64) -> bool {
     matches!(records, [Record::Constant { value, .. }] if *value == wanted)
 }
 
@@ -72,7 +73,7 @@ fn checked(poly: Poly) -> Result<Poly, Passed> {
 }
 
 /// The low bit of a part, and of each part that it enters on the way.
-fn parity<'a>(part: &'a [Record], atoms: &mut Vec<&'a [Record]>) -> Result<Poly, Passed> {
+pub fn parity<'a>(part: &'a [Record], atoms: &mut Vec<&'a [Record]>) -> Result<Poly, Passed> {
     let poly = match (part.last(), children(part).as_slice()) {
         (Some(Record::Constant { value, .. }), _) => constant(value % 2 == 1),
         (Some(Record::Cast(code)), [child]) if *code != BOOL => parity(child, atoms)?,
@@ -111,10 +112,13 @@ fn constant(odd: bool) -> Poly {
     }
 }
 
+pub fn has_effect(part: &[Record]) -> bool {
+    part.iter().any(|record| matches!(record, Record::Effect(_)))
+}
+
 /// Equal parts are one atom, except that each with an effect is its own.
 fn atom<'a>(part: &'a [Record], atoms: &mut Vec<&'a [Record]>) -> Poly {
-    let effect = part.iter().any(|record| matches!(record, Record::Effect(_)));
-    let known = if effect { None } else { atoms.iter().position(|other| *other == part) };
+    let known = if has_effect(part) { None } else { atoms.iter().position(|other| *other == part) };
     let number = known.unwrap_or_else(|| {
         atoms.push(part);
         atoms.len() - 1
@@ -145,7 +149,7 @@ fn times(left: &Poly, right: &Poly) -> Result<Poly, Passed> {
 }
 
 /// The parts under the last record, in order.
-fn children(records: &[Record]) -> Vec<&[Record]> {
+pub fn children(records: &[Record]) -> Vec<&[Record]> {
     let Some((last, mut before)) = records.split_last() else {
         return Vec::new();
     };

@@ -1,0 +1,269 @@
+//! The comparison of a test program's verdicts on nodes with those of the
+//! given source and with those of a judge written from the description alone.
+//!
+//! The given source answers twice: as it is, and with the entries of
+//! docs/DIFFERENCES.md and the refusals that it does not have. The second
+//! answers are the ones due, and the judge's must be the same. Where they are
+//! not the first, that is counted by class.
+
+use crate::cases::verdict_node;
+use crate::comparisons::frames::{ask_nodes, run};
+use crate::comparisons::smaller;
+use crate::comparisons::verdicts::{named, Line, ABSENT};
+use crate::judges::node_limits::{children, has_effect};
+use crate::judges::node_verdict::verdict;
+use crate::judges::substitution::{substitute, Rule};
+use crate::sheets::encode::encode;
+use crate::sheets::names::operator::*;
+use crate::sheets::syntax::{Node, Record, Sheet};
+use crate::sheets::to_text;
+use std::collections::BTreeMap;
+use std::io;
+
+/// Nodes for which one process of each program is started.
+const BATCH: u64 = 10_000;
+
+/// Nodes of a sheet.
+const NODES: usize = 4;
+
+/// Differences that are shown in full.
+const SHOWN: u64 = 10;
+
+pub struct Job<'a> {
+    pub program: &'a [String],
+    pub given: &'a [String],
+    pub nodes: u64,
+    pub seed: u64,
+    /// For each class of differences from the given source a smallest node.
+    pub smallest: bool,
+}
+
+/// The answer that was not given to the end, or not given at all.
+pub const OPEN: &str = "-";
+const MISSING: &str = "no answer";
+
+/// The entries of docs/DIFFERENCES.md, and none of them.
+#[derive(Clone, Copy, Debug, PartialEq, Eq, PartialOrd, Ord)]
+pub enum Entry {
+    First,
+    Second,
+    None,
+}
+
+impl Entry {
+    /// The entry that changes something in the verdict on a node.
+    pub fn of(node: &Node) -> Entry {
+        let condition = |rule: Rule| substitute(node, rule, LONGEST).map(|found| found.condition);
+        let ours = condition(Rule::Ours);
+        if condition(Rule::Given) != ours {
+            return Entry::First;
+        }
+        match ours {
+            Some(condition) if folds_an_effect(&condition) => Entry::Second,
+            _ => Entry::None,
+        }
+    }
+
+    fn name(self) -> &'static str {
+        match self {
+            Entry::First => "entry 1",
+            Entry::Second => "entry 2",
+            Entry::None => "no entry",
+        }
+    }
+}
+
+/// Records beyond which the given source's driver judges no node.
+const LONGEST: usize = 2_000;
+
+/// Whether a comparison reached through logic alone has equal sides with an
+/// effect in them.
+fn folds_an_effect(condition: &[Record]) -> bool {
+    match (condition.last(), children(condition).as_slice()) {
+        (Some(Record::Binary(BOTH | EITHER)), [left, right]) => {
+            folds_an_effect(left) || folds_an_effect(right)
+        }
+        (Some(Record::Binary(EQUAL..=GREATER_EQUAL)), [left, right]) => {
+            left == right && has_effect(left)
+        }
+        _ => false,
+    }
+}
+
+/// Nodes for which another answer is due than the given source's.
+#[derive(Clone, Debug, PartialEq, Eq, PartialOrd, Ord)]
+pub struct Class {
+    pub entry: Entry,
+    pub given: String,
+    pub due: String,
+}
+
+/// The class of a node, if its answers are not the same. Refusals have none:
+/// the given source refuses nothing.
+pub fn class(node: &Node, given: &str, due: &str) -> Option<Class> {
+    if given == due || [given, due].contains(&OPEN) || due.starts_with('r') {
+        return None;
+    }
+    Some(Class { entry: Entry::of(node), given: given.to_string(), due: due.to_string() })
+}
+
+#[derive(Default)]
+struct Tally {
+    answers: BTreeMap<String, u64>,
+    classes: BTreeMap<Class, (u64, Node)>,
+    compared: u64,
+    /// Nodes on which the given source was not run to its end, so that the
+    /// other judge alone says what is due.
+    open: u64,
+    differences: u64,
+}
+
+impl Tally {
+    fn difference(&mut self, node: &Node, answers: [&str; 4]) {
+        self.differences += 1;
+        if self.differences > SHOWN {
+            return;
+        }
+        let [given, due, judge, program] = answers;
+        println!("difference");
+        println!("  given source:                  {given}");
+        println!("  given source with differences: {due}");
+        println!("  judge from the description:    {judge}");
+        println!("  program:                       {program}");
+        text_of(node).lines().for_each(|line| println!("    {line}"));
+    }
+
+    /// Keeps the node if it is the shortest of its class.
+    fn note(&mut self, class: Class, node: &Node) {
+        let entry = self.classes.entry(class).or_insert_with(|| (0, node.clone()));
+        entry.0 += 1;
+        if size(node) < size(&entry.1) {
+            entry.1 = node.clone();
+        }
+    }
+
+    fn print(&self) {
+        for (answer, count) in &self.answers {
+            println!("{answer}: {count}");
+        }
+        for (Class { entry, given, due }, (count, _)) in &self.classes {
+            println!("{}, {given} becomes {due}: {count}", entry.name());
+        }
+        println!("not run to its end by the given source: {}", self.open);
+        println!("compared {} nodes, differences {}", self.compared, self.differences);
+    }
+}
+
+pub fn sheet_of(nodes: &[Node]) -> Vec<u8> {
+    encode(&Sheet { nodes: nodes.to_vec(), ..Default::default() }).bytes
+}
+
+pub fn size(node: &Node) -> usize {
+    sheet_of(std::slice::from_ref(node)).len()
+}
+
+pub fn text_of(node: &Node) -> String {
+    to_text::text(&Sheet { nodes: vec![node.clone()], ..Default::default() })
+}
+
+/// A program's answers on nodes, `NODES` of them in a sheet; nothing if it is
+/// the given source's driver without the source.
+pub fn answers(program: &[String], nodes: &[Node]) -> io::Result<Option<Vec<String>>> {
+    let mut input = Vec::new();
+    nodes.chunks(NODES).for_each(|part| ask_nodes(&mut input, &sheet_of(part)));
+    let lines = run(program, input)?;
+    if lines.first().is_some_and(|line| line == ABSENT) {
+        return Ok(None);
+    }
+    let mut all = Vec::new();
+    for (number, part) in nodes.chunks(NODES).enumerate() {
+        let line = lines.get(number).map_or("no line", String::as_str);
+        match Line::parse(line) {
+            Line::Answers { nodes, .. } if nodes.len() == part.len() => all.extend(nodes),
+            _ => return Err(io::Error::other(format!("'{line}' for {} nodes", part.len()))),
+        }
+    }
+    if lines.len() > nodes.chunks(NODES).len() {
+        return Err(io::Error::other("lines too many"));
+    }
+    Ok(Some(all))
+}
+
+/// The given source's answers, as it is and with the differences. As it is, it
+/// is not asked for nodes that are refused: it would take long on them.
+pub fn both(given: &[String], nodes: &[Node]) -> io::Result<Option<[Vec<String>; 2]>> {
+    let with_differences = [given, &["--differences".to_string()]].concat();
+    let Some(due) = answers(&with_differences, nodes)? else {
+        return Ok(None);
+    };
+    let judged = |number: &usize| !due[*number].starts_with('r');
+    let chosen: Vec<usize> = (0..nodes.len()).filter(judged).collect();
+    let asked: Vec<Node> = chosen.iter().map(|number| nodes[*number].clone()).collect();
+    let found = answers(given, &asked)?.unwrap_or_default();
+    let mut as_it_is = vec![OPEN.to_string(); nodes.len()];
+    for (number, answer) in chosen.into_iter().zip(found) {
+        as_it_is[number] = answer;
+    }
+    Ok(Some([as_it_is, due]))
+}
+
+/// Compares; true if there was no difference, or nothing to compare with.
+pub fn compare(job: &Job) -> io::Result<bool> {
+    let mut tally = Tally::default();
+    let mut first = 0;
+    while first < job.nodes {
+        let end = job.nodes.min(first + BATCH);
+        let nodes: Vec<Node> =
+            (first..end).map(|index| verdict_node::numbered(job.seed, index)).collect();
+        if !batch(job, &nodes, &mut tally)? {
+            println!("{ABSENT}");
+            return Ok(true);
+        }
+        first = end;
+    }
+    tally.print();
+    if job.smallest {
+        print_smallest(job.given, &tally)?;
+    }
+    Ok(tally.differences == 0)
+}
+
+/// False if the source is absent.
+fn batch(job: &Job, nodes: &[Node], tally: &mut Tally) -> io::Result<bool> {
+    let Some([given, due]) = both(job.given, nodes)? else {
+        return Ok(false);
+    };
+    let found = answers(job.program, nodes)?.unwrap_or_default();
+    for (number, node) in nodes.iter().enumerate() {
+        let program = found.get(number).map_or(MISSING, String::as_str);
+        compare_node(node, [&given[number], &due[number], program], tally);
+    }
+    Ok(true)
+}
+
+/// Answers of the given source, those due, and the program's.
+fn compare_node(node: &Node, [given, due, program]: [&str; 3], tally: &mut Tally) {
+    let judge = verdict(node).to_string();
+    *tally.answers.entry(named(&judge)).or_default() += 1;
+    tally.compared += 1;
+    let open = due == OPEN;
+    tally.open += u64::from(open);
+    let class = class(node, given, due);
+    let unexplained = class.as_ref().is_some_and(|class| class.entry == Entry::None);
+    if let Some(class) = class {
+        tally.note(class, node);
+    }
+    if unexplained || program != judge || (!open && program != due) {
+        tally.difference(node, [given, due, &judge, program]);
+    }
+}
+
+fn print_smallest(given: &[String], tally: &Tally) -> io::Result<()> {
+    for (class, (_, node)) in &tally.classes {
+        let node = smaller::smallest(given, class, node)?;
+        let Class { entry, given, due } = class;
+        println!("\n# {}, {given} becomes {due}, {} bytes", entry.name(), size(&node));
+        print!("{}", text_of(&node));
+    }
+    Ok(())
+}
