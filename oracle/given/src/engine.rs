@@ -62,14 +62,16 @@ pub fn branches(sheet: &sheet::Sheet) -> Option<usize> {
     guard::limited(|| opaque::opaque_predicates(&disasm, &graph, Some(&stages)).len())
 }
 
-/// The answers for a sheet's nodes alone.
+/// The answers for the nodes of a sheet alone.
 pub fn node_line(bytes: &[u8], nodes: Nodes) -> String {
-    let sheet = match reader::read(bytes) {
-        Ok(accepted) => accepted.sheet,
-        Err(refusal) => return refusal.to_string(),
-    };
-    let answer = |line: String, node: &sheet::Node| format!("{line} {}", node_answer(node, nodes));
-    sheet.nodes.iter().fold("nodes".to_string(), answer)
+    match reader::read(bytes) {
+        Ok(accepted) => accepted
+            .sheet
+            .nodes
+            .iter()
+            .fold("nodes".to_string(), |line, node| format!("{line} {}", node_answer(node, nodes))),
+        Err(refusal) => refusal.to_string(),
+    }
 }
 
 fn answer(always: bool, reason: u8) -> String {
