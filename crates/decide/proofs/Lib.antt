@@ -11,3 +11,4 @@ pub mod ExactValue
 pub mod Sound
 -- laws of the code's steps
 pub mod Steps
+pub mod Judged

@@ -20,7 +20,7 @@ use Rattle.decide.specs.declared.Decision.the-variants as decisions
 use Rattle.decide.specs.declared.Shape as Shape
 use Rattle.decide.specs.declared.Shape.the-variants.{LowLeft, LowRight, Even, Vanishes, Other}
 use Rattle.decide.specs.Exact as Exact
-use Rattle.decide.specs.Decide.{said, asked, onExact, both, either}
+use Rattle.decide.specs.Decide.{said, asked, orElse, onExact, both, either}
 
 -- room for the atoms and the terms of two sides of 128 records together, and for 4,096 products
 pub record Buffers (atoms terms scratch : List ℕ) : Type 0 where
@@ -88,6 +88,12 @@ abbrev pub partedFits : Parted.Parted → Bool
 partedFits parteds.Always = true
 partedFits parteds.Open = true
 partedFits parteds.TooMany = false
+
+-- == or != from the answers of its steps
+abbrev pub firstStep : Verdict → Bool → Known → Known → Bool → Parted.Parted → Decision.Decision
+firstStep same equal a b writtenBoth sides =
+    answered (partedFits sides && (knownFits a && knownFits b))
+    (orElse same (orElse (exactVerdict equal a b writtenBoth) (parityVerdict equal sides)))
 
 -- && where `and`, else ||, from the halves' answers
 abbrev pub halvesOf : Bool → Decision.Decision → Decision.Decision → Decision.Decision

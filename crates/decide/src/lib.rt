@@ -8,14 +8,16 @@ ghost use mathlib.Core.Path.{_≡_};
 ghost use mathlib.Core.Bool.{not, _&&_};
 ghost use mathlib.Core.List.{[]};
 ghost use Prim.Native.Nat.{_≤_};
+ghost use lib.Dec.{eqb};
 ghost use lib.ListN.{length};
+ghost use Rattle.expr.specs.Codes.{opEqual};
 ghost use Rattle.expr.specs.Tree.{Wf, treeOf};
 ghost use Rattle.expr.specs.Scan.{hasOwnValue, sameTree};
 ghost use Rattle.parity.specs.Parity.{parity as parityOf, difference};
 ghost use Rattle.decide.specs.Exact.{isConstant, low, shape, exact as exactOf, written as writtenOf, exactFits};
-ghost use Rattle.decide.specs.Decide.{isOne, said as saidOf, asked as askedOf, orElse, aboveZero, mirrored as mirroredOf, both as bothOf, either as eitherOf};
+ghost use Rattle.decide.specs.Decide.{isOne, said as saidOf, asked as askedOf, orElse, equalSides, equality as equalityOf, unsignedCast, aboveZero, mirrored as mirroredOf, unsignedZero, both as bothOf, either as eitherOf, decide as decideOf, equalityFits, fits};
 ghost use Rattle.parity.specs.Lent.{LentTwo};
-ghost use Rattle.decide.specs.Answers.{Buffers, shapeOf, known, castKnown, evenKnown, sumFits, parted, exactVerdict, parityVerdict, knownFits, partedFits, halvesOf};
+ghost use Rattle.decide.specs.Answers.{Buffers, shapeOf, known, castKnown, evenKnown, sumFits, parted, exactVerdict, answered, parityVerdict, knownFits, partedFits, firstStep, halvesOf};
 
 // A value that a side has, or that none is known, or that a part passes the limits.
 pub enum Known {
@@ -392,4 +394,145 @@ fn halves(and: bool, left: Decision, right: Decision) -> Decision
         },
         Decision::TooMany => Decision::TooMany,
     }
+}
+
+// A comparison of equal sides.
+fn equal_sides(operator: u64, left: &[u64], right: &[u64]) -> Verdict
+    requires { ⌜ Wf (now left) ⌝ }
+    requires { ⌜ Wf (now right) ⌝ }
+    ensures { λ r. ⌜ r ≡ equalSides operator (treeOf (now (left .entry))) (treeOf (now (right .entry))) ⌝ }
+{
+    if !same_sides(left, right) {
+        return Verdict::Undecided;
+    }
+    if (operator == expr::EQUAL)
+        | ((operator == expr::LESS_EQUAL) | (operator == expr::GREATER_EQUAL))
+    {
+        return Verdict::Always(Reason::EqualSides);
+    }
+    if (operator == expr::NOT_EQUAL) | ((operator == expr::LESS) | (operator == expr::GREATER)) {
+        return Verdict::Never(Reason::EqualSides);
+    }
+    Verdict::Undecided
+}
+
+// == or != from the answers of its steps: within the limits the first step that decides.
+fn first_step(
+    same: Verdict,
+    equal: bool,
+    a: Known,
+    b: Known,
+    as_written: bool,
+    sides: Parted,
+) -> Decision
+    ensures { λ r. ⌜ r ≡ firstStep same equal a b «as_written» sides ⌝ }
+{
+    if parted_fits(sides) & (known_fits(a) & known_fits(b)) {
+        let later = or_else(
+            exact_verdict(equal, a, b, as_written),
+            parity_verdict(equal, sides),
+        );
+        return Decision::Of(or_else(same, later));
+    }
+    Decision::TooMany
+}
+
+// == or !=: equal sides, exact sides, then parity.
+fn equality(
+    operator: u64,
+    whole: &[u64],
+    left: &[u64],
+    right: &[u64],
+    atoms: &mut [u64],
+    terms: &mut [u64],
+    scratch: &mut [u64],
+) -> Decision
+    requires { ⌜ LentTwo (now whole) 0 (now left) (now right) (now atoms) 0 (now terms) ⌝ }
+    requires { ⌜ Buffers (now atoms) (now terms) (now scratch) ⌝ }
+    ensures { λ r. ⌜ r ≡ answered (equalityFits (treeOf (now (left .entry))) (treeOf (now (right .entry)))) (orElse (equalSides operator (treeOf (now (left .entry))) (treeOf (now (right .entry)))) (equalityOf (eqb operator opEqual) (treeOf (now (left .entry))) (treeOf (now (right .entry))))) ⌝ }
+{
+    let same = equal_sides(operator, left, right);
+    let as_written = written(left) & written(right);
+    let sides = parted_sides(whole, left, right, atoms, terms, scratch);
+    let a = exact(left, atoms, terms, scratch);
+    let b = exact(right, atoms, terms, scratch);
+    first_step(same, operator == expr::EQUAL, a, b, as_written, sides)
+}
+
+// A cast to an unsigned type or to a pointer.
+fn unsigned_cast(rs: &[u64]) -> bool
+    requires { ⌜ Wf (now rs) ⌝ }
+    ensures { λ r. ⌜ r ≡ unsignedCast (treeOf (now (rs .entry))) ⌝ }
+{
+    let n = rs.len() - 2;
+    let tag = rs[n];
+    let t = expr::argument(tag);
+    (expr::kind(tag) == expr::CAST)
+        & ((t == expr::UNSIGNED_8)
+            | ((t == expr::UNSIGNED_16)
+                | ((t == expr::UNSIGNED_32) | ((t == expr::UNSIGNED_64) | (t == expr::POINTER)))))
+}
+
+// An unsigned or pointer cast against the constant 0, on either side.
+fn unsigned_zero(operator: u64, left: &[u64], right: &[u64]) -> Verdict
+    requires { ⌜ Wf (now left) ⌝ }
+    requires { ⌜ Wf (now right) ⌝ }
+    ensures { λ r. ⌜ r ≡ unsignedZero operator (treeOf (now (left .entry))) (treeOf (now (right .entry))) ⌝ }
+{
+    if is_constant(right, 0) {
+        if unsigned_cast(left) {
+            return above_zero(operator);
+        }
+        return Verdict::Undecided;
+    }
+    if is_constant(left, 0) & unsigned_cast(right) {
+        return above_zero(mirrored(operator));
+    }
+    Verdict::Undecided
+}
+
+// Any operator but ==, !=, && and ||: equal sides, then an unsigned cast against 0.
+fn relation(operator: u64, left: &[u64], right: &[u64]) -> Verdict
+    requires { ⌜ Wf (now left) ⌝ }
+    requires { ⌜ Wf (now right) ⌝ }
+    ensures { λ r. ⌜ r ≡ orElse (equalSides operator (treeOf (now (left .entry))) (treeOf (now (right .entry)))) (unsignedZero operator (treeOf (now (left .entry))) (treeOf (now (right .entry)))) ⌝ }
+{
+    or_else(
+        equal_sides(operator, left, right),
+        unsigned_zero(operator, left, right),
+    )
+}
+
+// The verdict on a condition: && and || are decided half by half.
+pub fn decide(rs: &[u64], atoms: &mut [u64], terms: &mut [u64], scratch: &mut [u64]) -> Decision
+    requires { ⌜ Wf (now rs) ⌝ }
+    requires { ⌜ length (now rs) ≤ 256 ⌝ }
+    requires { ⌜ Buffers (now atoms) (now terms) (now scratch) ⌝ }
+    ensures { λ r. ⌜ r ≡ answered (fits (treeOf (now (rs .entry)))) (decideOf (treeOf (now (rs .entry)))) ⌝ }
+{
+    let n = rs.len() - 2;
+    let tag = rs[n];
+    let kind = expr::kind(tag);
+    if kind == expr::TRUE {
+        return Decision::Of(Verdict::Always(Reason::Truth));
+    }
+    if kind == expr::FALSE {
+        return Decision::Of(Verdict::Never(Reason::Truth));
+    }
+    if kind != expr::BINARY {
+        return Decision::Of(Verdict::Undecided);
+    }
+    let m = expr::last_start(&rs[..n]);
+    let left = &rs[..m];
+    let right = &rs[m..n];
+    let operator = expr::argument(tag);
+    if (operator == expr::LOGICAL_AND) | (operator == expr::LOGICAL_OR) {
+        let a = decide(left, atoms, terms, scratch);
+        let b = decide(right, atoms, terms, scratch);
+        return halves(operator == expr::LOGICAL_AND, a, b);
+    }
+    if (operator == expr::EQUAL) | (operator == expr::NOT_EQUAL) {
+        return equality(operator, rs, left, right, atoms, terms, scratch);
+    }
+    Decision::Of(relation(operator, left, right))
 }
