@@ -1,1 +1,2 @@
 pub mod NodeVerdict
+pub mod Contracts

@@ -1,0 +1,2 @@
+-- the answer for a node, from its substituted condition
+pub mod Judged
