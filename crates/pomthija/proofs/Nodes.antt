@@ -1,4 +1,4 @@
--- The cases of the evaluation, over plain values.
+-- The cases of the node verdict and of the evaluation, over plain values.
 use Prim.Native.Nat.{ℕ, _≤_, _<_}
 use mathlib.Core.Path.{_≡_}
 use mathlib.Core.List.{List}
@@ -9,17 +9,28 @@ use Rattle.sheet_node.specs.Node.{Node, nodeOf}
 use Rattle.sheet.specs.declared.Sheet.{Sheet}
 use Rattle.sheet.specs.declared.Reading.{Reading}
 use Rattle.sheet.specs.declared.Reading.the-variants as reading
-use Rattle.sheet.specs.Sheet.{sheetAt, readingOf, noNode}
+use Rattle.sheet.specs.Sheet.{sheetAt, readingOf, noNode, nodeNumbered, nodePlace}
+use Rattle.verdict.specs.declared.Answer.{Answer}
+use Rattle.verdict.specs.declared.Answer.the-variants.{Refused}
+use Rattle.verdict.specs.Numbers.{answerNumbers}
+use Rattle.verdict_node.specs.NodeVerdict.{nodeVerdict}
 use Rattle.evaluate_node.specs.declared.Evaluation.{Evaluation}
 use Rattle.evaluate_node.specs.Evaluate.{evaluationOf}
 use Rattle.pomthija.specs.Evaluation.{Evaluated, inNumbers, evaluatedNode, nodeOn, evaluationAnswer}
 use Rattle.pomthija.specs.Evaluation.Evaluated.{refused}
+use Rattle.pomthija.specs.Node.{nodeAnswer}
+
+-- what is asked of a node that was read, is asked of the node of that number
+pub node-numbered : {A : Type 0} (f : Node → ℕ → A) (s : List ℕ) (number : ℕ) {places : List ℕ} (node : NodeReading) {r : A}
+    → ((d : Node) → nodeOf s node ≡ getD (sheetAt s .nodes .list) number d) → places ≡ sheetAt s .nodes .places
+    → r ≡ f (nodeOf s node) (getD places number 0) → r ≡ f (nodeNumbered s number) (nodePlace s number)
+node-numbered f s number node node-is places-are r-is = rw (← node-is noNode, ← places-are) r-is
 
 pub node-evaluated : (s : List ℕ) (number : ℕ) (values : List ℕ) {places : List ℕ} (node : NodeReading) {r : Evaluation}
     → ((d : Node) → nodeOf s node ≡ getD (sheetAt s .nodes .list) number d) → places ≡ sheetAt s .nodes .places
     → r ≡ evaluationOf (nodeOf s node) (getD places number 0) values → r ≡ evaluatedNode s number values
 unfolding evaluatedNode
-node-evaluated s number values node node-is places-are r-is = rw (← node-is noNode, ← places-are) r-is
+node-evaluated s number values = node-numbered (λ n place. evaluationOf n place values) s number
 
 module _ (s : List ℕ) (number : ℕ) (values : List ℕ) {r : Reading} (read : r ≡ readingOf s) where
   pub evaluation-refused : {k at : ℕ} → r ≡ reading.Refused k at → refused k at ≡ evaluationAnswer s number values
@@ -35,3 +46,18 @@ module _ (s : List ℕ) (number : ℕ) (values : List ℕ) {r : Reading} (read :
       → e ≡ evaluatedNode s number values → inNumbers e ≡ evaluationAnswer s number values
   unfolding evaluationAnswer
   evaluation-is is there e-is = rw (← read, is, lt-ltb _ _ there, e-is)
+
+module _ (s : List ℕ) (number : ℕ) {r : Reading} (read : r ≡ readingOf s) where
+  pub node-refused : {k at : ℕ} → r ≡ reading.Refused k at → answerNumbers (Refused k at) ≡ nodeAnswer s number
+  unfolding nodeAnswer
+  node-refused is = rw (← read, is)
+
+  pub node-missing : {sheet : Sheet} → r ≡ reading.Accepted sheet → sheet .nodes .count ≤ number
+      → answerNumbers (Refused 13 0) ≡ nodeAnswer s number
+  unfolding nodeAnswer
+  node-missing is out = rw (← read, is, le-ltb _ _ out)
+
+  pub node-judged : {sheet : Sheet} {a : Answer} → r ≡ reading.Accepted sheet → number < sheet .nodes .count
+      → a ≡ nodeVerdict (nodeNumbered s number) (nodePlace s number) → answerNumbers a ≡ nodeAnswer s number
+  unfolding nodeAnswer
+  node-judged is there a-is = rw (← read, is, lt-ltb _ _ there, a-is)

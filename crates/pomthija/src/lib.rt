@@ -10,6 +10,7 @@ ghost use Rattle.sheet.specs.Index.{addressesOf, InFront};
 ghost use Rattle.verdict.specs.Numbers.{answerNumbers};
 ghost use Rattle.pomthija.specs.Evaluation.{inNumbers, evaluationAnswer, Returned};
 ghost use Rattle.pomthija.specs.Block.{blockAnswer};
+ghost use Rattle.pomthija.specs.Node.{nodeAnswer};
 
 // What the listing answers: how many lines there are, or a refusal, its number and its place.
 pub enum Listed {
@@ -53,6 +54,63 @@ pub fn block_verdict(s: &[u8], number: u64) -> Answer
     match reading {
         Reading::Refused(k, at) => Answer::Refused(k, at),
         Reading::Accepted(sheet) => judge_block(s, sheet, &addresses, &places, number),
+    }
+}
+
+// The node of that number, of an accepted sheet with the places of its nodes at the front of a list.
+fn judge_node(s: &[u8], sheet: Sheet, nodes: &[u64], number: u64) -> Answer
+    requires { ⌜ readingOf (now s) ≡ Accepted sheet ⌝ }
+    requires { ⌜ InFront (sheet .nodes .count) (now nodes) (sheetAt (now s) .nodes .places) ⌝ }
+    ensures { λ r. ⌜ answerNumbers r ≡ nodeAnswer (now (s .entry)) number ⌝ }
+{
+    let section = sheet.nodes;
+    if section.count <= number {
+        return Answer::Refused(13, 0);
+    }
+    let places = &nodes[..section.count as usize];
+    let at = number as usize;
+    let mut table = verdict_node::table_room();
+    let mut lengths = [0usize; 32];
+    let mut words = [0u64; 256];
+    let mut out = [0u64; 256];
+    let mut atoms = [0u64; 64];
+    let mut terms = verdict_node::terms_room();
+    let mut products = verdict_node::products_room();
+    let node = sheet::nth_node(s, sheet, places, at, &mut words);
+    verdict_node::verdict_of(
+        s,
+        node,
+        places[at] as usize,
+        &mut table,
+        &mut lengths,
+        &mut words,
+        &mut out,
+        &mut atoms,
+        &mut terms,
+        &mut products,
+    )
+}
+
+// The verdict on the node of that number, from 0.
+pub fn node_verdict(s: &[u8], number: u64) -> Answer
+    ensures { λ r. ⌜ answerNumbers r ≡ nodeAnswer (now (s .entry)) number ⌝ }
+{
+    let mut addresses = [0u64; 1];
+    let mut places = [0u64; 1];
+    let mut targets = [0u64; 1];
+    let mut branches = [false; 1];
+    let mut nodes = [0u64; 1024];
+    let reading = sheet::read_index(
+        s,
+        &mut addresses,
+        &mut places,
+        &mut targets,
+        &mut branches,
+        &mut nodes,
+    );
+    match reading {
+        Reading::Refused(k, at) => Answer::Refused(k, at),
+        Reading::Accepted(sheet) => judge_node(s, sheet, &nodes, number),
     }
 }
 
