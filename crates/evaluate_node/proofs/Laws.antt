@@ -1,16 +1,14 @@
 -- Laws of plain statements and of fitting values.
 use Prim.Native.Nat.{ℕ, zero, suc, _+_, _-_, _*_, _≤_, _<_}
 use mathlib.Core.Path.{_≡_, refl, sym, ap, _∙_}
-use mathlib.Core.List.{List, [], _∷_, _++_, append-assoc}
+use mathlib.Core.List.{List, [], _∷_, _++_}
 use mathlib.Core.Bool.{Bool, true, false, cond, not, _&&_, _||_, and-assoc, and-true, false≢true}
 use native.Mathlib.Omega.{arith}
 use native.Mathlib.Numerals.{add-one}
-use lib.ListN.{length, getD, set, drop, take, length-append, length-drop, drop-of-length-le}
-use lib.Seq.{drop-cons, take-at, set-at, take-suc, length-take-le}
-use Rattle.sheet_expression.specs.declared.Expression.{Expression}
-use Rattle.sheet_expression.specs.Expression.{expressionAt, TookExpression}
-use Rattle.sheet_expression.proofs.Accepted.{one-tree}
-use Rattle.sheet_node.proofs.Statements.{took-front}
+use native.Mathlib.Nat.{zero-add}
+use lib.ListN.{length, getD, drop, take, drop-of-length-le}
+use lib.Seq.{drop-cons, paste, take-length, length-take-le}
+use Rattle.sheet_node.proofs.Statements.{took-words, took-assigned}
 use Rattle.sheet_field.specs.Field.{WentOn}
 use Rattle.sheet_field.specs.declared.Place.{Place}
 use Rattle.sheet_field.specs.declared.Place.the-variants.{At}
@@ -20,8 +18,9 @@ use Rattle.arith.specs.Numbers.{fits}
 use Rattle.expr.specs.Statement.{Statement}
 use Rattle.expr.specs.Statement.Statement.{assignment, other}
 use Rattle.sheet_node.specs.declared.StatementReading.{StatementReading}
-use Rattle.sheet_node.specs.Node.{statementAt, statementOf, statementsFrom, StatementRead, TookStatement}
-use Rattle.sheet_node.proofs.Accepted.{statements-back, statements-nth, statements-length, assigned}
+use Rattle.sheet_node.specs.Node.{statementAt, statementOf, statementsFrom, StatementRead}
+use Rattle.sheet_node.specs.Contracts.{TookStatement}
+use Rattle.sheet_node.proofs.Accepted.{statements-nth, statements-length}
 use Rattle.evaluate_node.specs.declared.Fit.{Fit}
 use Rattle.evaluate_node.specs.declared.Fit.the-variants.{AllFit, Unfit}
 use Rattle.evaluate_node.specs.Evaluate.{plainStatement, plainAll, unfitFrom}
@@ -60,43 +59,23 @@ module _ (types values : List ℕ) (v : ℕ) (kept : unfitFrom 0 types values �
   unfolding unfitFrom
   unfit-none out = sym (kept ∙ rw (drop-of-length-le types out))
 
+-- the first n of the values, copied to the front
+pub copied-front : (values before after : List ℕ) (n : ℕ) → n ≤ length values → after ≡ paste before 0 (take n values) (length (take n values))
+    → after ≡ take n values ++ drop n before
+copied-front values before after n enough is =
+    let long : length (take n values) ≡ n = length-take-le n values enough in
+    is ∙ rw (take-length, zero-add, long)
+
 -- ---- statements
 
 pub none-next : (types s : List ℕ) (p : Place) → p ≡ statementsFrom types s p 0 .next
 unfolding statementsFrom
 none-next types s p = refl
 
-statement-next : (types s : List ℕ) (p : Place) (k : ℕ) {a : ℕ} → statementsFrom types s p (k + 1) .next ≡ At a
-    → statementAt types s (statementsFrom types s p k .next) .next ≡ At a
-unfolding statementsFrom
-statement-next types s p k e = rw (add-one k) at e
-
--- the i-th statement was read whole
-pub statement-whole : (types s : List ℕ) (p : Place) (n i : ℕ) {next : Place} → WentOn (statementsFrom types s p n .next) → i < n
-    → next ≡ statementsFrom types s p i .next → WentOn (statementAt types s next .next)
-statement-whole types s p n i on below next-is =
-    let w = statements-back types s p n (i + 1) (on .1) (omega arith) in
-    (w .0, rw next-is (statement-next types s p i (w .1)))
-
--- a statement that was taken: its words stand at the front of the list
-pub took-words : {f : StatementReading} {before after : List ℕ} {r : StatementRead} → TookStatement f before after r
-    → take (2 * f .records) after ≡ r .words
-took-words {f} {before = before} {r = r} took = rw (took .list) (take-at (r .words) (drop (2 * f .records) before) (2 * f .records) (took .size))
-
-pub took-room : {f : StatementReading} {before after : List ℕ} {r : StatementRead} → TookStatement f before after r
-    → length after ≡ length before → 2 * f .records ≤ length before
-took-room {f} {before = before} {after} {r} took same =
-    let l : length after ≡ 2 * f .records + (length before - 2 * f .records) = rw (took .list, length-append, length-drop, took .size) in
-    omega arith
-
 module _ (types s : List ℕ) (p : Place) {f : StatementReading} {before after : List ℕ} (took : TookStatement f before after (statementAt types s p)) where
-  -- an assignment that was read whole is one tree
-  pub taken-tree : WentOn (statementAt types s p .next) → f .assigned ≡ true → Wf (take (2 * f .records) after)
-  taken-tree on yes′ = rw (took-words took) (assigned types s p (on .1) (sym (took .assigned) ∙ yes′) .tree)
-
-  pub plain-taken : {plain : Bool} → f .assigned ≡ true → plain ≡ plainExpr (treeOf (take (2 * f .records) after))
+  pub plain-taken : WentOn (statementAt types s p .next) → {plain : Bool} → f .assigned ≡ true → plain ≡ plainExpr (treeOf (take (2 * f .records) after))
       → plain ≡ plainStatement (statementOf (statementAt types s p))
-  plain-taken yes′ is = rw (← took .assigned, yes′, ← took-words took) is
+  plain-taken on yes′ is = rw (← took .assigned, yes′, ← took-words took on) is
 
   pub plain-other : f .assigned ≡ false → false ≡ plainStatement (statementOf (statementAt types s p))
   plain-other other′ = rw (← took .assigned, other′)
@@ -120,24 +99,23 @@ pub rests : (types : List ℕ) (x : Statement) (values : List ℕ) → afterStat
 rests types (assignment v e) values = refl
 rests types other values = refl
 
-module _ (types s : List ℕ) (p : Place) {f : StatementReading} {before after : List ℕ} (took : TookStatement f before after (statementAt types s p)) where
-  pub taken-ready : WentOn (statementAt types s p .next) → plainStatement (statementOf (statementAt types s p)) ≡ true → Ready (take (2 * f .records) after)
-  taken-ready on plain =
-      let is = plain-assigned (statementAt types s p) plain in
-      record {
-        wf = taken-tree types s p took on (took .assigned ∙ is);
-        few = rw (took-words took) (assigned types s p (on .1) is .short);
-        plain = rw (took-words took) (plain-words (statementAt types s p) plain);
-      }
+module _ (types s : List ℕ) (p : Place) {f : StatementReading} {before after : List ℕ} (took : TookStatement f before after (statementAt types s p))
+    (on : WentOn (statementAt types s p .next)) (plain : plainStatement (statementOf (statementAt types s p)) ≡ true) where
+  is-assigned : f .assigned ≡ true
+  is-assigned = took .assigned ∙ plain-assigned (statementAt types s p) plain
+
+  pub taken-ready : Ready (take (2 * f .records) after)
+  taken-ready =
+      let a = took-assigned types s p took on is-assigned in
+      record { wf = a .tree; few = a .short; plain = rw (took-words took on) (plain-words (statementAt types s p) plain) }
 
   -- an assignment that is made
-  pub made : plainStatement (statementOf (statementAt types s p)) ≡ true → (values : List ℕ) {v : Value}
-      → v ≡ evaluated types values (treeOf (take (2 * f .records) after))
+  pub made : (values : List ℕ) {v : Value} → v ≡ evaluated types values (treeOf (take (2 * f .records) after))
       → afterStatement types (statementOf (statementAt types s p)) (went values) ≡ goOn v (f .variable) values
-  made plain values is = rw (plain-assigned (statementAt types s p) plain, took .variable, is, took-words took)
+  made values is = rw (plain-assigned (statementAt types s p) plain, took .variable, is, took-words took on)
 
-  pub in-range : WentOn (statementAt types s p .next) → plainStatement (statementOf (statementAt types s p)) ≡ true → f .variable < length types
-  in-range on plain = rw (took .variable) (assigned types s p (on .1) (plain-assigned (statementAt types s p) plain) .declared)
+  pub in-range : f .variable < length types
+  in-range = took-assigned types s p took on is-assigned .declared
 
 -- ---- the loop
 
@@ -206,21 +184,3 @@ module _ (types s : List ℕ) (p : Place) (n i : ℕ) (start : After) {next : Pl
                 ∙ ap (assignedAll types (drop (suc i) (statementsFrom types s p n .list))) (k .1 ∙ ap (λ (b : Bool). stateOf b values) (sym go-is))
                 ∙ ap (λ (j : ℕ). assignedAll types (drop j (statementsFrom types s p n .list)) (stateOf going values)) (sym (add-one i));
           }
-
--- ---- conditions
-
-module _ (variables : ℕ) (s : List ℕ) (p : Place) {e : Expression} {before after : List ℕ}
-    (took : TookExpression (e .records) (e .next) before after (expressionAt variables s p)) (on : WentOn (expressionAt variables s p .next)) where
-  pub condition-tree : Wf (take (2 * e .records) after)
-  condition-tree = rw (took-front took) (one-tree variables s p (on .1) .tree)
-
-  pub condition-short : length (take (2 * e .records) after) ≤ 256
-  condition-short = rw (took-front took) (one-tree variables s p (on .1) .short)
-
--- ---- copies
-
-pub copy-more : (values room now : List ℕ) (v : ℕ) → now ≡ take v values ++ drop v room → v < length values → v < length room
-    → set now v (getD values v 0) ≡ take (v + 1) values ++ drop (v + 1) room
-copy-more values room now v is inside fits =
-    rw (is, add-one v, drop-cons room v 0 fits, set-at (take v values) _ _ (getD values v 0) v (length-take-le v values (omega arith)), take-suc values v 0 inside)
-    (simp append-assoc)

@@ -13,7 +13,10 @@ use Rattle.expr.specs.Tree.{Expr, treeOf}
 use Rattle.expr.specs.Scan.{plainExpr}
 use Rattle.arith.specs.Numbers.{fits}
 use Rattle.sheet_expression.specs.declared.Expression.{Expression}
-use Rattle.sheet_expression.specs.Expression.{expressionAt, TookExpression}
+use Rattle.sheet_expression.specs.Expression.{expressionAt}
+use Rattle.sheet_expression.specs.Contracts.{Took}
+use Rattle.sheet_expression.proofs.Lists.{took-front}
+use Rattle.sheet_expression.proofs.Accepted.{took-tree}
 use Rattle.sheet_node.specs.declared.NodeReading.{NodeReading}
 use Rattle.sheet_node.specs.Node.{statementsFrom, nodeAt, typesIn, nodeOf, ReadNode}
 use Rattle.sheet_node.proofs.Accepted.{parts}
@@ -23,8 +26,6 @@ use Rattle.evaluate_node.specs.declared.Evaluation.{Evaluation}
 use Rattle.evaluate_node.specs.declared.Evaluation.the-variants.{Refused}
 use Rattle.evaluate_node.specs.Evaluate.{unfitFrom, evaluationOf}
 use Rattle.evaluate_node.specs.Contracts.{Running}
-use Rattle.evaluate_node.proofs.Laws.{condition-tree, condition-short}
-use Rattle.sheet_node.proofs.Statements.{took-front}
 
 not-both : {v : ℕ} → Unfit v ≡ AllFit → ⊥
 not-both e = let z : _≡_ {A = ℕ} 0 1 = cc in omega arith
@@ -52,23 +53,24 @@ module _ (s : List ℕ) (node : NodeReading) (read : ReadNode s node) where
   pub this-condition : WentOn (expressionAt (node .variables) s (node .condition) .next)
   this-condition = rw (parts s node read .counted) (parts s node read .condition)
 
-  module _ {e : Expression} {before after : List ℕ} (took : TookExpression (e .records) (e .next) before after (expressionAt (node .variables) s (node .condition)))
+  module _ {e : Expression} {before after : List ℕ} (took : Took (e .records) (e .next) before after (expressionAt (node .variables) s (node .condition)))
       {b : Bool} (b-is : b ≡ plainExpr (treeOf (take (2 * e .records) after))) where
     pub condition-refused : b ≡ false → (place : ℕ) (values : List ℕ) → Refused 15 place ≡ evaluationOf (nodeOf s node) place values
     unfolding evaluationOf nodeOf
     condition-refused fails place values =
-        let out : plainExpr (treeOf (expressionAt (node .variables) s (node .condition) .words)) ≡ false = rw (← took-front took) (sym b-is ∙ fails) in
+        let out : plainExpr (treeOf (expressionAt (node .variables) s (node .condition) .words)) ≡ false = rw (← took-front took this-condition) (sym b-is ∙ fails) in
         sym (rw (out, and-false))
 
     pub running : b ≡ true → {ts : List ℕ} → ts ≡ typesIn s node → Running s node ts (take (2 * e .records) after)
     running holds {ts} these =
+        let words = took-tree (node .variables) s (node .condition) took this-condition in
         record {
           at = read .at;
           is = read .is;
           on = read .on;
           typesAre = these;
-          wordsAre = took-front took;
-          ready = record { wf = condition-tree (node .variables) s (node .condition) took this-condition; few = condition-short (node .variables) s (node .condition) took this-condition; plain = sym b-is ∙ holds };
+          wordsAre = took-front took this-condition;
+          ready = record { wf = words .0; few = words .1; plain = sym b-is ∙ holds };
           few = rw these (parts s node read .few);
           statements = rw these (parts s node read .statements);
         }

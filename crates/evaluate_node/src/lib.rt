@@ -173,18 +173,6 @@ fn run_statements(
     reached(going)
 }
 
-// The first n of the values, at the front of 32 places.
-fn copy_values(values: &[u64], n: usize, room: &mut [u64])
-    requires { ⌜ (n ≤ length (now values)) × (n ≤ length (now room)) ⌝ }
-    ensures { λ _. ⌜ now (room .exit) ≡ take n (now (values .entry)) ++ drop n (now (room .entry)) ⌝ }
-{
-    let mut v: usize = 0;
-    while v < n {
-        room[v] = values[v];
-        v += 1;
-    }
-}
-
 fn outcome(t: Truth, place: usize) -> Evaluation
     ensures { λ r. ⌜ r ≡ onTruth place t ⌝ }
 {
@@ -203,7 +191,7 @@ fn start(fit: Fit, values: &[u64], n: usize, room: &mut [u64]) -> bool
 {
     match fit {
         Fit::AllFit => {
-            copy_values(values, n, room);
+            slice::copy_to(&values[..n], room, 0);
             true
         }
         Fit::Unfit(_) => false,

@@ -5,16 +5,18 @@ use mathlib.Core.List.{List, [], _∷_, _++_}
 use mathlib.Core.Bool.{Bool, true, false, not, _||_}
 use native.Mathlib.Omega.{arith}
 use lib.Dec.{leb, eqb}
-use lib.ListN.{length}
+use lib.ListN.{length, take}
 use borrow.Author.Tests.{leb-true, eqb-true, eq-eqb, ne-eqb}
 use Rattle.sheet_field.specs.declared.Place.{Place}
 use Rattle.sheet_field.specs.declared.Place.the-variants.{At, Refused}
-use Rattle.sheet_field.specs.Field.{fieldAt, startOf, judge, checkField, codeAt, countAt}
+use Rattle.sheet_field.specs.Field.{fieldAt, startOf, judge, checkField, codeAt, countAt, WentOn}
 use Rattle.sheet_field.proofs.Fields.{judge-at, check-at, field-at, code-at, count-at}
 use Rattle.expr.specs.Tree.{arityOf, Formed, Trees, treeCount, Wf}
 use Rattle.expr.proofs.Laws.{formed, trees-nil, count-nil, trees-snoc, count-snoc, trees-wf}
 use Rattle.sheet_expression.specs.Expression.{hasArgument, argumentOk, argumentAt, constantAt, fitsWidth, depthAfter, recordAt, Taken, takenMore, takenFrom, expressionAt}
-use Rattle.sheet_expression.proofs.Lists.{taken-length}
+use Rattle.sheet_field.proofs.Counted.{back}
+use Rattle.sheet_expression.specs.Contracts.{Took}
+use Rattle.sheet_expression.proofs.Lists.{taken-length, taken-keep, took-front}
 
 pub constant-at : (kind : ℕ) (s : List ℕ) (p : Place) {a : ℕ} → constantAt kind s p .next ≡ At a → (b : ℕ) × (p ≡ At b)
 unfolding constantAt
@@ -123,12 +125,9 @@ pub record OneTree (variables : ℕ) (s : List ℕ) (p : Place) : Type 0 where
   pub tree : Wf (expressionAt variables s p .words)
   pub short : length (expressionAt variables s p .words) ≤ 256
 
-start-at : (variables total : ℕ) (s : List ℕ) (p : Place) (k : ℕ) {a : ℕ} → takenFrom variables total s p k .next ≡ At a → (b : ℕ) × (p ≡ At b)
-unfolding takenFrom takenMore
-start-at variables total s p zero {a} e = (a, e)
-start-at variables total s p (suc k) e =
-    let t = takenFrom variables total s p k in
-    start-at variables total s p k (record-at variables (t .depth) (total - suc k) s (t .next) e .there)
+start-at : (variables total : ℕ) (s : List ℕ) (p : Place) (k : ℕ) {a : ℕ} → takenFrom variables total s p k .next ≡ At a → WentOn p
+unfolding takenFrom
+start-at variables total s p k e = back (λ j. takenFrom variables total s p j .next) (taken-keep variables total s p) k 0 e (omega arith)
 
 pub one-tree : (variables : ℕ) (s : List ℕ) (p : Place) {a : ℕ} → expressionAt variables s p .next ≡ At a → OneTree variables s p
 unfolding expressionAt
@@ -142,3 +141,11 @@ one-tree variables s p e =
       tree = trees-wf _ (g .trees) (g .count ∙ last-depth variables (n .value) s (n .next) (n .value) refl (counted .atLeast) e);
       short = rw (taken-length variables (n .value) s (n .next) (n .value)) (omega (arith, counted .atMost));
     }
+
+-- so are the words that its reader left at the front of a list
+pub took-tree : (variables : ℕ) (s : List ℕ) (p : Place) {records : ℕ} {next : Place} {before after : List ℕ}
+    → Took records next before after (expressionAt variables s p) → WentOn (expressionAt variables s p .next)
+    → Wf (take (2 * records) after) × (length (take (2 * records) after) ≤ 256)
+took-tree variables s p took on =
+    let one = one-tree variables s p (on .1) in
+    (rw (took-front took on) (one .tree), rw (took-front took on) (one .short))

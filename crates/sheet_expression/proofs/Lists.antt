@@ -1,16 +1,21 @@
 -- Laws of records read one after the other.
 use Prim.Native.Nat.{ℕ, zero, suc, _+_, _-_, _*_, _≤_, _<_}
 use mathlib.Core.Path.{_≡_, refl, sym, ap, _∙_}
+use mathlib.Core.Bool.{true, false≢true}
 use mathlib.Core.List.{List, [], _∷_, _++_, append-assoc}
 use native.Mathlib.Omega.{arith}
 use native.Mathlib.Numerals.{add-one}
-use lib.ListN.{length, drop, set, getD, length-append, length-drop}
-use lib.Seq.{set-at, drop-cons, append-snoc}
+use lib.ListN.{length, take, drop, set, getD, length-append, length-drop}
+use lib.Seq.{take-at, set-at, drop-cons, append-snoc}
 use Rattle.sheet_field.specs.declared.Place.{Place}
 use Rattle.sheet_expression.specs.declared.RecordReading.{RecordReading}
-use Rattle.sheet_expression.specs.Expression.{depthAfter, recordAt, Taken, takenMore, takenFrom, Took, expressionAt, TookExpression}
+use Rattle.sheet_expression.specs.Expression.{depthAfter, argumentAt, constantAt, recordAt, Taken, takenMore, takenFrom, expressionAt}
+use Rattle.sheet_expression.specs.Contracts.{Took}
+use Rattle.sheet_field.specs.declared.Place.the-variants.{At, Refused}
 use Rattle.sheet_field.specs.declared.Field.{Field}
-use Rattle.sheet_field.specs.Field.{countAt}
+use Rattle.sheet_field.specs.Field.{fieldAt, checkField, codeAt, countAt, isRefused, WentOn}
+use Rattle.sheet_field.proofs.Fields.{count-most}
+use Rattle.sheet_field.proofs.Counted.{stopped}
 
 pub taken-length : (variables total : ℕ) (s : List ℕ) (p : Place) (k : ℕ) → length (takenFrom variables total s p k .words) ≡ 2 * k
 unfolding takenFrom takenMore
@@ -44,14 +49,20 @@ stored-two front rest n a b e fits =
     drop-cons rest n 0 (omega arith) ∙ rw two (ap (λ (l : List ℕ). getD rest n 0 ∷ l) (drop-cons rest (suc n) 0 (omega arith))) in
     rw (d, set-at front _ _ a n e) (second front (drop (n + 2) rest) n a b (getD rest (suc n) 0) e)
 
--- one record more keeps what a loop over the records leaves
-took-one : (variables left : ℕ) (s : List ℕ) (t : Taken) (n : ℕ) {depth : ℕ} {next : Place} {before after : List ℕ} {r : RecordReading}
-    → length (t .words) ≡ n → Took depth next before after t → r ≡ recordAt variables depth left s next → n + 2 ≤ length before
-    → Took (r .depth) (r .next) before (set (set after n (r .tag)) (n + 1) (r .value)) (takenMore variables left s t)
+-- what a loop over the records has left: the depth, the place, and the lent list with the words at its front
+pub record Stored (depth : ℕ) (next : Place) (before after : List ℕ) (t : Taken) : Type 0 where
+  pub trees : depth ≡ t .depth
+  pub place : next ≡ t .next
+  pub list : after ≡ t .words ++ drop (length (t .words)) before
+
+-- one record more keeps it
+stored-one : (variables left : ℕ) (s : List ℕ) (t : Taken) (n : ℕ) {depth : ℕ} {next : Place} {before after : List ℕ} {r : RecordReading}
+    → length (t .words) ≡ n → Stored depth next before after t → r ≡ recordAt variables depth left s next → n + 2 ≤ length before
+    → Stored (r .depth) (r .next) before (set (set after n (r .tag)) (n + 1) (r .value)) (takenMore variables left s t)
 unfolding takenMore
-took-one variables left s t n {depth} {next} {before} {after} {r} long took r-is fits =
-    let r-now : r ≡ recordAt variables (t .depth) left s (t .next) = rw (← took .trees, ← took .place) r-is in
-    let words : after ≡ t .words ++ drop n before = rw (← long) (took .list) in
+stored-one variables left s t n {depth} {next} {before} {after} {r} long stored r-is fits =
+    let r-now : r ≡ recordAt variables (t .depth) left s (t .next) = rw (← stored .trees, ← stored .place) r-is in
+    let words : after ≡ t .words ++ drop n before = rw (← long) (stored .list) in
     let both : length (t .words ++ (r .tag ∷ r .value ∷ [])) ≡ n + 2 = rw length-append (omega arith) in
     record {
       trees = ap (λ (x : RecordReading). x .depth) r-now;
@@ -64,27 +75,55 @@ pub taken-next : (variables total : ℕ) (s : List ℕ) (p : Place) (k : ℕ)
 unfolding takenFrom
 taken-next variables total s p k = let left : total - k - 1 ≡ total - suc k = omega arith in rw (add-one k, left)
 
-pub took-more : (variables total : ℕ) (s : List ℕ) (p : Place) (k : ℕ) {depth : ℕ} {next : Place} {before after : List ℕ} {r : RecordReading}
-    → Took depth next before after (takenFrom variables total s p k)
-    → r ≡ recordAt variables depth (total - k - 1) s next → 2 * k + 2 ≤ length before
-    → Took (r .depth) (r .next) before (set (set after (2 * k) (r .tag)) (2 * k + 1) (r .value)) (takenFrom variables total s p (k + 1))
-took-more variables total s p k took r-is fits =
-    rw (taken-next variables total s p k)
-    (took-one variables (total - k - 1) s (takenFrom variables total s p k) (2 * k) (taken-length variables total s p k) took r-is fits)
+-- a record that is read where reading was refused leaves the refusal
+pub taken-keep : (variables total : ℕ) (s : List ℕ) (p : Place) (j k at : ℕ) → takenFrom variables total s p j .next ≡ Refused k at
+    → takenFrom variables total s p (suc j) .next ≡ Refused k at
+unfolding takenFrom takenMore recordAt argumentAt constantAt codeAt checkField fieldAt
+taken-keep variables total s p j k at e = rw e
 
-pub took-none : (variables total : ℕ) (s : List ℕ) (p : Place) (before : List ℕ) → Took 0 p before before (takenFrom variables total s p 0)
-unfolding takenFrom
-took-none variables total s p before = record { trees = refl; place = refl; list = refl }
+module _ (variables total : ℕ) (s : List ℕ) (p : Place) where
+  pub stored-none : (before : List ℕ) → Stored 0 p before before (takenFrom variables total s p 0)
+  unfolding takenFrom
+  stored-none before = record { trees = refl; place = refl; list = refl }
 
--- the lent list keeps its length
-pub took-length : {depth : ℕ} {next : Place} {before after : List ℕ} {t : Taken} → Took depth next before after t
-    → length (t .words) ≤ length before → length after ≡ length before
-took-length {before = before} {t = t} took fits = rw (took .list, length-append, length-drop) (omega arith)
+  module _ (k : ℕ) {depth : ℕ} {next : Place} {before after : List ℕ} (stored : Stored depth next before after (takenFrom variables total s p k)) where
+    pub stored-more : {r : RecordReading} → r ≡ recordAt variables depth (total - k - 1) s next → 2 * k + 2 ≤ length before
+        → Stored (r .depth) (r .next) before (set (set after (2 * k) (r .tag)) (2 * k + 1) (r .value)) (takenFrom variables total s p (k + 1))
+    stored-more r-is fits =
+        rw (taken-next variables total s p k)
+        (stored-one variables (total - k - 1) s (takenFrom variables total s p k) (2 * k) (taken-length variables total s p k) stored r-is fits)
 
-pub took-expression : (variables : ℕ) (s : List ℕ) (p : Place) {n : Field} {depth : ℕ} {next : Place} {before after : List ℕ}
-    → n ≡ countAt 1 128 s p → Took depth next before after (takenFrom variables (n .value) s (n .next) (n .value))
-    → TookExpression (n .value) next before after (expressionAt variables s p)
+    -- the lent list keeps its length
+    pub stored-length : 2 * k ≤ length before → length after ≡ length before
+    stored-length fits =
+        let long : length (takenFrom variables total s p k .words) ≡ 2 * k = taken-length variables total s p k in
+        rw (stored .list, length-append, length-drop) (omega arith)
+
+    -- the loop may end where reading was refused
+    pub took-stopped : isRefused next ≡ true → k ≤ total → total ≤ 128 → Took total next before after (takenFrom variables total s p total)
+    took-stopped refused within few =
+        let last = stopped (λ j. takenFrom variables total s p j .next) (taken-keep variables total s p) total k next (stored .place) refused within in
+        record {
+          size = taken-length variables total s p total;
+          few = few;
+          place = last;
+          list = λ on. absurd (false≢true (ap isRefused (sym (last ∙ on .1)) ∙ refused));
+        }
+
+  -- and ends after all records
+  pub took-all : {depth : ℕ} {next : Place} {before after : List ℕ} → Stored depth next before after (takenFrom variables total s p total) → total ≤ 128
+      → Took total next before after (takenFrom variables total s p total)
+  took-all stored few =
+      let long : length (takenFrom variables total s p total .words) ≡ 2 * total = taken-length variables total s p total in
+      record { size = long; few = few; place = stored .place; list = λ on. rw long at (stored .list) }
+
+-- the words stand at the front
+pub took-front : {records : ℕ} {next : Place} {before after : List ℕ} {t : Taken} → Took records next before after t → WentOn (t .next)
+    → take (2 * records) after ≡ t .words
+took-front {records} {before = before} {t = t} took on = rw (took .list on) (take-at (t .words) (drop (2 * records) before) (2 * records) (took .size))
+
+pub took-expression : (variables : ℕ) (s : List ℕ) (p : Place) {n : Field} {next : Place} {before after : List ℕ}
+    → n ≡ countAt 1 128 s p → Took (n .value) next before after (takenFrom variables (n .value) s (n .next) (n .value))
+    → Took (n .value) next before after (expressionAt variables s p)
 unfolding expressionAt
-took-expression variables s p {n} n-is took =
-    let long : length (takenFrom variables (n .value) s (n .next) (n .value) .words) ≡ 2 * n .value = taken-length variables (n .value) s (n .next) (n .value) in
-    rw (← n-is) record { size = long; place = took .place; list = rw long at (took .list) }
+took-expression variables s p n-is took = rw (← n-is) took

@@ -3,8 +3,6 @@
 use Prim.Native.Nat.{ℕ, zero, suc, _+_, _-_, _*_, _^_}
 use mathlib.Core.List.{List, [], _∷_, _++_}
 use mathlib.Core.Bool.{Bool, true, false, cond, not, _&&_, _||_}
-use mathlib.Core.Path.{_≡_}
-use lib.ListN.{length, drop}
 use lib.Dec.{leb, ltb, eqb}
 use Rattle.sheet_field.specs.declared.Place.{Place}
 use Rattle.sheet_field.specs.declared.Field.{Field}
@@ -84,16 +82,3 @@ unfoldable pub expressionAt : ℕ → List ℕ → Place → Taken
 expressionAt variables s p =
     let n = countAt 1 128 s p in
     takenFrom variables (n .value) s (n .next) (n .value)
-
--- what a reader of records leaves: the depth, the place, and a lent list that was `before` and is `after`: the words stand
--- at its front, and the rest is as it was
-pub record Took (depth : ℕ) (next : Place) (before after : List ℕ) (t : Taken) : Type 0 where
-  pub trees : depth ≡ t .depth
-  pub place : next ≡ t .next
-  pub list : after ≡ t .words ++ drop (length (t .words)) before
-
--- what a reader of an expression leaves: how many records it has, the place, and the lent list with the words at its front
-pub record TookExpression (records : ℕ) (next : Place) (before after : List ℕ) (t : Taken) : Type 0 where
-  pub size : length (t .words) ≡ 2 * records
-  pub place : next ≡ t .next
-  pub list : after ≡ t .words ++ drop (2 * records) before

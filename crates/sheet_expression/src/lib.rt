@@ -6,18 +6,13 @@ use sheet_field::Width;
 ghost use mathlib.Core.Path.{_≡_};
 ghost use Prim.Native.Nat.{_*_, _≤_};
 ghost use lib.ListN.{length};
-ghost use Rattle.sheet_expression.specs.Expression.{hasArgument, argumentOk, argumentAt, constantAt, fitsWidth, depthAfter, recordAt, Took, takenFrom, expressionAt, TookExpression};
+ghost use Rattle.sheet_expression.specs.Expression.{hasArgument, argumentOk, argumentAt, constantAt, fitsWidth, depthAfter, recordAt, takenFrom, expressionAt};
+ghost use Rattle.sheet_expression.specs.Contracts.{Took};
 
 // A record's two words, how many trees are complete after it, and the place after it.
 pub struct RecordReading {
     pub tag: u64,
     pub value: u64,
-    pub depth: u64,
-    pub next: Place,
-}
-
-// How many trees are complete after some records, and the place after them.
-pub struct Records {
     pub depth: u64,
     pub next: Place,
 }
@@ -115,15 +110,19 @@ pub fn take_record(s: &[u8], p: Place, variables: u64, depth: u64, left: u64) ->
     }
 }
 
-// The first `total` records from a place on, as words at the front of `out`.
-fn take_records(s: &[u8], p: Place, variables: u64, total: u64, out: &mut [u64]) -> Records
+// The first `total` records from a place on, as words at the front of `out`: the place after them, or where reading was
+// refused.
+fn take_records(s: &[u8], p: Place, variables: u64, total: u64, out: &mut [u64]) -> Place
     requires { ⌜ (variables ≤ 32) × (total ≤ 128) × (2 * total ≤ length (now out)) ⌝ }
-    ensures { λ r. ⌜ Took (r .depth) (r .next) (now (out .entry)) (now (out .exit)) (takenFrom variables total (now (s .entry)) p total) ⌝ }
+    ensures { λ r. ⌜ Took total r (now (out .entry)) (now (out .exit)) (takenFrom variables total (now (s .entry)) p total) ⌝ }
 {
     let mut depth: u64 = 0;
     let mut next = p;
     let mut i: u64 = 0;
     while i < total {
+        if sheet_field::is_refused(next) {
+            return next;
+        }
         let r = take_record(s, next, variables, depth, total - i - 1);
         let at = 2 * (i as usize);
         out[at] = r.tag;
@@ -132,18 +131,17 @@ fn take_records(s: &[u8], p: Place, variables: u64, total: u64, out: &mut [u64])
         next = r.next;
         i += 1;
     }
-    Records { depth, next }
+    next
 }
 
 // The expression at a place, its records as words at the front of `out`.
 pub fn take_expression(s: &[u8], p: Place, variables: u64, out: &mut [u64]) -> Expression
     requires { ⌜ (variables ≤ 32) × (256 ≤ length (now out)) ⌝ }
-    ensures { λ r. ⌜ TookExpression (r .records) (r .next) (now (out .entry)) (now (out .exit)) (expressionAt variables (now (s .entry)) p) ⌝ }
+    ensures { λ r. ⌜ Took (r .records) (r .next) (now (out .entry)) (now (out .exit)) (expressionAt variables (now (s .entry)) p) ⌝ }
 {
     let n = sheet_field::count(s, p, 1, 128);
     let from = n.next;
-    let r = take_records(s, from, variables, n.value, out);
-    let next = r.next;
+    let next = take_records(s, from, variables, n.value, out);
     Expression {
         records: n.value,
         next,

@@ -14,7 +14,6 @@ use Rattle.expr.specs.Statement.{Statement}
 use Rattle.expr.specs.Statement.Statement.{assignment, other}
 use Rattle.expr.specs.Types.{typeOf, sameType}
 use Rattle.sheet_expression.specs.Expression.{expressionAt}
-use Rattle.sheet_node.specs.declared.StatementReading.{StatementReading}
 use Rattle.sheet_node.specs.declared.NodeReading.{NodeReading}
 
 -- what reading a statement gives: whether it is an assignment, its variable, its value's words, and the place after it
@@ -51,15 +50,6 @@ statementAt types s p =
     cond (eqb (map .value) 3)
     (assignmentAt types (startOf p) s (map .next))
     (record { assigned = false; variable = 0; words = []; next = map .next })
-
--- what a reader of a statement leaves: the statement, and a lent list that was `before` and is `after`: the value's words
--- stand at its front, and the rest is as it was
-pub record TookStatement (f : StatementReading) (before after : List ℕ) (r : StatementRead) : Type 0 where
-  pub assigned : f .assigned ≡ r .assigned
-  pub variable : f .variable ≡ r .variable
-  pub size : length (r .words) ≡ 2 * f .records
-  pub place : f .next ≡ r .next
-  pub list : after ≡ r .words ++ drop (2 * f .records) before
 
 -- After the first k of a node's type bytes, each below 10 (S27, S45, R8).
 unfoldable pub typesFrom : List ℕ → Place → ℕ → Place

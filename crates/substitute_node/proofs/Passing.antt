@@ -6,8 +6,8 @@ use mathlib.Core.Bool.{Bool, true, false, cond}
 use mathlib.Core.List.{List, [], _∷_, _++_}
 use native.Mathlib.Omega.{arith}
 use native.Mathlib.Numerals.{add-one}
-use lib.ListN.{length, getD, take, drop, replicate, length-append, length-drop, drop-of-length-le}
-use lib.Seq.{drop-cons, take-at}
+use lib.ListN.{length, getD, drop, replicate, drop-of-length-le}
+use lib.Seq.{drop-cons}
 use Rattle.sheet_field.specs.Field.{WentOn}
 use Rattle.sheet_field.specs.declared.Place.{Place}
 use Rattle.sheet_field.specs.declared.Place.the-variants.{At}
@@ -15,10 +15,10 @@ use Rattle.expr.specs.Tree.{Expr, Wf, treeOf}
 use Rattle.expr.proofs.Laws.{wf-flat, treeOf-flat}
 use Rattle.expr.specs.Statement.{Statement}
 use Rattle.expr.specs.Statement.Statement.{assignment, other}
-use Rattle.sheet_expression.specs.Expression.{expressionAt}
-use Rattle.sheet_expression.proofs.Accepted.{one-tree}
 use Rattle.sheet_node.specs.Node.{StatementRead, statementAt, statementOf, statementsFrom}
-use Rattle.sheet_node.proofs.Accepted.{statements-back, statements-nth, statements-length, assigned}
+use Rattle.sheet_node.proofs.Nodes.{statements-more}
+use Rattle.sheet_node.proofs.Statements.{statement-whole}
+use Rattle.sheet_node.proofs.Accepted.{statements-nth, statements-length}
 use Rattle.substitution.specs.Substitution.{Table, nothingHeld, substitute, long, tooLong, into, substituted, withAssignments}
 use Rattle.substitution.specs.Substitution as sub
 use Rattle.substitution.specs.declared.Written.{Written}
@@ -26,14 +26,6 @@ use Rattle.substitution.specs.declared.Written.the-variants.{From, TooLong}
 use Rattle.substitution.specs.Words.{tableOf, Slots, Holds, Assigned, Made}
 use Rattle.substitution.proofs.Entries.{cleared}
 use Rattle.substitute_node.specs.Node.{Room, Lent, Stepped, Passed, MadeNode}
-
--- words that were taken to the front of a list
-pub front-words : (ws before after : List ℕ) (n : ℕ) → length ws ≡ n → after ≡ ws ++ drop n before → take n after ≡ ws
-front-words ws before after n size is = rw is (take-at ws (drop n before) n size)
-
-pub front-room : (ws before after : List ℕ) (n : ℕ) → length ws ≡ n → after ≡ ws ++ drop n before → length after ≡ length before → n ≤ length before
-front-room ws before after n size is same =
-    omega (arith, size, same, ap length is, length-append ws (drop n before), length-drop n before)
 
 -- a statement that is no assignment
 pub stepped-other : {table lengths lengths′ : List ℕ} → Slots table lengths → lengths′ ≡ replicate (length lengths) 0 → (h : Table) (r : StatementRead)
@@ -73,18 +65,6 @@ pub stepped-assigned : {fits : Bool} {table lengths : List ℕ} (h : Table) (r :
 stepped-assigned {fits} {table} {lengths} h r {v} {ws} yes-assigned number words a =
     rw (yes-assigned, ← number, ← words) (assigned-same h v (treeOf ws) a)
 
--- an assignment's words are one tree, its variable is declared
-pub record Whole (v : ℕ) (ws : List ℕ) : Type 0 where
-  pub small : v < 32
-  pub tree : Wf ws
-  pub short : length ws ≤ 256
-
-pub assigned-whole : (types s : List ℕ) (p : Place) → WentOn (statementAt types s p .next) → length types ≤ 32 → statementAt types s p .assigned ≡ true
-    → {v : ℕ} {ws : List ℕ} → v ≡ statementAt types s p .variable → ws ≡ statementAt types s p .words → Whole v ws
-assigned-whole types s p on few is number words =
-    let a = assigned types s p (on .1) is in
-    record { small = omega (arith, a .declared); tree = rw words (a .tree); short = rw words (a .short) }
-
 -- the first i statements are passed
 pub record Passing (types s : List ℕ) (p : Place) (n : ℕ) (table lengths words out : List ℕ) (next : Place) (i : ℕ) : Type 0 where
   pub within : i ≤ n
@@ -104,21 +84,10 @@ passing-start types s p n {table} {lengths} {lengths′} {words} {out} l is =
       due = λ c. ap (λ (t : Table). substituted t (statementsFrom types s p n .list) c) (sym (b .holds));
     }
 
-statement-next : (types s : List ℕ) (p : Place) (k : ℕ) {a : ℕ} → statementsFrom types s p (k + 1) .next ≡ At a
-    → statementAt types s (statementsFrom types s p k .next) .next ≡ At a
-unfolding statementsFrom
-statement-next types s p k e = rw (add-one k) at e
-
-next-is : (types s : List ℕ) (p : Place) (k : ℕ) → statementAt types s (statementsFrom types s p k .next) .next ≡ statementsFrom types s p (k + 1) .next
-unfolding statementsFrom
-next-is types s p k = rw (add-one k)
-
 module _ {types s : List ℕ} {p : Place} {n : ℕ} {table lengths words out : List ℕ} {next : Place} {i : ℕ}
     (g : Passing types s p n table lengths words out next i) where
   pub passing-whole : WentOn (statementsFrom types s p n .next) → i < n → WentOn (statementAt types s next .next)
-  passing-whole on below =
-      let w = statements-back types s p n (i + 1) (on .1) (omega arith) in
-      (w .0, rw (g .place) (statement-next types s p i (w .1)))
+  passing-whole on below = statement-whole types s p n i on below (g .place)
 
   -- what is due starts with the statement at this place
   due-here : i < n → (c : Expr) → withAssignments (statementsFrom types s p n .list) c
@@ -144,7 +113,7 @@ module _ {types s : List ℕ} {p : Place} {n : ℕ} {table lengths words out : L
         → length words′ ≡ length words → length out′ ≡ length out → Passing types s p n table′ lengths′ words′ out′ next′ (i + 1)
     passing-more within-limit {next′} place words-same out-same = record {
       within = omega arith;
-      place = place ∙ ap (λ (q : Place). statementAt types s q .next) (g .place) ∙ next-is types s p i;
+      place = place ∙ ap (λ (q : Place). statementAt types s q .next) (g .place) ∙ statements-more types s p i;
       lent = record { few = g .lent .few; slots = t .slots; wordsRoom = words-same ∙ g .lent .wordsRoom; outRoom = out-same ∙ g .lent .outRoom };
       due = λ c. rw (add-one i) (due-here below c ∙ t .same (drop (suc i) (statementsFrom types s p n .list)) c
           ∙ ap (λ (b : Bool). cond b (substituted (tableOf table′ lengths′) (drop (suc i) (statementsFrom types s p n .list)) c) tooLong) within-limit);
@@ -179,11 +148,3 @@ passed-made {fits} {table} {lengths} {statements} out ws w g short c is m = by w
       last ∙ ap (λ (b : Bool). cond b tooLong (into made)) (m .1) ∙ ap into (sym (ap treeOf (m .0) ∙ treeOf-flat made)),
     )
     by TooLong m = last ∙ ap (λ (b : Bool). cond b tooLong (into made)) m
-
--- a condition that was read whole is one tree
-pub condition-tree : (n : ℕ) (s : List ℕ) (p : Place) → WentOn (expressionAt n s p .next) → {ws : List ℕ} → ws ≡ expressionAt n s p .words → Wf ws
-condition-tree n s p on words = rw words (one-tree n s p (on .1) .tree)
-
-pub condition-short : (n : ℕ) (s : List ℕ) (p : Place) → WentOn (expressionAt n s p .next) → {ws : List ℕ} → ws ≡ expressionAt n s p .words
-    → length ws ≤ 256
-condition-short n s p on words = rw words (one-tree n s p (on .1) .short)

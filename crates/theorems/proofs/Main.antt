@@ -31,7 +31,7 @@ use Rattle.decide.specs.LowBit.{lowBit, AlwaysDiffer}
 use Rattle.decide.specs.Decide.{decide}
 use Rattle.decide.proofs.Complete.{decided}
 use Rattle.decide.proofs.Evaluation.{low, Has, sharedBits, ownBits, ev-low}
-use Rattle.format.proofs.Spans.{Bytes}
+use Rattle.format.specs.Write.{Bytes}
 use Rattle.pomthija.specs.Node.{nodeAnswer}
 use Rattle.theorems.proofs.Nodes.{decides, outcomeOf, from, nodes-right, evaluation-agrees, probe-run}
 use Rattle.theorems.proofs.Outcomes.{answers-run, fourteen, ByEvaluation, refusal-number}

@@ -43,7 +43,7 @@ use Rattle.sheet.specs.declared.Sheet.{Sheet}
 use Rattle.sheet.specs.declared.Reading.{Reading}
 use Rattle.sheet.specs.declared.Reading.the-variants as reading
 use Rattle.sheet.specs.Sheet.{sheetAt, readingOf, noNode, nodeNumbered, nodePlace}
-use Rattle.format.proofs.Spans.{Bytes}
+use Rattle.format.specs.Write.{Bytes}
 use Rattle.format.proofs.Admitted.{node-admitted-at}
 use Rattle.pomthija.specs.Evaluation.{nodeRun, evaluationAnswer, SaysOf}
 use Rattle.pomthija.specs.Evaluation.Evaluated.{outcome}

@@ -3,8 +3,7 @@ use mathlib.Core.Path.{sym}
 use native.Mathlib.Omega.{arith}
 use lib.Seq.{length-take-le}
 use borrow.Author.Tests.{not-true, not-false}
-use Rattle.sheet_node.proofs.Statements.{took-fits}
-use Rattle.evaluate_node.proofs.Laws.{condition-tree}
+use Rattle.sheet_expression.proofs.Accepted.{took-tree}
 use Rattle.evaluate_node.proofs.Whole.{few-variables, this-condition, condition-refused, running}
 use borrow.Author.Needs.{needs}
 use Rattle.evaluate_node.proofs.evaluate_node.Statement.{statement}
@@ -20,25 +19,25 @@ take-expression-requires : tie.Need-take-expression-requires
 take-expression-requires c κs = (few-variables (c .before .before .before .before .args .s .now) (c .before .before .before .before .args .node) (c .before .before .before .before .pre), omega arith)
 
 mul-m : tie.Need-mul-m
-mul-m c = omega (arith, took-fits (c .before .take-expression .ensures) (c .before .take-expression .kept .1 .1 .1 .0), (c .before .take-expression .kept .1 .1 .1 .0))
+mul-m c = omega (arith, c .before .take-expression .ensures .few, c .before .take-expression .kept .1 .1 .1 .0)
 
 array-share-prefix-words : tie.Need-array-share-prefix-words
-array-share-prefix-words c = omega (arith, took-fits (c .before .take-expression .ensures) (c .before .take-expression .kept .1 .1 .1 .0), (c .before .take-expression .kept .1 .1 .1 .0))
+array-share-prefix-words c = omega (arith, c .before .take-expression .ensures .few, c .before .take-expression .kept .1 .1 .1 .0)
 
 slice-aggregate-is-plain : tie.Need-slice-aggregate-is-plain
-slice-aggregate-is-plain c = sym (length-take-le _ _ (omega (arith, took-fits (c .before .before .take-expression .ensures) (c .before .before .take-expression .kept .1 .1 .1 .0), (c .before .before .take-expression .kept .1 .1 .1 .0))))
+slice-aggregate-is-plain c = sym (length-take-le _ _ (omega (arith, c .before .before .take-expression .ensures .few, c .before .before .take-expression .kept .1 .1 .1 .0)))
 
 is-plain-requires : tie.Need-is-plain-requires
-is-plain-requires c κs = condition-tree _ _ _ (c .before .before .take-expression .ensures) (this-condition (c .before .before .before .before .before .before .before .args .s .now) (c .before .before .before .before .before .before .before .args .node) (c .before .before .before .before .before .before .before .pre))
+is-plain-requires c κs = took-tree _ _ _ (c .before .before .take-expression .ensures) (this-condition (c .before .before .before .before .before .before .before .args .s .now) (c .before .before .before .before .before .before .before .args .node) (c .before .before .before .before .before .before .before .pre)) .0
 
 returns : tie.Need-returns
 returns c = condition-refused (c .before .before .before .before .before .before .before .before .before .args .s .now) (c .before .before .before .before .before .before .before .before .before .args .node) (c .before .before .before .before .before .before .before .before .before .pre) (c .before .before .before .before .take-expression .ensures) (c .before .is-plain .ensures) (not-true _ (c .if1 .taken)) (c .before .before .before .before .before .before .before .before .before .args .place) (c .before .before .before .before .before .before .before .before .before .args .values .now)
 
 array-share-prefix-words-2 : tie.Need-array-share-prefix-words-2
-array-share-prefix-words-2 c = omega (arith, took-fits (c .before .before .before .before .take-expression .ensures) (c .before .before .before .before .take-expression .kept .1 .1 .1 .0), (c .before .before .before .before .take-expression .kept .1 .1 .1 .0))
+array-share-prefix-words-2 c = omega (arith, c .before .before .before .before .take-expression .ensures .few, c .before .before .before .before .take-expression .kept .1 .1 .1 .0)
 
 slice-aggregate-run-node : tie.Need-slice-aggregate-run-node
-slice-aggregate-run-node c = sym (length-take-le _ _ (omega (arith, took-fits (c .before .before .before .before .before .take-expression .ensures) (c .before .before .before .before .before .take-expression .kept .1 .1 .1 .0), (c .before .before .before .before .before .take-expression .kept .1 .1 .1 .0))))
+slice-aggregate-run-node c = sym (length-take-le _ _ (omega (arith, c .before .before .before .before .before .take-expression .ensures .few, c .before .before .before .before .before .take-expression .kept .1 .1 .1 .0)))
 
 run-node-requires : tie.Need-run-node-requires
 run-node-requires c κs = running (c .before .before .before .before .before .before .before .before .before .before .args .s .now) (c .before .before .before .before .before .before .before .before .before .before .args .node) (c .before .before .before .before .before .before .before .before .before .before .pre) (c .before .before .before .before .before .take-expression .ensures) (c .before .before .is-plain .ensures) (not-false _ (c .before .if1 .left)) (c .before .before .before .before .before .before .before .node-types .ensures)

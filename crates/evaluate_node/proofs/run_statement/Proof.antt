@@ -5,14 +5,15 @@ use native.Mathlib.Omega.{arith}
 use lib.Seq.{length-take-le}
 use borrow.Author.Tests.{not-true, not-false}
 use Rattle.sheet_node.specs.Node.{statementAt, statementOf}
+use Rattle.sheet_node.proofs.Statements.{took-assigned}
 use Rattle.evaluate_node.specs.Evaluate.{plainStatement}
-use Rattle.evaluate_node.proofs.Laws.{took-room, taken-tree, plain-taken, plain-other, taken-ready, made, in-range, rests}
+use Rattle.evaluate_node.proofs.Laws.{plain-taken, plain-other, taken-ready, made, in-range, rests}
 use borrow.Author.Needs.{needs}
 use Rattle.evaluate_node.proofs.run_statement.Statement.{statement}
 use Rattle.evaluate_node.proofs.run_statement.Tie as tie
 
 plain-here : (c : tie.Else2) → plainStatement (statementOf (statementAt (c .before .before .before .before .before .before .before .before .before .before .before .before .before .args .types .now) (c .before .before .before .before .before .before .before .before .before .before .before .before .before .args .s .now) (c .before .before .before .before .before .before .before .before .before .before .before .before .before .args .p))) ≡ true
-plain-here c = sym (plain-taken _ _ _ (c .before .before .before .before .before .before .before .take-statement .ensures) (not-false _ (c .before .before .before .if1 .left)) (c .before .is-plain .ensures)) ∙ not-false _ (c .if2 .left)
+plain-here c = sym (plain-taken _ _ _ (c .before .before .before .before .before .before .before .take-statement .ensures) (c .before .before .before .before .before .before .before .before .before .before .before .before .before .pre .1) (not-false _ (c .before .before .before .if1 .left)) (c .before .is-plain .ensures)) ∙ not-false _ (c .if2 .left)
 
 take-statement-requires : tie.Need-take-statement-requires
 take-statement-requires c κs = search needs
@@ -24,22 +25,22 @@ returns : tie.Need-returns
 returns c = record { state = sym (plain-other _ _ _ (c .before .before .before .before .take-statement .ensures) (not-true _ (c .if1 .taken))); next = (c .before .before .before .before .take-statement .ensures) .place }
 
 mul-n : tie.Need-mul-n
-mul-n c = omega (arith, took-room (c .before .before .before .before .take-statement .ensures) (c .before .before .before .before .take-statement .kept .1 .1 .1 .0), (c .before .before .before .before .take-statement .kept .1 .1 .1 .0))
+mul-n c = omega (arith, c .before .before .before .before .take-statement .ensures .few, c .before .before .before .before .take-statement .kept .1 .1 .1 .0)
 
 slice-reshare-prefix-is-plain : tie.Need-slice-reshare-prefix-is-plain
-slice-reshare-prefix-is-plain c = omega (arith, took-room (c .before .before .before .before .take-statement .ensures) (c .before .before .before .before .take-statement .kept .1 .1 .1 .0), (c .before .before .before .before .take-statement .kept .1 .1 .1 .0))
+slice-reshare-prefix-is-plain c = omega (arith, c .before .before .before .before .take-statement .ensures .few, c .before .before .before .before .take-statement .kept .1 .1 .1 .0)
 
 slice-aggregate-is-plain : tie.Need-slice-aggregate-is-plain
-slice-aggregate-is-plain c = sym (length-take-le _ _ (omega (arith, took-room (c .before .before .before .before .before .take-statement .ensures) (c .before .before .before .before .before .take-statement .kept .1 .1 .1 .0), (c .before .before .before .before .before .take-statement .kept .1 .1 .1 .0))))
+slice-aggregate-is-plain c = sym (length-take-le _ _ (omega (arith, c .before .before .before .before .before .take-statement .ensures .few, c .before .before .before .before .before .take-statement .kept .1 .1 .1 .0)))
 
 is-plain-requires : tie.Need-is-plain-requires
-is-plain-requires c κs = taken-tree _ _ _ (c .before .before .before .before .before .take-statement .ensures) (c .before .before .before .before .before .before .before .before .before .before .before .pre .1) (not-false _ (c .before .if1 .left))
+is-plain-requires c κs = took-assigned _ _ _ (c .before .before .before .before .before .take-statement .ensures) (c .before .before .before .before .before .before .before .before .before .before .before .pre .1) (not-false _ (c .before .if1 .left)) .tree
 
 same-length-2 : tie.Need-same-length-2
 same-length-2 c = search needs
 
 returns-2 : tie.Need-returns-2
-returns-2 c = record { state = sym (plain-taken _ _ _ (c .before .before .before .before .before .before .before .take-statement .ensures) (not-false _ (c .before .before .before .if1 .left)) (c .before .is-plain .ensures)) ∙ not-true _ (c .if2 .taken); next = (c .before .before .before .before .before .before .before .take-statement .ensures) .place }
+returns-2 c = record { state = sym (plain-taken _ _ _ (c .before .before .before .before .before .before .before .take-statement .ensures) (c .before .before .before .before .before .before .before .before .before .before .before .before .before .pre .1) (not-false _ (c .before .before .before .if1 .left)) (c .before .is-plain .ensures)) ∙ not-true _ (c .if2 .taken); next = (c .before .before .before .before .before .before .before .take-statement .ensures) .place }
 
 same-length-3 : tie.Need-same-length-3
 same-length-3 c = search needs
@@ -48,10 +49,10 @@ returns-3 : tie.Need-returns-3
 returns-3 c = record { state = (plain-here (c .before), rw (not-true (c .before .before .before .before .before .before .before .before .before .before .before .before .before .before .args .going) (c .if3 .taken)) (rests (c .before .before .before .before .before .before .before .before .before .before .before .before .before .before .args .types .now) (statementOf (statementAt (c .before .before .before .before .before .before .before .before .before .before .before .before .before .before .args .types .now) (c .before .before .before .before .before .before .before .before .before .before .before .before .before .before .args .s .now) (c .before .before .before .before .before .before .before .before .before .before .before .before .before .before .args .p))) _)); next = (c .before .before .before .before .before .before .before .before .take-statement .ensures) .place }
 
 slice-reshare-prefix-integer : tie.Need-slice-reshare-prefix-integer
-slice-reshare-prefix-integer c = omega (arith, took-room (c .before .before .before .before .before .before .before .before .take-statement .ensures) (c .before .before .before .before .before .before .before .before .take-statement .kept .1 .1 .1 .0), (c .before .before .before .before .before .before .before .before .take-statement .kept .1 .1 .1 .0))
+slice-reshare-prefix-integer c = omega (arith, c .before .before .before .before .before .before .before .before .take-statement .ensures .few, c .before .before .before .before .before .before .before .before .take-statement .kept .1 .1 .1 .0)
 
 slice-aggregate-integer : tie.Need-slice-aggregate-integer
-slice-aggregate-integer c = sym (length-take-le _ _ (omega (arith, took-room (c .before .before .before .before .before .before .before .before .before .take-statement .ensures) (c .before .before .before .before .before .before .before .before .before .take-statement .kept .1 .1 .1 .0), (c .before .before .before .before .before .before .before .before .before .take-statement .kept .1 .1 .1 .0))))
+slice-aggregate-integer c = sym (length-take-le _ _ (omega (arith, c .before .before .before .before .before .before .before .before .before .take-statement .ensures .few, c .before .before .before .before .before .before .before .before .before .take-statement .kept .1 .1 .1 .0)))
 
 integer-requires : tie.Need-integer-requires
 integer-requires c κs = taken-ready _ _ _ (c .before .before .before .before .before .before .before .before .before .before .take-statement .ensures) (c .before .before .before .before .before .before .before .before .before .before .before .before .before .before .before .before .pre .1) (plain-here (c .before .before .before))
@@ -75,7 +76,7 @@ same-length-5 : tie.Need-same-length-5
 same-length-5 c = search needs
 
 returns-4 : tie.Need-returns-4
-returns-4 c = record { state = (plain-here (c .before .before .before .before .before .before), rw (not-false (c .before .before .before .before .before .before .before .before .before .before .before .before .before .before .before .before .before .before .before .args .going) (c .before .before .before .before .before .if3 .left)) (made _ _ _ (c .before .before .before .before .before .before .before .before .before .before .before .before .before .take-statement .ensures) (plain-here (c .before .before .before .before .before .before)) _ (c .before .before .integer .ensures .value) ∙ rw (c .enum-told .given .1))); next = (c .before .before .before .before .before .before .before .before .before .before .before .before .before .take-statement .ensures) .place }
+returns-4 c = record { state = (plain-here (c .before .before .before .before .before .before), rw (not-false (c .before .before .before .before .before .before .before .before .before .before .before .before .before .before .before .before .before .before .before .args .going) (c .before .before .before .before .before .if3 .left)) (made _ _ _ (c .before .before .before .before .before .before .before .before .before .before .before .before .before .take-statement .ensures) (c .before .before .before .before .before .before .before .before .before .before .before .before .before .before .before .before .before .before .before .pre .1) (plain-here (c .before .before .before .before .before .before)) _ (c .before .before .integer .ensures .value) ∙ rw (c .enum-told .given .1))); next = (c .before .before .before .before .before .before .before .before .before .before .before .before .before .take-statement .ensures) .place }
 
 same-length-6 : tie.Need-same-length-6
 same-length-6 c = search needs
@@ -84,7 +85,7 @@ same-length-7 : tie.Need-same-length-7
 same-length-7 c = search needs
 
 returns-5 : tie.Need-returns-5
-returns-5 c = record { state = (plain-here (c .before .before .before .before .before .before .before), rw (not-false (c .before .before .before .before .before .before .before .before .before .before .before .before .before .before .before .before .before .before .before .before .args .going) (c .before .before .before .before .before .before .if3 .left)) (made _ _ _ (c .before .before .before .before .before .before .before .before .before .before .before .before .before .before .take-statement .ensures) (plain-here (c .before .before .before .before .before .before .before)) _ (c .before .before .before .integer .ensures .value) ∙ rw (c .before .v .given .1))); next = (c .before .before .before .before .before .before .before .before .before .before .before .before .before .before .take-statement .ensures) .place }
+returns-5 c = record { state = (plain-here (c .before .before .before .before .before .before .before), rw (not-false (c .before .before .before .before .before .before .before .before .before .before .before .before .before .before .before .before .before .before .before .before .args .going) (c .before .before .before .before .before .before .if3 .left)) (made _ _ _ (c .before .before .before .before .before .before .before .before .before .before .before .before .before .before .take-statement .ensures) (c .before .before .before .before .before .before .before .before .before .before .before .before .before .before .before .before .before .before .before .before .pre .1) (plain-here (c .before .before .before .before .before .before .before)) _ (c .before .before .before .integer .ensures .value) ∙ rw (c .before .v .given .1))); next = (c .before .before .before .before .before .before .before .before .before .before .before .before .before .before .take-statement .ensures) .place }
 
 pub run-statement-spec : {M : Type 1} → statement M
 run-statement-spec =

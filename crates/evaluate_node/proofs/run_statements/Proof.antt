@@ -6,7 +6,8 @@ use native.Mathlib.Omega.{arith}
 use lib.ListN.{length}
 use borrow.Author.Needs.{needs}
 use Rattle.evaluate_node.specs.Contracts.{stateOf}
-use Rattle.evaluate_node.proofs.Laws.{statement-whole, Passed, none-passed, all-passed, refused-here, passed-more}
+use Rattle.sheet_node.proofs.Statements.{statement-whole}
+use Rattle.evaluate_node.proofs.Laws.{Passed, none-passed, all-passed, refused-here, passed-more}
 use Rattle.evaluate_node.proofs.run_statements.Statement.{statement}
 use Rattle.evaluate_node.proofs.run_statements.Tie as tie
 

@@ -5,10 +5,6 @@ use Prim.Native.Nat.{_≤_}
 use borrow.Author.Needs.{needs}
 use Rattle.sheet_expression.proofs.take_expression.Statement.{statement}
 use Rattle.sheet_expression.proofs.take_expression.Tie as tie
-use Rattle.sheet_expression.proofs.take_expression.Reads as reads
-use Rattle.sheet_expression.proofs.take_expression.Lts as lts
-use Rattle.sheet_expression.proofs.take_records.Reads as take-records-reads
-use Rattle.sheet_field.proofs.count.Reads as count-reads
 
 count-requires : tie.Need-count-requires
 count-requires c κs = search needs

@@ -1,7 +1,7 @@
 use native.Mathlib.Omega.{arith}
 use mathlib.Core.Path.{sym}
 use lib.Seq.{length-take-le}
-use Rattle.sheet_node.proofs.Statements.{took-fits, assignment-typed, assignment-took}
+use Rattle.sheet_node.proofs.Statements.{assignment-typed, assignment-took}
 use borrow.Author.Needs.{needs}
 use Rattle.sheet_node.proofs.take_assignment.Statement.{statement}
 use Rattle.sheet_node.proofs.take_assignment.Tie as tie
@@ -18,13 +18,13 @@ take-expression-requires : tie.Need-take-expression-requires
 take-expression-requires c κs = search needs
 
 mul-n : tie.Need-mul-n
-mul-n c = omega (arith, took-fits (c .before .before .take-expression .ensures) (c .before .before .take-expression .kept .1 .1 .1 .0))
+mul-n c = omega (arith, c .before .before .take-expression .ensures .few, c .before .before .take-expression .kept .1 .1 .1 .0)
 
 slice-reshare-prefix-typed : tie.Need-slice-reshare-prefix-typed
-slice-reshare-prefix-typed c = omega (arith, took-fits (c .before .before .take-expression .ensures) (c .before .before .take-expression .kept .1 .1 .1 .0))
+slice-reshare-prefix-typed c = omega (arith, c .before .before .take-expression .ensures .few, c .before .before .take-expression .kept .1 .1 .1 .0)
 
 slice-aggregate-typed : tie.Need-slice-aggregate-typed
-slice-aggregate-typed c = sym (length-take-le _ _ (omega (arith, took-fits (c .before .before .before .take-expression .ensures) (c .before .before .before .take-expression .kept .1 .1 .1 .0))))
+slice-aggregate-typed c = sym (length-take-le _ _ (omega (arith, c .before .before .before .take-expression .ensures .few, c .before .before .before .take-expression .kept .1 .1 .1 .0)))
 
 typed-requires : tie.Need-typed-requires
 typed-requires c κs = assignment-typed (c .before .before .before .before .before .before .before .before .before .args .types .now) (c .before .before .before .before .before .before .before .before .before .args .s .now) (c .before .before .before .before .before .before .before .before .before .args .p) (c .before .before .before .before .before .code .ensures) (c .before .before .before .take-expression .ensures)

@@ -1,9 +1,9 @@
-use Rattle.substitute_node.proofs.Passing.{front-words, front-room, passed-long, passed-made, condition-tree, condition-short}
-use Rattle.sheet_expression.specs.Expression.{expressionAt}
+use Rattle.substitute_node.proofs.Passing.{passed-long, passed-made}
+use Rattle.sheet_expression.proofs.Lists.{took-front}
+use Rattle.sheet_expression.proofs.Accepted.{took-tree}
 use Rattle.expr.specs.Tree.{treeOf}
 use borrow.Author.Tests.{not-true, not-false}
 use lib.Seq.{length-take-le}
-use lib.ListN.{length}
 use native.Mathlib.Omega.{arith}
 use mathlib.Core.Path.{sym, ap}
 use borrow.Author.Needs.{needs}
@@ -38,28 +38,29 @@ mul-k c =
     let passed = c .before .before .before .before .before .before .before .before .before .before .before .before .before .take-statements in
     let read = c .before .before .take-expression in
     let start = c .before .before .before .before .before .before .before .before .before .before .before .before .before .before .before .before .before .before .before .before .before .before .before .before in
-    omega (arith, front-room (expressionAt (length (start .args .types .now)) (start .args .s .now) (start .args .condition) .words) (passed .last .1 .1 .1 .1 .1 .1 .0) _ _ (read .ensures .size) (read .ensures .list) (read .kept .1 .1 .1 .0), passed .kept .1 .1 .1 .1 .1 .1 .0, start .pre .0 .wordsRoom)
+    omega (arith, read .ensures .few, passed .kept .1 .1 .1 .1 .1 .1 .0, start .pre .0 .wordsRoom)
 
 slice-reshare-prefix-substitute : tie.Need-slice-reshare-prefix-substitute
 slice-reshare-prefix-substitute c =
     let passed = c .before .before .before .before .before .before .before .before .before .before .before .before .before .take-statements in
     let read = c .before .before .take-expression in
     let start = c .before .before .before .before .before .before .before .before .before .before .before .before .before .before .before .before .before .before .before .before .before .before .before .before in
-    omega (arith, front-room (expressionAt (length (start .args .types .now)) (start .args .s .now) (start .args .condition) .words) (passed .last .1 .1 .1 .1 .1 .1 .0) _ _ (read .ensures .size) (read .ensures .list) (read .kept .1 .1 .1 .0), read .kept .1 .1 .1 .0)
+    omega (arith, read .ensures .few, read .kept .1 .1 .1 .0, passed .kept .1 .1 .1 .1 .1 .1 .0, start .pre .0 .wordsRoom)
 
 slice-aggregate-substitute : tie.Need-slice-aggregate-substitute
 slice-aggregate-substitute c =
     let passed = c .before .before .before .before .before .before .before .before .before .before .before .before .before .before .take-statements in
     let read = c .before .before .before .take-expression in
     let start = c .before .before .before .before .before .before .before .before .before .before .before .before .before .before .before .before .before .before .before .before .before .before .before .before .before in
-    sym (length-take-le _ _ (omega (arith, front-room (expressionAt (length (start .args .types .now)) (start .args .s .now) (start .args .condition) .words) (passed .last .1 .1 .1 .1 .1 .1 .0) _ _ (read .ensures .size) (read .ensures .list) (read .kept .1 .1 .1 .0), read .kept .1 .1 .1 .0)))
+    sym (length-take-le _ _ (omega (arith, read .ensures .few, read .kept .1 .1 .1 .0, passed .kept .1 .1 .1 .1 .1 .1 .0, start .pre .0 .wordsRoom)))
 
 substitute-requires : tie.Need-substitute-requires
 substitute-requires c κs =
     let passed = c .before .before .before .before .before .before .before .before .before .before .before .before .before .before .before .before .before .take-statements in
     let read = c .before .before .before .before .before .before .take-expression in
     let start = c .before .before .before .before .before .before .before .before .before .before .before .before .before .before .before .before .before .before .before .before .before .before .before .before .before .before .before .before in
-    (condition-tree _ _ _ (start .pre .1 .1) (front-words (expressionAt (length (start .args .types .now)) (start .args .s .now) (start .args .condition) .words) (passed .last .1 .1 .1 .1 .1 .1 .0) _ _ (read .ensures .size) (read .ensures .list)), condition-short _ _ _ (start .pre .1 .1) (front-words (expressionAt (length (start .args .types .now)) (start .args .s .now) (start .args .condition) .words) (passed .last .1 .1 .1 .1 .1 .1 .0) _ _ (read .ensures .size) (read .ensures .list)), passed .ensures .slots, omega arith)
+    let words = took-tree _ _ _ (read .ensures) (start .pre .1 .1) in
+    (words .0, words .1, passed .ensures .slots, omega arith)
 
 same-length-5 : tie.Need-same-length-5
 same-length-5 c = search needs
@@ -78,7 +79,7 @@ returns-2 c =
     let passed = c .before .before .before .before .before .before .before .before .before .before .before .before .before .before .before .before .before .before .before .before .take-statements in
     let read = c .before .before .before .before .before .before .before .before .before .take-expression in
     let start = c .before .before .before .before .before .before .before .before .before .before .before .before .before .before .before .before .before .before .before .before .before .before .before .before .before .before .before .before .before .before .before in
-    passed-made (c .before .before .substitute .last .1 .1 .1 .0) _ (c .before .before .substitute .result) (passed .ensures) (not-false _ (c .before .before .before .before .before .before .before .before .before .before .before .if1 .left)) _ (ap treeOf (front-words (expressionAt (length (start .args .types .now)) (start .args .s .now) (start .args .condition) .words) (passed .last .1 .1 .1 .1 .1 .1 .0) _ _ (read .ensures .size) (read .ensures .list))) (c .before .before .substitute .ensures)
+    passed-made (c .before .before .substitute .last .1 .1 .1 .0) _ (c .before .before .substitute .result) (passed .ensures) (not-false _ (c .before .before .before .before .before .before .before .before .before .before .before .if1 .left)) _ (ap treeOf (took-front (read .ensures) (start .pre .1 .1))) (c .before .before .substitute .ensures)
 
 pub substitute-node-spec : {M : Type 1} → statement M
 substitute-node-spec =

@@ -1,5 +1,6 @@
 use Rattle.sheet_node.specs.Node.{statementAt}
-use Rattle.substitute_node.proofs.Passing.{front-words, front-room, stepped-other, stepped-assigned, assigned-whole}
+use Rattle.substitute_node.proofs.Passing.{stepped-other, stepped-assigned}
+use Rattle.sheet_node.proofs.Statements.{took-words, took-assigned}
 use borrow.Author.Tests.{not-true, not-false}
 use lib.Seq.{length-take-le}
 use native.Mathlib.Omega.{arith}
@@ -30,25 +31,26 @@ mul-n : tie.Need-mul-n
 mul-n c =
     let took = c .before .before .before .before .take-statement in
     let start = c .before .before .before .before .before .before .before .before .before .before .before .before in
-    omega (arith, front-room ((statementAt (start .args .types .now) (start .args .s .now) (start .args .p)) .words) (start .args .words .now) _ _ (took .ensures .size) (took .ensures .list) (took .kept .1 .1 .1 .0), start .pre .0 .wordsRoom)
+    omega (arith, took .ensures .few, start .pre .0 .wordsRoom)
 
 slice-reshare-prefix-take-assignment : tie.Need-slice-reshare-prefix-take-assignment
 slice-reshare-prefix-take-assignment c =
     let took = c .before .before .before .before .take-statement in
     let start = c .before .before .before .before .before .before .before .before .before .before .before .before in
-    omega (arith, front-room ((statementAt (start .args .types .now) (start .args .s .now) (start .args .p)) .words) (start .args .words .now) _ _ (took .ensures .size) (took .ensures .list) (took .kept .1 .1 .1 .0), took .kept .1 .1 .1 .0)
+    omega (arith, took .ensures .few, took .kept .1 .1 .1 .0, start .pre .0 .wordsRoom)
 
 slice-aggregate-take-assignment : tie.Need-slice-aggregate-take-assignment
 slice-aggregate-take-assignment c =
     let took = c .before .before .before .before .before .take-statement in
     let start = c .before .before .before .before .before .before .before .before .before .before .before .before .before in
-    sym (length-take-le _ _ (omega (arith, front-room ((statementAt (start .args .types .now) (start .args .s .now) (start .args .p)) .words) (start .args .words .now) _ _ (took .ensures .size) (took .ensures .list) (took .kept .1 .1 .1 .0), took .kept .1 .1 .1 .0)))
+    sym (length-take-le _ _ (omega (arith, took .ensures .few, took .kept .1 .1 .1 .0, start .pre .0 .wordsRoom)))
 
 take-assignment-requires : tie.Need-take-assignment-requires
 take-assignment-requires c κs =
     let took = c .before .before .before .before .before .before .before .before .take-statement in
     let start = c .before .before .before .before .before .before .before .before .before .before .before .before .before .before .before .before in
-    let w = assigned-whole _ _ _ (start .pre .1) (start .pre .0 .few) (sym (took .ensures .assigned) ∙ not-false _ (c .before .before .before .before .if1 .left)) (took .ensures .variable) (front-words ((statementAt (start .args .types .now) (start .args .s .now) (start .args .p)) .words) (start .args .words .now) _ _ (took .ensures .size) (took .ensures .list)) in (w .small, w .tree, w .short, start .pre .0 .slots, start .pre .0 .outRoom)
+    let w = took-assigned _ _ _ (took .ensures) (start .pre .1) (not-false _ (c .before .before .before .before .if1 .left)) in
+    (omega (arith, w .declared, start .pre .0 .few), w .tree, w .short, start .pre .0 .slots, start .pre .0 .outRoom)
 
 same-length-3 : tie.Need-same-length-3
 same-length-3 c = search needs
@@ -66,7 +68,7 @@ returns-2 : tie.Need-returns-2
 returns-2 c =
     let took = c .before .before .before .before .before .before .before .before .before .before .before .before .before .before .before .take-statement in
     let start = c .before .before .before .before .before .before .before .before .before .before .before .before .before .before .before .before .before .before .before .before .before .before .before in
-    (took .ensures .place, stepped-assigned _ (statementAt (start .args .types .now) (start .args .s .now) (start .args .p)) (sym (took .ensures .assigned) ∙ not-false _ (c .before .before .before .before .before .before .before .before .before .before .before .if1 .left)) (took .ensures .variable) (front-words ((statementAt (start .args .types .now) (start .args .s .now) (start .args .p)) .words) (start .args .words .now) _ _ (took .ensures .size) (took .ensures .list)) (c .before .before .before .before .before .before .take-assignment .ensures))
+    (took .ensures .place, stepped-assigned _ (statementAt (start .args .types .now) (start .args .s .now) (start .args .p)) (sym (took .ensures .assigned) ∙ not-false _ (c .before .before .before .before .before .before .before .before .before .before .before .if1 .left)) (took .ensures .variable) (took-words (took .ensures) (start .pre .1)) (c .before .before .before .before .before .before .take-assignment .ensures))
 
 pub take-statement-spec : {M : Type 1} → statement M
 take-statement-spec =
