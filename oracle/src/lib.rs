@@ -3,6 +3,7 @@
 
 pub mod cases;
 pub mod comparisons;
+pub mod disassembly;
 pub mod judges;
 pub mod sheets;
 pub mod stored;

@@ -2,6 +2,8 @@
 
 use oracle::comparisons::frames::{self, Question};
 use oracle::comparisons::{evaluations, nodes, processor, reading, runs, times, verdicts};
+use oracle::disassembly::command::{self, Source};
+use oracle::disassembly::judge::Program;
 use oracle::judges::{evaluator, node_verdict, reader};
 use oracle::sheets::{from_text, to_text, words};
 use oracle::stored;
@@ -27,6 +29,9 @@ const USAGE: &str = "usage:
   oracle runs --stub [--runs N] [--seed S]
   oracle runs --given PATH [--runs N] [--seed S]
   oracle processor --program PATH [--runs N] [--seed S]
+  oracle list FILE [--listing PATH | --program PATH] [--given PATH] [--save FOLDER]
+  oracle list --text DISASSEMBLY ...
+                                   the decided branches of a program
   oracle evaluations --program PATH [--cases N] [--seed S]
   oracle evaluations --stub [--cases N] [--seed S]
 A file name of - is standard input or output.";
@@ -60,6 +65,10 @@ fn command(args: &[String]) -> Outcome {
         ["verdicts", options @ ..] => compare_verdicts(&Options::parse(options)?),
         ["nodes", options @ ..] => compare_nodes(&Options::parse(options)?),
         ["runs", options @ ..] => judge_by_runs(&Options::parse(options)?),
+        ["list", "--text", path, options @ ..] => {
+            list(Source::Text(path), &Options::parse(options)?)
+        }
+        ["list", path, options @ ..] => list(Source::File(path), &Options::parse(options)?),
         ["evaluations", options @ ..] => compare_evaluations(&Options::parse(options)?),
         _ => Err(USAGE.to_string()),
     }
@@ -68,6 +77,7 @@ fn command(args: &[String]) -> Outcome {
 #[derive(Default)]
 struct Options {
     program: Option<String>,
+    listing: Option<String>,
     given: Option<String>,
     stub: bool,
     smallest: bool,
@@ -97,6 +107,7 @@ impl Options {
             let number = || words::parse_number(value).ok_or(format!("{word} needs a number"));
             match *word {
                 "--program" => options.program = Some(value.to_string()),
+                "--listing" => options.listing = Some(value.to_string()),
                 "--given" => options.given = Some(value.to_string()),
                 "--save" => options.save = Some(value.to_string()),
                 "--sheets" => options.sheets = Some(number()?),
@@ -258,6 +269,15 @@ fn compare_evaluations(options: &Options) -> Outcome {
     let (cases, seed) = (options.cases.unwrap_or(200_000), options.seed.unwrap_or(1));
     let compared = evaluations::compare(&program, cases, seed);
     compared.map_err(|error| format!("{}: {error}", program[0]))
+}
+
+fn list(source: Source, options: &Options) -> Outcome {
+    let program = match (&options.listing, &options.program) {
+        (Some(path), _) => Some(Program::Listing(path)),
+        (None, path) => path.as_deref().map(Program::Frames),
+    };
+    let (given, save) = (options.given.as_deref(), options.save.as_deref());
+    command::list(&command::Job { source, program, given, save })
 }
 
 fn store(frames: &str, lines: &str, options: &Options) -> Outcome {

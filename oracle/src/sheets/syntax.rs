@@ -157,7 +157,7 @@ fn general(index: usize, size: u8, offset: u8) -> Register {
 }
 
 /// Every register that has a name, with its name.
-fn named() -> impl Iterator<Item = (&'static str, Register)> {
+pub fn named_registers() -> impl Iterator<Item = (&'static str, Register)> {
     let low = GENERAL.iter().enumerate().flat_map(|(index, row)| {
         row.iter().zip([8, 16, 32, 64]).map(move |(name, size)| (*name, general(index, size, 0)))
     });
@@ -166,9 +166,9 @@ fn named() -> impl Iterator<Item = (&'static str, Register)> {
 }
 
 pub fn register_by_name(name: &str) -> Option<Register> {
-    named().find(|(n, _)| *n == name).map(|(_, register)| register)
+    named_registers().find(|(n, _)| *n == name).map(|(_, register)| register)
 }
 
 pub fn register_name(register: Register) -> Option<&'static str> {
-    named().find(|(_, r)| *r == register).map(|(name, _)| name)
+    named_registers().find(|(_, r)| *r == register).map(|(name, _)| name)
 }

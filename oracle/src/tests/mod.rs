@@ -1,3 +1,4 @@
+mod disassembly;
 mod evaluation;
 mod listing;
 mod sheets;

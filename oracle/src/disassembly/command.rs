@@ -1,0 +1,254 @@
+//! The way from a program, or from its disassembly, to its decided branches.
+
+use crate::comparisons::verdicts::ABSENT;
+use crate::disassembly::blocks::{leaders, Leaders};
+use crate::disassembly::control_flow::{self, ControlFlow, Outside};
+use crate::disassembly::elf::{self, File, Span};
+use crate::disassembly::judge::{Decided, Program};
+use crate::disassembly::operand::parts;
+use crate::disassembly::sheets::{self, Counts, Part};
+use crate::disassembly::text::{self, Disassembly, Label};
+use crate::disassembly::{pointers, unwinding};
+use crate::sheets::encode::encode;
+use crate::sheets::syntax::Sheet;
+use std::fs;
+use std::process::Command;
+
+/// What to list: a linked file, or the disassembly of one.
+pub enum Source<'a> {
+    File(&'a str),
+    Text(&'a str),
+}
+
+pub struct Job<'a> {
+    pub source: Source<'a>,
+    pub program: Option<Program<'a>>,
+    /// The given source's driver, to compare with.
+    pub given: Option<&'a str>,
+    /// A folder for the sheets.
+    pub save: Option<&'a str>,
+}
+
+/// Sheets that a program is asked at a time.
+const BATCH: usize = 1_000;
+
+/// Differences that are shown.
+const SHOWN: usize = 10;
+
+const NO_OBJDUMP: &str = "objdump cannot be run (GNU binutils)";
+
+/// What objdump writes of a file.
+fn disassembled(path: &str) -> Result<String, String> {
+    let options = ["-d", "-M", "intel", "--no-show-raw-insn", "--"];
+    let output = Command::new("objdump").args(options).arg(path).env("LC_ALL", "C").output();
+    let output = output.map_err(|error| format!("{NO_OBJDUMP}: {error}"))?;
+    if !output.status.success() {
+        let words = String::from_utf8_lossy(&output.stderr);
+        return Err(format!("{path}: objdump: {}", words.trim()));
+    }
+    Ok(String::from_utf8_lossy(&output.stdout).to_string())
+}
+
+/// What the file says about entries and functions.
+fn outside(file: &File) -> Result<Outside, String> {
+    let code = file.code();
+    let unwinding = unwinding::read(file).ok_or("its unwinding tables (.eh_frame) are damaged")?;
+    let mut outside = Outside {
+        functions: unwinding.functions,
+        unread: unwinding.unread,
+        entries: unwinding.pads,
+        slots: Vec::new(),
+    };
+    outside.entries.push(file.entry);
+    outside.entries.extend(pointers::stored(file, &code));
+    outside.functions.extend(file.functions());
+    for name in [".got", ".got.plt"] {
+        let slots = file.section(name).map(|s| Span { start: s.address, end: s.address + s.size });
+        outside.slots.extend(slots);
+    }
+    Ok(outside)
+}
+
+/// Adds the targets of tables that instructions address.
+fn add_tables(file: &File, control: &ControlFlow, outside: &mut Outside) {
+    let code = file.code();
+    let targets = control.named.iter().flat_map(|table| pointers::offsets(file, &code, *table));
+    outside.entries.extend(targets);
+}
+
+/// Lists the source; true unless a program and the given source differ.
+pub fn list(job: &Job) -> Result<bool, String> {
+    match job.source {
+        Source::Text(path) => {
+            let bytes = fs::read(path).map_err(|error| format!("{path}: {error}"))?;
+            let text = String::from_utf8_lossy(&bytes).to_string();
+            let text = text::read(&text).map_err(|message| format!("{path}: {message}"))?;
+            println!("{TEXT_ALONE}");
+            let outside = Outside::default();
+            let control = control_flow::read(&text, &outside);
+            judged(job, &text, &leaders(&text, &control, &outside))
+        }
+        Source::File(path) => {
+            let bytes = fs::read(path).map_err(|error| format!("{path}: {error}"))?;
+            let name = |message: String| format!("{path}: {message}");
+            let file = elf::read(&bytes).map_err(name)?;
+            let mut outside = outside(&file).map_err(name)?;
+            let text = disassembled(path)?;
+            let text = text::read(&text).map_err(name)?;
+            let control = control_flow::read(&text, &outside);
+            add_tables(&file, &control, &mut outside);
+            judged(job, &text, &leaders(&text, &control, &outside))
+        }
+    }
+}
+
+const TEXT_ALONE: &str = "from the text alone: landing pads, tables and pointers to code, and \
+    whether the file is linked, are not known";
+
+fn judged(job: &Job, text: &Disassembly, leaders: &Leaders) -> Result<bool, String> {
+    let functions = sheets::functions(text);
+    let labels: Vec<Label> = functions.iter().map(|(label, _)| *label).collect();
+    let mut report =
+        Report { text, labels: &labels, counts: Counts::default(), ..Report::empty(text) };
+    let mut waiting: Vec<Part> = Vec::new();
+    for (number, (_, lines)) in functions.into_iter().enumerate() {
+        waiting.extend(sheets::parts(text, leaders, (number, lines), &mut report.counts));
+        if waiting.len() >= BATCH {
+            report.take(job, &std::mem::take(&mut waiting))?;
+        }
+    }
+    report.take(job, &waiting)?;
+    report.print(job);
+    Ok(report.differences == 0)
+}
+
+/// What is found, printed as it is found and counted.
+struct Report<'a> {
+    text: &'a Disassembly<'a>,
+    labels: &'a [Label<'a>],
+    counts: Counts,
+    sheets: usize,
+    always: usize,
+    never: usize,
+    compared: bool,
+    differences: usize,
+}
+
+impl<'a> Report<'a> {
+    fn empty(text: &'a Disassembly<'a>) -> Report<'a> {
+        Report {
+            text,
+            labels: &[],
+            counts: Counts::default(),
+            sheets: 0,
+            always: 0,
+            never: 0,
+            compared: true,
+            differences: 0,
+        }
+    }
+
+    fn take(&mut self, job: &Job, parts: &[Part]) -> Result<(), String> {
+        self.sheets += parts.len();
+        if let Some(folder) = job.save {
+            save(folder, parts)?;
+        }
+        let Some(program) = &job.program else {
+            return Ok(());
+        };
+        let sheets: Vec<Sheet> = parts.iter().map(|part| part.sheet.clone()).collect();
+        let failed = |error: std::io::Error| format!("the program: {error}");
+        let lists = program.decided(&sheets).map_err(failed)?.ok_or(ABSENT)?;
+        for (part, list) in parts.iter().zip(&lists) {
+            list.iter().for_each(|branch| self.decided(part, branch));
+        }
+        let Some(given) = job.given else {
+            return Ok(());
+        };
+        match Program::Frames(given).decided(&sheets).map_err(failed)? {
+            None => self.compared = false,
+            Some(due) => self.compare(parts, &due, &lists),
+        }
+        Ok(())
+    }
+
+    /// One branch as objdump shows it, and its verdict.
+    fn decided(&mut self, part: &Part, branch: &Decided) {
+        let line = self.text.line_at(branch.site).expect("a branch stands in a line");
+        let name = parts(self.text.lines[line].text).mnemonic;
+        let verdict = if branch.always { "always" } else { "never" };
+        self.always += usize::from(branch.always);
+        self.never += usize::from(!branch.always);
+        let site = self.shown(part.function, branch.site);
+        let target = self.labels.partition_point(|label| label.address <= branch.target);
+        let target = self.shown(target.saturating_sub(1), branch.target);
+        println!("{site} {name} {target} {verdict}");
+    }
+
+    /// An address with its function, as objdump shows the target of a jump.
+    fn shown(&self, function: usize, address: u64) -> String {
+        let label = self.labels[function];
+        match address.wrapping_sub(label.address) {
+            0 => format!("{address:x} <{}>", label.name),
+            offset => format!("{address:x} <{}+{offset:#x}>", label.name),
+        }
+    }
+
+    fn compare(&mut self, parts: &[Part], due: &[Vec<Decided>], found: &[Vec<Decided>]) {
+        for ((part, due), found) in parts.iter().zip(due).zip(found) {
+            if due == found {
+                continue;
+            }
+            self.differences += 1;
+            if self.differences <= SHOWN {
+                println!("difference in a sheet of <{}>", self.labels[part.function].name);
+                println!("  given:   {due:x?}");
+                println!("  program: {found:x?}");
+            }
+        }
+    }
+
+    fn print(&self, job: &Job) {
+        let counts = &self.counts;
+        println!("functions {}, in {} sheets", counts.functions, self.sheets);
+        println!("  with no instruction: {}", counts.empty);
+        println!("  any instruction may be entered: {}", counts.open);
+        println!("instructions {}", counts.instructions);
+        println!("  calls, returns, system calls, traps: {}", counts.calls);
+        println!("  not known, listed as call-like: {}", counts.all_unknown());
+        println!("blocks cut because they are longer than a sheet: {}", counts.cut);
+        println!("conditional branches {}", counts.branches);
+        println!("  where any instruction may be entered: {}", counts.open_branches);
+        if job.program.is_some() {
+            let undecided = counts.branches - self.always - self.never;
+            println!("  always {}, never {}, undecided {undecided}", self.always, self.never);
+        }
+        if !counts.unknown.is_empty() {
+            println!("not known: {}", most_first(counts));
+        }
+        match job.given {
+            Some(_) if self.compared => {
+                println!("compared {} sheets, differences {}", self.sheets, self.differences);
+            }
+            Some(_) => println!("{ABSENT}"),
+            None => {}
+        }
+    }
+}
+
+/// The names of what is not known, the most frequent first.
+fn most_first(counts: &Counts) -> String {
+    let mut list: Vec<(&String, &usize)> = counts.unknown.iter().collect();
+    list.sort_by_key(|(_, count)| std::cmp::Reverse(**count));
+    let words: Vec<String> = list.iter().map(|(name, count)| format!("{name} {count}")).collect();
+    words.join(", ")
+}
+
+/// Stores sheets, each under its first address.
+fn save(folder: &str, parts: &[Part]) -> Result<(), String> {
+    for part in parts {
+        let path = format!("{folder}/{:x}.sheet", part.sheet.instructions[0].address);
+        fs::write(&path, encode(&part.sheet).bytes).map_err(|error| format!("{path}: {error}"))?;
+    }
+    Ok(())
+}

@@ -1,0 +1,153 @@
+//! Functions as sheets: one for each, or several where it is too long.
+
+use crate::disassembly::blocks::{blocks, Leaders};
+use crate::disassembly::instruction::{listed, Standing};
+use crate::disassembly::text::{Disassembly, Label};
+use crate::sheets::encode::encode;
+use crate::sheets::syntax::{Block, Instruction, Sheet};
+use std::collections::BTreeMap;
+use std::ops::Range;
+
+/// The most that a sheet can have, and the most bytes that the listing program
+/// takes.
+const MOST_INSTRUCTIONS: usize = 2_048;
+const MOST_BLOCKS: usize = 1_024;
+const MOST_BYTES: usize = 65_536;
+
+/// The bytes of an empty sheet, and of a block.
+const EMPTY: usize = 6;
+const BLOCK: usize = 16;
+
+/// A sheet with the number of its function's label.
+#[derive(Debug)]
+pub struct Part {
+    pub function: usize,
+    pub sheet: Sheet,
+}
+
+#[derive(Debug, Default, PartialEq, Eq)]
+pub struct Counts {
+    pub functions: usize,
+    /// Labels with no instruction of their own.
+    pub empty: usize,
+    /// Functions in which any instruction may be entered.
+    pub open: usize,
+    pub instructions: usize,
+    pub branches: usize,
+    /// Branches in those functions.
+    pub open_branches: usize,
+    /// Blocks that are longer than a sheet, and cut.
+    pub cut: usize,
+    pub calls: usize,
+    /// Instructions that are not known, by their names.
+    pub unknown: BTreeMap<String, usize>,
+}
+
+impl Counts {
+    pub fn all_unknown(&self) -> usize {
+        self.unknown.values().sum()
+    }
+}
+
+/// The line numbers of each label's function: from it to the next label.
+pub fn functions<'a>(text: &Disassembly<'a>) -> Vec<(Label<'a>, Range<usize>)> {
+    let at = |address: u64| text.lines.partition_point(|line| line.address < address);
+    let ends = text.labels.iter().skip(1).map(|label| at(label.address)).chain([text.lines.len()]);
+    text.labels.iter().zip(ends).map(|(label, end)| (*label, at(label.address)..end)).collect()
+}
+
+/// The sheets of one function, being filled.
+struct Cutter<'a> {
+    function: usize,
+    filled: &'a mut Vec<Part>,
+    sheet: Sheet,
+    bytes: usize,
+}
+
+impl Cutter<'_> {
+    fn finish(&mut self) {
+        let sheet = std::mem::take(&mut self.sheet);
+        if !sheet.instructions.is_empty() {
+            self.filled.push(Part { function: self.function, sheet });
+        }
+        self.bytes = EMPTY;
+    }
+
+    /// Adds a block that ends at `end`; to a new sheet where this one is full.
+    fn block(&mut self, instructions: Vec<Instruction>, bytes: usize, end: u64) {
+        let full = self.sheet.instructions.len() + instructions.len() > MOST_INSTRUCTIONS
+            || self.sheet.blocks.len() == MOST_BLOCKS
+            || self.bytes + bytes + BLOCK > MOST_BYTES;
+        if full {
+            self.finish();
+        }
+        let from = instructions[0].address;
+        self.sheet.blocks.push(Block { from, to: end });
+        self.sheet.instructions.extend(instructions);
+        self.bytes += bytes + BLOCK;
+    }
+}
+
+/// How many bytes an instruction takes in a sheet.
+fn size(instruction: &Instruction) -> usize {
+    let sheet = Sheet { instructions: vec![instruction.clone()], ..Sheet::default() };
+    encode(&sheet).bytes.len() - EMPTY
+}
+
+/// A block's instructions, in pieces that each fit a sheet.
+fn pieces(instructions: Vec<Instruction>) -> Vec<(Vec<Instruction>, usize)> {
+    let mut pieces = vec![(Vec::new(), 0)];
+    for instruction in instructions {
+        let more = size(&instruction);
+        let (piece, bytes) = pieces.last().expect("there is a piece");
+        if piece.len() == MOST_INSTRUCTIONS || EMPTY + bytes + more + BLOCK > MOST_BYTES {
+            pieces.push((Vec::new(), 0));
+        }
+        let (piece, bytes) = pieces.last_mut().expect("there is a piece");
+        piece.push(instruction);
+        *bytes += more;
+    }
+    pieces
+}
+
+/// The sheets of one function.
+pub fn parts(
+    text: &Disassembly,
+    leaders: &Leaders,
+    (function, lines): (usize, Range<usize>),
+    counts: &mut Counts,
+) -> Vec<Part> {
+    counts.functions += 1;
+    counts.empty += usize::from(lines.is_empty());
+    counts.open += usize::from(leaders.open[lines.clone()].contains(&true));
+    let mut filled = Vec::new();
+    let mut cutter =
+        Cutter { function, filled: &mut filled, sheet: Sheet::default(), bytes: EMPTY };
+    for block in blocks(&leaders.leads, lines) {
+        let open = leaders.open[block.start];
+        let instructions: Vec<Instruction> =
+            block.clone().map(|number| counted(text, number, open, counts)).collect();
+        let pieces = pieces(instructions);
+        counts.cut += pieces.len() - 1;
+        for (piece, bytes) in pieces {
+            let end = piece[piece.len() - 1].address + 1;
+            cutter.block(piece, bytes, end);
+        }
+    }
+    cutter.finish();
+    filled
+}
+
+fn counted(text: &Disassembly, number: usize, open: bool, counts: &mut Counts) -> Instruction {
+    let listed = listed(&text.lines[number]);
+    counts.instructions += 1;
+    let branches = usize::from(listed.instruction.target.is_some());
+    counts.branches += branches;
+    counts.open_branches += if open { branches } else { 0 };
+    match listed.standing {
+        Standing::Listed => {}
+        Standing::Call => counts.calls += 1,
+        Standing::Unknown(name) => *counts.unknown.entry(name.to_string()).or_default() += 1,
+    }
+    listed.instruction
+}

@@ -1,0 +1,375 @@
+//! The lister: the parser, the table, blocks and sheets.
+
+use crate::disassembly::blocks::leaders;
+use crate::disassembly::control_flow::{self, Outside};
+use crate::disassembly::elf::{self, Span};
+use crate::disassembly::instruction::{listed, Flow, Standing};
+use crate::disassembly::judge::of_listing;
+use crate::disassembly::sheets::{self, Counts, Part};
+use crate::disassembly::text::{self, Disassembly, Line};
+use crate::disassembly::{pointers, table, unwinding};
+use crate::judges::reader;
+use crate::sheets::encode::encode;
+use crate::sheets::names::mnemonic;
+use crate::sheets::syntax::Sheet;
+use crate::sheets::to_text;
+use std::collections::BTreeSet;
+
+const HEAD: &str = "\na.out:     file format elf64-x86-64\n\n\nDisassembly of section .text:\n";
+
+/// The disassembly of one function at 0x1000 whose instructions have a byte each.
+fn function(instructions: &[&str]) -> String {
+    let mut text = format!("{HEAD}\n0000000000001000 <f>:\n");
+    for (number, instruction) in instructions.iter().enumerate() {
+        text += &format!("    {:x}:\t{instruction}\n", 0x1000 + number);
+    }
+    text
+}
+
+/// The text of an instruction's line in a sheet, without its address.
+fn in_sheet(instruction: &str) -> String {
+    let listed = listed(&Line { address: 0, text: instruction, after_gap: false });
+    let sheet = Sheet { instructions: vec![listed.instruction], ..Sheet::default() };
+    assert!(reader::read(&encode(&sheet).bytes).is_ok(), "{instruction}");
+    to_text::text(&sheet).trim().replacen("insn 0x0 ", "", 1)
+}
+
+#[test]
+fn instructions_become_what_the_manual_says_of_them() {
+    let cases = [
+        // Modelled as they are.
+        ("xor    eax,eax", "xor eax eax"),
+        ("mov    rax,QWORD PTR fs:0x28", "mov rax mem"),
+        ("movabs rax,0x1122334455667788", "mov rax 0x1122334455667788"),
+        ("cmp    cx,0xffff", "cmp cx 0xffff"),
+        ("test   BYTE PTR [rip+0x2f0c],0x1        # 4010 <x>", "test mem 0x1 flags cf pf zf sf of"),
+        ("sub    ah,BYTE PTR [rdx]", "sub ah mem"),
+        ("stc", "stc"),
+        ("not    r9b", "not r9b writes r9b"),
+        ("inc    ebx", "inc ebx writes ebx flags pf zf sf of"),
+        ("dec    QWORD PTR [rax]", "dec mem flags pf zf sf of"),
+        ("neg    rdi", "neg rdi writes rdi flags cf pf zf sf of"),
+        ("lock add DWORD PTR [rdi],eax", "add mem eax flags cf pf zf sf of"),
+        // Jumps.
+        ("je     1178 <f+0x12>", "je target 0x1178"),
+        ("bnd jno 0x16", "jno target 0x16"),
+        ("cs jne db16 <g>", "jne target 0xdb16"),
+        ("jrcxz  1178 <f+0x12>", "jrcxz target 0x1178"),
+        ("jecxz  1178 <f+0x12>", "jecxz target 0x1178"),
+        ("loopne 1178 <f+0x12>", "other target 0x1178 writes rcx"),
+        ("jmp    1178 <f+0x12>", "other"),
+        ("notrack jmp rax", "other call"),
+        // Not modelled: written registers and flags declared.
+        ("lea    rdi,[rip+0xe9b]        # 2004 <x>", "other writes rdi"),
+        ("data16 lea rdi,[rip+0x0]        # 85 <x>", "other writes rdi"),
+        ("movzx  eax,BYTE PTR [rax]", "other writes eax"),
+        ("imul   ecx", "other writes rax rdx flags cf pf zf sf of"),
+        ("imul   eax,ecx,0x64", "other writes eax flags cf pf zf sf of"),
+        ("div    rcx", "other writes rax rdx flags cf pf zf sf of"),
+        ("shl    eax,1", "other writes eax flags cf pf zf sf of"),
+        ("ror    dl,cl", "other writes dl flags cf of"),
+        ("sete   al", "other writes al"),
+        ("cmovne rax,rdx", "other writes rax"),
+        ("adc    DWORD PTR [rax],0x1", "other flags cf pf zf sf of"),
+        ("xchg   QWORD PTR [rdx],rax", "other writes rax"),
+        ("xchg   rbx,rax", "other writes rbx rax"),
+        ("lock cmpxchg DWORD PTR [rdi],ecx", "other writes rax flags cf pf zf sf of"),
+        ("lock xadd DWORD PTR [rdi],ecx", "other writes ecx flags cf pf zf sf of"),
+        ("lock cmpxchg16b XMMWORD PTR [rdi]", "other writes rax rdx flags zf"),
+        ("push   rbp", "other writes rsp"),
+        ("pop    rbp", "other writes rsp rbp"),
+        ("leave", "other writes rsp rbp"),
+        ("popf", "other writes rsp flags cf pf zf sf of"),
+        ("sahf", "other flags cf pf zf sf"),
+        ("cqo", "other writes rdx"),
+        ("cdqe", "other writes rax"),
+        ("rep stos QWORD PTR es:[rdi],rax", "other writes rcx rdi"),
+        (
+            "repz cmps BYTE PTR ds:[rsi],BYTE PTR es:[rdi]",
+            "other writes rcx rsi rdi flags cf pf zf sf of",
+        ),
+        ("lods   al,BYTE PTR ds:[rsi]", "other writes rax rcx rsi"),
+        ("cs nop WORD PTR [rax+rax*1+0x0]", "other"),
+        ("endbr64", "other"),
+        ("movups XMMWORD PTR [rsp],xmm0", "other"),
+        ("vmovd  eax,xmm0", "other writes eax"),
+        ("vpcmpeqb k1{k2},zmm0,ZMMWORD PTR [rax]", "other"),
+        ("kmovd  ecx,k1", "other writes ecx"),
+        ("ucomisd xmm0,xmm1", "other flags cf pf zf sf of"),
+        ("pcmpistri xmm0,XMMWORD PTR [rdx],0x1a", "other writes rcx flags cf pf zf sf of"),
+        ("fnstsw ax", "other writes ax"),
+        ("fucomip st,st(1)", "other flags cf pf zf sf of"),
+        // Moves of segment, control and debug registers.
+        ("mov    eax,ds", "other writes eax"),
+        ("mov    fs,eax", "other"),
+        ("mov    rax,cr0", "other writes rax flags cf pf zf sf of"),
+        ("mov    dr7,rax", "other flags cf pf zf sf of"),
+        // Calls, and what is not known.
+        ("call   1030 <puts@plt>", "other call"),
+        ("data16 rex.W call 1030 <__tls_get_addr@plt>", "other call"),
+        ("repz ret", "other call"),
+        ("syscall", "other call"),
+        ("in     al,dx", "other call"),
+        ("pop    fs", "other call"),
+        ("lock add eax,ebx", "other call"),
+        ("rep add eax,ebx", "other call"),
+        ("data16 je 1178 <f+0x12>", "other call"),
+        ("xbegin 1178 <f+0x12>", "other call"),
+        ("frobnicate eax", "other call"),
+        ("add    eax,tmm0", "other call"),
+        ("(bad)", "other call"),
+        ("rex.W", "other call"),
+    ];
+    for (instruction, due) in cases {
+        assert_eq!(in_sheet(instruction), due, "{instruction}");
+    }
+}
+
+#[test]
+fn control_goes_where_the_instruction_says() {
+    let flow = |text| listed(&Line { address: 0, text, after_gap: false }).flow;
+    assert_eq!(flow("jmp    1178 <f+0x12>"), Flow::Jump(0x1178));
+    assert_eq!(flow("jmp    QWORD PTR [rax*8+0x1234]"), Flow::IndirectJump);
+    assert_eq!(flow("data16 jmp rax"), Flow::IndirectJump);
+    assert_eq!(flow("jmp    1178 <__x86_indirect_thunk_rax>"), Flow::IndirectJump);
+    assert_eq!(flow("jmp    1178 <__x86_return_thunk>"), Flow::Ends);
+    assert_eq!(flow("data16 je 1178 <f+0x12>"), Flow::Branch(0x1178));
+    assert_eq!(flow("xbegin 1178 <f+0x12>"), Flow::Branch(0x1178));
+    assert_eq!(flow("loop   1178 <f+0x12>"), Flow::Branch(0x1178));
+    assert_eq!(flow("call   rax"), Flow::Next);
+    assert_eq!(flow("ud2"), Flow::Ends);
+    assert_eq!(flow("(bad)"), Flow::Ends);
+}
+
+#[test]
+fn the_table_has_each_name_once_and_none_that_is_modelled() {
+    let names = table::names();
+    let once: BTreeSet<&String> = names.iter().collect();
+    assert_eq!(names.len(), once.len(), "a name stands twice");
+    assert!(names.iter().all(|name| !mnemonic::NAMES.contains(&name.as_str())));
+    let unknown = Line { address: 0, text: "vpnothing xmm0", after_gap: false };
+    assert_eq!(listed(&unknown).standing, Standing::Unknown("vpnothing"));
+}
+
+#[test]
+fn what_is_no_disassembly_is_refused() {
+    let error = |text: &str| text::read(text).expect_err(text);
+    assert!(error("").contains("no line names a file format"));
+    assert!(error("hello\n").contains("line 1: no disassembly"));
+    assert!(error(&HEAD.replace("elf64-x86-64", "elf64-littleaarch64")).contains("aarch64"));
+    assert!(error(HEAD).contains("no instruction"));
+    assert!(error(&function(&["mov    %eax,%ebx"])).contains("-M intel"));
+    assert!(error(&function(&["90 \tnop"])).contains("--no-show-raw-insn"));
+    assert!(error(&format!("{HEAD}{HEAD}")).contains("more than one file"));
+    let relocation = function(&["nop"]) + "\t\t\t1000: R_X86_64_PLT32\tputs-0x4\n";
+    assert!(error(&relocation).contains("not linked"));
+    let falling = function(&["nop"]) + "    1000:\tnop\n";
+    assert!(error(&falling).contains("does not rise"));
+    assert!(error(&(function(&["nop"]) + "something else\n")).contains("no line of a disassembly"));
+}
+
+#[test]
+fn files_of_other_kinds_are_refused() {
+    let error = |bytes: &[u8]| elf::read(bytes).err().unwrap_or_default();
+    let own = std::fs::read(std::env::current_exe().unwrap()).unwrap();
+    let with = |at: usize, byte: u8| {
+        let mut bytes = own.clone();
+        bytes[at] = byte;
+        bytes
+    };
+    assert_eq!(error(b"#!/bin/sh\n"), "no ELF file");
+    assert!(error(&with(18, 183)).contains("not for x86-64"));
+    assert!(error(&with(4, 1)).contains("not for x86-64"));
+    assert!(error(&with(16, 1)).contains("not linked"));
+    assert!(error(&with(16, 4)).contains("neither"));
+    assert!(error(&own[..100]).contains("cut"));
+    assert_eq!(error(&own), "");
+}
+
+/// Addresses at which blocks start.
+fn starts(text: &Disassembly, outside: &Outside) -> Vec<u64> {
+    let control = control_flow::read(text, outside);
+    let leaders = leaders(text, &control, outside);
+    let lines = text.lines.iter().zip(&leaders.leads);
+    lines.filter(|(_, leads)| **leads).map(|(line, _)| line.address).collect()
+}
+
+#[test]
+fn blocks_start_at_entries() {
+    let code =
+        function(&["xor    eax,eax", "nop", "je     1004 <f+0x4>", "nop", "nop", "ret", "nop"]);
+    let text = text::read(&code).unwrap();
+    assert_eq!(starts(&text, &Outside::default()), [0x1000, 0x1003, 0x1004, 0x1006]);
+    // A landing pad, or any other place that may be entered.
+    let outside = Outside { entries: vec![0x1001], ..Outside::default() };
+    assert_eq!(starts(&text, &outside), [0x1000, 0x1001, 0x1003, 0x1004, 0x1006]);
+    let every: Vec<u64> = (0x1000..0x1007).collect();
+    let unread = vec![Span { start: 0x1000, end: 0x1007 }];
+    assert_eq!(starts(&text, &Outside { unread, ..Outside::default() }), every);
+}
+
+#[test]
+fn a_call_an_address_and_a_gap_start_blocks() {
+    let code = function(&["nop", "call   1003 <f+0x3>", "nop", "nop", "nop", "ret"]);
+    assert_eq!(starts(&text::read(&code).unwrap(), &Outside::default()), [0x1000, 0x1003]);
+    let code = function(&["nop", "lea    rax,[rip+0x1]        # 1003 <f+0x3>", "nop", "nop"]);
+    assert_eq!(starts(&text::read(&code).unwrap(), &Outside::default()), [0x1000, 0x1003]);
+    let code = function(&["nop", "mov    eax,0x1003", "nop", "nop"]);
+    assert_eq!(starts(&text::read(&code).unwrap(), &Outside::default()), [0x1000, 0x1003]);
+    let code =
+        function(&["nop", "nop"]) + "\t...\n    1010:\tnop\n    1011:\t(bad)\n    1012:\tnop\n";
+    assert_eq!(starts(&text::read(&code).unwrap(), &Outside::default()), [0x1000, 0x1010, 0x1012]);
+}
+
+#[test]
+fn every_instruction_may_be_entered_where_a_jump_is_not_known() {
+    let every: Vec<u64> = (0x1000..0x1004).collect();
+    let code = function(&["nop", "nop", "jmp    rax", "nop"]);
+    assert_eq!(starts(&text::read(&code).unwrap(), &Outside::default()), every);
+    // Into an instruction, here the one at 1001.
+    let code =
+        function(&["nop", "nop", "nop", "ret"]).replace("1002:", "1005:").replace("1003:", "1006:");
+    let into = code.clone() + "    1007:\tje     1003 <f+0x3>\n";
+    let text = text::read(&into).unwrap();
+    assert_eq!(starts(&text, &Outside::default()), [0x1000, 0x1001, 0x1005, 0x1006, 0x1007]);
+}
+
+#[test]
+fn parts_of_a_function_are_entered_together() {
+    let two = |first: &[&str], label: &str, second: &[&str]| {
+        let mut text = function(first);
+        let start = 0x1000 + first.len();
+        text += &format!("\n{start:016x} <{label}>:\n");
+        for (number, instruction) in second.iter().enumerate() {
+            text += &format!("    {:x}:\t{instruction}\n", start + number);
+        }
+        text
+    };
+    let open = |code: &str, outside: &Outside| {
+        let text = text::read(code).unwrap();
+        let control = control_flow::read(&text, outside);
+        leaders(&text, &control, outside).open
+    };
+    let alone = Outside::default();
+    // Control goes on from one to the other, or does not.
+    let code = two(&["nop", "nop"], "g", &["jmp    rax"]);
+    assert_eq!(open(&code, &alone), [true; 3]);
+    let code = two(&["ret", "nop"], "g", &["jmp    rax"]);
+    assert_eq!(open(&code, &alone), [false, false, true]);
+    let code = two(&["ret", "nop"], "f.cold", &["jmp    rax"]);
+    assert_eq!(open(&code, &alone), [true; 3]);
+    let code = two(&["jmp    1003 <g+0x1>", "nop"], "g", &["jmp    rax", "nop"]);
+    assert_eq!(open(&code, &alone), [true; 4]);
+    // A jump to a label is one into the same function, if nothing says otherwise.
+    let code = two(&["jmp    1002 <g>", "nop"], "g", &["jmp    rax", "nop"]);
+    assert_eq!(open(&code, &alone), [true; 4]);
+    let span = |start, end| Span { start, end };
+    let known = Outside {
+        functions: vec![span(0x1000, 0x1002), span(0x1002, 0x1004)],
+        ..Outside::default()
+    };
+    assert_eq!(open(&code, &known), [false, false, true, true]);
+    // A call that ends a function does not return.
+    let code = two(&["nop", "call   1000 <f>"], "g", &["jmp    rax", "nop"]);
+    assert_eq!(open(&code, &alone), [true; 4]);
+    assert_eq!(open(&code, &known), [false, false, true, true]);
+    // A label inside a function.
+    let whole = Outside { functions: vec![span(0x1000, 0x1004)], ..Outside::default() };
+    assert_eq!(open(&two(&["ret", "nop"], "g", &["jmp    rax", "nop"]), &whole), [true; 4]);
+}
+
+#[test]
+fn jumps_of_stubs_and_through_slots_go_to_functions() {
+    let code = function(&["jmp    QWORD PTR [rip+0x2]        # 2010 <puts@GLIBC>", "nop"]);
+    let text = text::read(&code).unwrap();
+    assert_eq!(starts(&text, &Outside::default()), [0x1000, 0x1001]);
+    let slots = vec![Span { start: 0x2000, end: 0x2018 }];
+    let outside = Outside { slots, ..Outside::default() };
+    let control = control_flow::read(&text, &outside);
+    assert_eq!(leaders(&text, &control, &outside).open, [false; 2]);
+    let code = function(&["jmp    rax", "nop"]).replace(".text", ".plt.sec");
+    let text = text::read(&code).unwrap();
+    let control = control_flow::read(&text, &Outside::default());
+    assert_eq!(leaders(&text, &control, &Outside::default()).open, [false; 2]);
+}
+
+fn all_parts(text: &Disassembly, counts: &mut Counts) -> Vec<Part> {
+    let control = control_flow::read(text, &Outside::default());
+    let leaders = leaders(text, &control, &Outside::default());
+    let functions = sheets::functions(text).into_iter().enumerate();
+    functions
+        .flat_map(|(number, (_, lines))| sheets::parts(text, &leaders, (number, lines), counts))
+        .collect()
+}
+
+#[test]
+fn long_functions_become_several_sheets() {
+    let jumps = vec!["je     1000 <f>"; 3_000];
+    let long = vec!["add    rax,0x1"; 5_000];
+    for instructions in [[jumps.clone(), long.clone()].concat(), [long, jumps].concat()] {
+        let code = function(&instructions);
+        let text = text::read(&code).unwrap();
+        let mut counts = Counts::default();
+        let parts = all_parts(&text, &mut counts);
+        assert_eq!((counts.instructions, counts.branches), (8_000, 3_000));
+        assert!(counts.cut > 0);
+        let mut listed = Vec::new();
+        for part in &parts {
+            let bytes = encode(&part.sheet).bytes;
+            assert!(bytes.len() <= 65_536);
+            assert!(reader::read(&bytes).is_ok());
+            listed.extend(part.sheet.instructions.iter().map(|insn| insn.address));
+            let inside = part.sheet.blocks.iter().map(|block| block.to - block.from).sum::<u64>();
+            assert_eq!(inside, part.sheet.instructions.len() as u64, "each in one block");
+        }
+        assert_eq!(listed, (0x1000..0x1000 + 8_000).collect::<Vec<u64>>());
+    }
+}
+
+#[test]
+fn a_sheet_has_the_blocks_of_its_function() {
+    let code = function(&["xor    eax,eax", "je     1003 <f+0x3>", "ret", "frobnicate", "ret"]);
+    let text = text::read(&code).unwrap();
+    let mut counts = Counts::default();
+    let parts = all_parts(&text, &mut counts);
+    assert_eq!(parts.len(), 1);
+    let due = "insn 0x1000 xor eax eax\ninsn 0x1001 je target 0x1003\ninsn 0x1002 other call\n\
+               insn 0x1003 other call\ninsn 0x1004 other call\n\
+               block 0x1000 0x1002\nblock 0x1002 0x1003\nblock 0x1003 0x1005\n";
+    assert_eq!(to_text::text(&parts[0].sheet), due);
+    assert_eq!((counts.functions, counts.calls, counts.all_unknown()), (1, 2, 1));
+    assert_eq!(counts.unknown.get("frobnicate"), Some(&1));
+}
+
+/// The program of these tests unwinds, so it has landing pads.
+#[test]
+fn a_file_tells_its_functions_and_landing_pads() {
+    let bytes = std::fs::read(std::env::current_exe().unwrap()).unwrap();
+    let file = elf::read(&bytes).unwrap();
+    let code = file.code();
+    let unwinding = unwinding::read(&file).expect("the tables are whole");
+    assert!(unwinding.functions.len() > 100 && unwinding.pads.len() > 100);
+    assert_eq!(unwinding.unread, []);
+    let inside = |spans: &[Span], address: u64| spans.iter().any(|span| span.holds(address));
+    assert!(unwinding.functions.iter().all(|span| inside(&code, span.start)));
+    let mut functions = unwinding.functions.clone();
+    functions.sort();
+    let covered = |pad: &u64| {
+        let after = functions.partition_point(|span| span.start <= *pad);
+        after > 0 && functions[after - 1].holds(*pad)
+    };
+    assert!(unwinding.pads.iter().all(covered));
+    assert!(pointers::stored(&file, &code).iter().any(|address| covered(address)));
+}
+
+#[test]
+fn the_listing_is_read_back() {
+    let text = "branches 1\n0000000000000012 0000000000000020 always 1\n";
+    let list = of_listing(text).unwrap();
+    assert_eq!(
+        (list[0].site, list[0].target, list[0].always, list[0].reason),
+        (0x12, 0x20, true, 1)
+    );
+    assert!(of_listing("branches 2\n0000000000000012 0000000000000020 always 1\n").is_none());
+    assert!(of_listing("refused 1 at 0\n").is_none());
+}
