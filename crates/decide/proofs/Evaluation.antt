@@ -25,17 +25,8 @@ use Rattle.arith.proofs.Laws.{convert-lt, count-is, cut-lt}
 use Rattle.decide.proofs.TypeLaws.{promoted-taken, together-taken, constant-wide}
 use Rattle.parity.specs.Parity.{Entry, constantOf, onRemainder, onShift, entered}
 use Rattle.parity.specs.Parity.Entry.{adds, multiplies, joins, keeps, clears, atom}
-use Rattle.decide.specs.LowBit.{atomBit, bitOf, lowBit}
-use Rattle.decide.proofs.LowBits.{bit, width-low, convert-low, sum-low, difference-low, product-low, xor-low, and-low, or-low, remainder-low, shift-none, shift-some}
-
--- the low bit of a value, where there is one
-abbrev pub low : Value → Bool
-low (Of x) = bit x
-low NoValue = false
-
-abbrev pub Has : Value → Type 0
-Has (Of x) = Unit {0}
-Has NoValue = ⊥
+use Rattle.decide.specs.LowBit.{bit, atomBit, bitOf, lowBit, low, Has, sharedBits, ownBits}
+use Rattle.decide.proofs.LowBits.{width-low, convert-low, sum-low, difference-low, product-low, xor-low, and-low, or-low, remainder-low, shift-none, shift-some}
 
 -- The operators that are entered, and that no other is.
 data View : ℕ → Type 0 where
@@ -201,28 +192,16 @@ module _ (types : List ℕ) (ρ σ : Values) (m : Contents) where
   abbrev at : Effects → Expr → Value
   at f e = ev types ρ σ (shared m) f e
 
-  -- the bits of atoms: of one without effects by its tree; of one with effects by its path
-  abbrev pub sharedBits : Expr → Bool
-  sharedBits e = low (at (λ path. 0) e)
+  abbrev shared-bits : Expr → Bool
+  shared-bits e = sharedBits types ρ σ m e
 
-  unfoldable pub ownBits : Effects → Expr → ByPath Bool
-  ownBits f (variable n) path = low (at f (variable n))
-  ownBits f (constant w x) path = false
-  ownBits f conditionTrue path = low (at f conditionTrue)
-  ownBits f conditionFalse path = low (at f conditionFalse)
-  ownBits f (effect t) path = low (at f (effect t))
-  ownBits f (load t a) path = low (at f (load t a))
-  ownBits f (cast t a) [] = low (at f (cast t a))
-  ownBits f (cast t a) (k ∷ path) = ownBits (under 0 f) a path
-  ownBits f (binary o a b) [] = low (at f (binary o a b))
-  ownBits f (binary o a b) (zero ∷ path) = ownBits (under 0 f) a path
-  ownBits f (binary o a b) (suc k ∷ path) = ownBits (under 1 f) b path
-  ownBits f (ternary c a b) path = low (at f (ternary c a b))
+  abbrev own-bits : Effects → Expr → ByPath Bool
+  own-bits f e = ownBits types ρ σ m f e
 
-  atom-low : (f : Effects) (e : Expr) (φ : ByPath Bool) → φ [] ≡ low (at f e) → low (at f e) ≡ atomBit sharedBits φ e
+  atom-low : (f : Effects) (e : Expr) (φ : ByPath Bool) → φ [] ≡ low (at f e) → low (at f e) ≡ atomBit shared-bits φ e
   atom-low f e φ own = go (hasOwnValue e) refl
     where
-      go : (b : Bool) → hasOwnValue e ≡ b → low (at f e) ≡ cond b (φ []) (sharedBits e)
+      go : (b : Bool) → hasOwnValue e ≡ b → low (at f e) ≡ cond b (φ []) (shared-bits e)
       go true test = sym own
       go false test = ap low (without-effect types ρ σ (shared m) f (λ path. 0) e test)
 
@@ -322,23 +301,23 @@ module _ (types : List ℕ) (ρ σ : Values) (m : Contents) where
     by-view o (other is) h own = rw (is b) own
 
   -- the low bit of every part that has a value
-  pub ev-low : (f : Effects) (e : Expr) → Has (at f e) → low (at f e) ≡ lowBit sharedBits (ownBits f e) e
+  pub ev-low : (f : Effects) (e : Expr) → Has (at f e) → low (at f e) ≡ lowBit shared-bits (own-bits f e) e
   unfolding lowBit ownBits
-  ev-low f (variable n) h = atom-low f (variable n) (ownBits f (variable n)) refl
+  ev-low f (variable n) h = atom-low f (variable n) (own-bits f (variable n)) refl
   ev-low f (constant w x) h = rw (constant-value f w x, width-low (constantType w) x)
-  ev-low f conditionTrue h = atom-low f conditionTrue (ownBits f conditionTrue) refl
-  ev-low f conditionFalse h = atom-low f conditionFalse (ownBits f conditionFalse) refl
-  ev-low f (effect t) h = atom-low f (effect t) (ownBits f (effect t)) refl
-  ev-low f (load t a) h = atom-low f (load t a) (ownBits f (load t a)) refl
+  ev-low f conditionTrue h = atom-low f conditionTrue (own-bits f conditionTrue) refl
+  ev-low f conditionFalse h = atom-low f conditionFalse (own-bits f conditionFalse) refl
+  ev-low f (effect t) h = atom-low f (effect t) (own-bits f (effect t)) refl
+  ev-low f (load t a) h = atom-low f (load t a) (own-bits f (load t a)) refl
   ev-low f (cast t a) h = go (eqb t 9) refl (ev-low (under 0 f) a)
     where
-      go : (b : Bool) → eqb t 9 ≡ b → (Has (at (under 0 f) a) → low (at (under 0 f) a) ≡ lowBit sharedBits (ownBits (under 0 f) a) a)
-          → low (at f (cast t a)) ≡ cond b (atomBit sharedBits (ownBits f (cast t a)) (cast t a)) (lowBit sharedBits (ownBits (under 0 f) a) a)
-      go true test below = atom-low f (cast t a) (ownBits f (cast t a)) refl
+      go : (b : Bool) → eqb t 9 ≡ b → (Has (at (under 0 f) a) → low (at (under 0 f) a) ≡ lowBit shared-bits (own-bits (under 0 f) a) a)
+          → low (at f (cast t a)) ≡ cond b (atomBit shared-bits (own-bits f (cast t a)) (cast t a)) (lowBit shared-bits (own-bits (under 0 f) a) a)
+      go true test below = atom-low f (cast t a) (own-bits f (cast t a)) refl
       go false test below = let d = cast-low f t a test h in d .is ∙ below (d .first)
   ev-low f (binary o a b) h =
       ap low (binary-value f o a b)
-      ∙ by-view f a b (lowBit sharedBits (ownBits (under 0 f) a) a) (lowBit sharedBits (ownBits (under 1 f) b) b)
-      (atomBit sharedBits (ownBits f (binary o a b)) (binary o a b)) (ev-low (under 0 f) a) (ev-low (under 1 f) b) o (view o) (rw (binary-value f o a b) at h)
-      (sym (ap low (binary-value f o a b)) ∙ atom-low f (binary o a b) (ownBits f (binary o a b)) refl)
-  ev-low f (ternary c a b) h = atom-low f (ternary c a b) (ownBits f (ternary c a b)) refl
+      ∙ by-view f a b (lowBit shared-bits (own-bits (under 0 f) a) a) (lowBit shared-bits (own-bits (under 1 f) b) b)
+      (atomBit shared-bits (own-bits f (binary o a b)) (binary o a b)) (ev-low (under 0 f) a) (ev-low (under 1 f) b) o (view o) (rw (binary-value f o a b) at h)
+      (sym (ap low (binary-value f o a b)) ∙ atom-low f (binary o a b) (own-bits f (binary o a b)) refl)
+  ev-low f (ternary c a b) h = atom-low f (ternary c a b) (own-bits f (ternary c a b)) refl

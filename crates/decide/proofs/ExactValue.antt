@@ -28,14 +28,14 @@ use Rattle.poly.proofs.Values.{value-one}
 use Rattle.parity.specs.Parity.{parity}
 use Rattle.decide.specs.Exact.{Shape, isConstant, decidedBit, low as lowOf, shape, shapeValue, evenOnly, atMostOne, exact}
 use Rattle.decide.specs.Exact.Shape.{lowLeft, lowRight, even, vanishes, other}
-use Rattle.decide.specs.LowBit.{lowBit}
+use Rattle.decide.specs.LowBit.{bit, lowBit, low, Has, sharedBits, ownBits}
 use Rattle.expr.proofs.Sameness.{sameTree-true}
 use Rattle.value.proofs.Laws.{ev-typed}
 use Rattle.value.proofs.Independence.{without-effect}
 use Rattle.decide.proofs.Choices.{poly-low, part-bits}
-use Rattle.decide.proofs.LowBits.{bit, by-two, convert-low, number-low, even-width}
+use Rattle.decide.proofs.LowBits.{by-two, convert-low, number-low, even-width}
 use Rattle.decide.proofs.TypeLaws.{constant-plain, small-plain, wider-left, wider-right, together-taken}
-use Rattle.decide.proofs.Evaluation.{low, Has, sharedBits, ownBits, ev-low}
+use Rattle.decide.proofs.Evaluation.{ev-low}
 
 -- every constant of a tree is below its width
 unfoldable pub Fitting : Expr → Type 0

@@ -13,10 +13,7 @@ use borrow.Author.Tests.{eq-eqb}
 use Rattle.arith.specs.Numbers.{negative, number, residue, wrap, convert, sum, difference, product, remainder, shiftLeft}
 use Rattle.expr.specs.Types.{bits}
 use Rattle.arith.proofs.Laws.{bits-pos, by-sign, some}
-
--- the low bit of a number
-abbrev pub bit : ℕ → Bool
-bit n = eqb (n % 2) 1
+use Rattle.decide.specs.LowBit.{bit}
 
 -- every power of 2 above the first is even
 pub record Halved (k : ℕ) : Type 0 where

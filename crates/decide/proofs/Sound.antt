@@ -34,13 +34,13 @@ use Rattle.verdict.specs.declared.Verdict.the-variants.{Always, Never, Undecide
 use Rattle.decide.specs.Decide.{said, saidIf, orElse, ofEqual, equalSides, isOne, asked, oddSides, onExact, equality, unsignedCast, unsignedZero, both, either, byOperator, decide}
 use Rattle.decide.specs.Exact.{isConstant, exact, written, compared, exactSides}
 use Rattle.parity.specs.Parity.{parity, difference}
-use Rattle.decide.specs.LowBit.{lowBit}
+use Rattle.decide.specs.LowBit.{bit, lowBit, low, Has, sharedBits, ownBits}
 use Rattle.poly.specs.Meaning.{value}
 use Rattle.poly.proofs.Values.{value-sum, value-one}
 use Rattle.decide.proofs.Choices.{poly-low, some-bits}
-use Rattle.decide.proofs.LowBits.{bit, convert-low}
+use Rattle.decide.proofs.LowBits.{convert-low}
 use Rattle.decide.proofs.TypeLaws.{together-taken, wider-left, wider-right, unsigned-left, unsigned-right, constant-unsigned, small-plain}
-use Rattle.decide.proofs.Evaluation.{Has, low, sharedBits, ownBits, ev-low}
+use Rattle.decide.proofs.Evaluation.{ev-low}
 use Rattle.decide.proofs.ExactValue.{Fitting, convert-plain, value-is, operands, typed-left, typed-right, one-value, constant-at, exact-value}
 
 -- An outcome does not go against a verdict.

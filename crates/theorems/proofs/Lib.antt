@@ -4,4 +4,5 @@ pub mod Nodes
 pub mod Forced
 pub mod Public
 pub mod Outcomes
+pub mod Whole
 pub mod Main

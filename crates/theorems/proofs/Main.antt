@@ -1,40 +1,41 @@
 -- The theorems about the product, together: each with a sentence, and its statement as a whole. Their proofs are in the files that they cite. Who
--- believes the definitions that stand in a statement need not read on.
-use Prim.Native.Nat.{ℕ}
+-- believes the definitions that stand in a statement need not read on; docs/TRUST.md lists them for each.
+use Prim.Native.Nat.{ℕ, _<_, _≤_}
 use mathlib.Core.Path.{_≡_}
-use mathlib.Core.List.{List, []}
-use mathlib.Core.Logic.{_↔_}
+use mathlib.Core.List.{List}
+use mathlib.Core.Logic.{_⊎_, _↔_}
 use mathlib.Core.Bool.{Bool, cond}
-use Rattle.concrete.specs.Concrete.{Processor, Choice}
-use Rattle.value.specs.declared.Truth.the-variants as truth
-use Rattle.value.specs.Run.{Choices, run}
-use Rattle.sheet.specs.Sheet.{readingOf, nodeNumbered, nodePlace}
-use Rattle.format.specs.Write.{All}
-use Rattle.format.specs.Sheet.{Format}
-use Rattle.format.specs.Examples.{Example, examples}
-use Rattle.format.proofs.Unique.{format}
-use Rattle.format.proofs.Examples.{examples-hold}
-use Rattle.evaluate_node.specs.Evaluate.{StartsFrom}
-use Rattle.pomthija.specs.Block.{blockAnswer}
-use Rattle.pomthija.specs.Evaluation.{evaluationAnswer, nodeRun, SaysOf, AnswerFromRun}
-use Rattle.pomthija.specs.Evaluation.Evaluated.{outcome, refused}
-use Rattle.theorems.specs.Runs.{runOn}
-use Rattle.theorems.specs.Runs.Outcome.{jumped}
-use Rattle.theorems.specs.Rows.{Yields, rows, probe, marked}
-use Rattle.theorems.proofs.Public.{said, Answered, ForcedEnd, answers-right, answers-forced}
 use Rattle.expr.specs.Codes.{opEqual, opNotEqual}
 use Rattle.expr.specs.Tree.{Expr}
 use Rattle.expr.specs.Tree.Expr.{binary}
+use Rattle.value.specs.declared.Truth.the-variants as truth
 use Rattle.value.specs.Evaluation.{Values, Contents, Effects, shared, ev}
+use Rattle.value.specs.Run.{Choices, run}
+use Rattle.sheet.specs.declared.Sheet.{Sheet}
+use Rattle.sheet.specs.declared.Reading.the-variants as reading-is
+use Rattle.sheet.specs.Sheet.{readingOf, nodeNumbered, nodePlace}
+use Rattle.format.specs.Write.{All}
+use Rattle.format.specs.Sheet.{Byte, numbers, Format}
+use Rattle.format.specs.Examples.{Example, examples}
+use Rattle.format.proofs.Unique.{all-bytes, format}
+use Rattle.format.proofs.Examples.{examples-hold}
 use Rattle.verdict.specs.declared.Verdict.the-variants as verdict
-use Rattle.decide.specs.LowBit.{lowBit, AlwaysDiffer}
+use Rattle.verdict.specs.Numbers.Numbers.{decision}
+use Rattle.decide.specs.LowBit.{lowBit, AlwaysDiffer, low, Has, sharedBits, ownBits}
 use Rattle.decide.specs.Decide.{decide}
 use Rattle.decide.proofs.Complete.{decided}
-use Rattle.decide.proofs.Evaluation.{low, Has, sharedBits, ownBits, ev-low}
-use Rattle.format.specs.Write.{Bytes}
+use Rattle.decide.proofs.Evaluation.{ev-low}
+use Rattle.evaluate_node.specs.Evaluate.{StartsFrom}
+use Rattle.pomthija.specs.Block.{blockAnswer}
 use Rattle.pomthija.specs.Node.{nodeAnswer}
-use Rattle.theorems.proofs.Nodes.{decides, outcomeOf, from, nodes-right, evaluation-agrees, probe-run}
-use Rattle.theorems.proofs.Outcomes.{answers-run, fourteen, ByEvaluation, refusal-number}
+use Rattle.pomthija.specs.Evaluation.{evaluationAnswer, nodeRun, SaysOf, AnswerFromRun}
+use Rattle.pomthija.specs.Evaluation.Evaluated.{outcome, refused}
+use Rattle.theorems.specs.Runs.{Source, answerFor, Ends, ForcedEnd}
+use Rattle.theorems.specs.Rows.{Yields, rows, probe, marked}
+use Rattle.theorems.proofs.Public.{answers-forced}
+use Rattle.theorems.proofs.Nodes.{evaluation-agrees, probe-run}
+use Rattle.theorems.proofs.Outcomes.{answers-run, fourteen, refusal-number}
+use Rattle.theorems.proofs.Whole.{runs-right}
 
 -- Reading accepts exactly the bytes of the valid sheets, and yields their content; a refusal has a number from 1 to 9 and a place within the sheet.
 pub reading : Format
@@ -44,20 +45,27 @@ reading = format
 pub short-sheets : All (λ (x : Example). readingOf (x .bytes) ≡ x .answer) examples
 short-sheets = examples-hold
 
--- Whatever the bytes and the number: where the answer for a block is always (never), every run of that block jumps (does not jump), from any registers
--- and flags and whatever its instructions take from outside.
-pub blocks : (s : List ℕ) (number : ℕ) (b : Bool) → blockAnswer s number ≡ said b
-    → (start : Processor) (free : ℕ → Choice) (last : Bool) → runOn s number start free last ≡ jumped b
-blocks = answers-right
+-- Whatever the bytes, and whatever block or node: a run of it that has an outcome does not go against the answer for it. Always, which is 1, means
+-- that the branch jumps, or the condition holds; never, which is 0, that it does not. A run starts from any registers and flags, or any values of
+-- the variables, and memory, calls, effects and what is not modelled do whatever they may.
+pub runs : (s : List Byte) (from : Source) (value reason : ℕ) → answerFor (numbers s) from ≡ decision value reason
+    → (went : Bool) → Ends (numbers s) from went → value ≡ cond went 1 0
+runs = runs-right
 
--- An answer for a block that is no refusal is always (never) exactly where the block ends in a flag branch that what is known there forces to jump (not
--- to jump).
-pub forced-blocks : (s : List ℕ) (number : ℕ) → Answered (blockAnswer s number) → (b : Bool) → (blockAnswer s number ≡ said b) ↔ ForcedEnd s number b
+-- For a block of an accepted sheet the answer is always (never) exactly where the block ends in a flag branch that what is known there forces to jump
+-- (not to jump); its reason is 1.
+pub forced-blocks : (s : List ℕ) (sheet : Sheet) → readingOf s ≡ reading-is.Accepted sheet → (number : ℕ) → number < sheet .blocks .count
+    → (b : Bool) → (blockAnswer s number ≡ decision (cond b 1 0) 1) ↔ ForcedEnd s number b
 forced-blocks = answers-forced
 
--- The marked rows are as the scope document's table has them, of blocks and of nodes.
-pub marked-rows : Yields rows
-marked-rows = marked
+-- No equality is left undecided whose sides' low bits differ for every choice of their atoms' bits.
+pub low-bits : (equal : Bool) (a b : Expr) → AlwaysDiffer a b → decide (binary (cond equal opEqual opNotEqual) a b) ≡ verdict.Undecided → ⊥
+low-bits = decided
+
+-- In every evaluation the low bit of a part that has a value is its low bit at the bits that its atoms' values have.
+pub low-bit-values : (types : List ℕ) (ρ σ : Values) (m : Contents) (f : Effects) (e : Expr) → Has (ev types ρ σ (shared m) f e)
+    → low (ev types ρ σ (shared m) f e) ≡ lowBit (sharedBits types ρ σ m) (ownBits types ρ σ m f e) e
+low-bit-values = ev-low
 
 -- Whatever the bytes, the number and the lent values: the evaluation's answer is what every run of that node does that starts from those values.
 pub evaluations : (s : List ℕ) (number : ℕ) (values : List ℕ) (c : Choices) → StartsFrom (nodeNumbered s number .types) values c
@@ -71,29 +79,19 @@ pub no-outcome : (s : List ℕ) (number : ℕ) (values : List ℕ) → AnswerFro
 no-outcome = fourteen
 
 -- The evaluation refuses with reading's numbers or with 13 to 16; so 0, which a C host gets with an answer, is no refusal.
-pub evaluation-refusals : (s : List ℕ) (number : ℕ) (values : List ℕ) {k at : ℕ} → evaluationAnswer s number values ≡ refused k at → ByEvaluation k
+pub evaluation-refusals : (s : List ℕ) (number : ℕ) (values : List ℕ) {k at : ℕ} → evaluationAnswer s number values ≡ refused k at
+    → ((1 ≤ k) × (k ≤ 9)) ⊎ ((13 ≤ k) × (k ≤ 16))
 evaluation-refusals = refusal-number
 
--- Whatever the bytes and the number: where the answer for a node is always (never), the condition holds (fails) in every run of that node that has an
--- outcome, from any values and whatever memory, effects and statements with map 0 do.
-pub nodes : (s : List ℕ) → Bytes s → (number : ℕ) (b : Bool) (reason : ℕ) → nodeAnswer s number ≡ decides b reason
-    → (c : Choices) → (nodeRun s number c ≡ truth.NoOutcome → ⊥) → nodeRun s number c ≡ outcomeOf b
-nodes = nodes-right
+-- No evaluation of a node contradicts its verdict: where both answer, they give one number.
+pub evaluations-agree : (s : List Byte) (number : ℕ) (values : List ℕ) (got value reason : ℕ)
+    → evaluationAnswer (numbers s) number values ≡ outcome got → nodeAnswer (numbers s) number ≡ decision value reason → got ≡ value
+evaluations-agree s = evaluation-agrees (numbers s) (all-bytes s)
 
--- No equality is left undecided whose sides' low bits differ for every choice of their atoms' bits.
-pub low-bits : (equal : Bool) (a b : Expr) → AlwaysDiffer a b → decide (binary (cond equal opEqual opNotEqual) a b) ≡ verdict.Undecided → ⊥
-low-bits = decided
-
--- In every evaluation the low bit of a part that has a value is its low bit at the bits that its atoms' values have.
-pub low-bit-values : (types : List ℕ) (ρ σ : Values) (m : Contents) (f : Effects) (e : Expr) → Has (ev types ρ σ (shared m) f e)
-    → low (ev types ρ σ (shared m) f e) ≡ lowBit (sharedBits types ρ σ m) (ownBits types ρ σ m f e) e
-low-bit-values = ev-low
-
--- No evaluation of a node contradicts its verdict.
-pub evaluations-agree : (s : List ℕ) → Bytes s → (number : ℕ) (values : List ℕ) (value : ℕ) → evaluationAnswer s number values ≡ outcome value
-    → (b : Bool) (reason : ℕ) → nodeAnswer s number ≡ decides b reason → SaysOf (outcome value) (outcomeOf b)
-evaluations-agree = evaluation-agrees
+-- The marked rows are as the scope document's table has them, of blocks and of nodes.
+pub marked-rows : Yields rows
+marked-rows = marked
 
 -- The probe table's node is undecided (a marked row), and must be: there is a run in which its two sides agree.
-pub probe-table : run (probe .types) (probe .statements) (probe .condition) (from []) ≡ truth.Holds
+pub probe-table : (c : Choices) × (run (probe .types) (probe .statements) (probe .condition) c ≡ truth.Holds)
 probe-table = probe-run

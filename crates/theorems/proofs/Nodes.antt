@@ -1,7 +1,7 @@
 -- Nodes: a verdict is right of every run that has an outcome. The substituted condition speaks for every run (crate substitution),
 -- and `decide` is right of every evaluation of it (crate decide); that constants are below their width goes through substitution.
-use Prim.Native.Nat.{ℕ, zero, suc, _<_}
-use mathlib.Core.Path.{_≡_, refl, sym, _∙_}
+use Prim.Native.Nat.{ℕ, zero, suc, _<_, _≤_}
+use mathlib.Core.Path.{_≡_, refl, sym, subst}
 use mathlib.Core.Bool.{Bool, true, false, cond, _||_}
 use mathlib.Core.List.{List, [], _∷_}
 use native.Mathlib.Omega.{arith}
@@ -35,7 +35,7 @@ use Rattle.verdict.specs.declared.Answer.{Answer}
 use Rattle.verdict.specs.declared.Answer.the-variants.{Given, Refused}
 use Rattle.sheet_node.specs.Node.{Node}
 use Rattle.decide.specs.Decide.{decide, fits}
-use Rattle.decide.proofs.Evaluation.{Has}
+use Rattle.decide.specs.LowBit.{Has}
 use Rattle.decide.proofs.ExactValue.{Fitting}
 use Rattle.decide.proofs.Sound.{Meets, right}
 use Rattle.verdict_node.specs.NodeVerdict.{onSubstituted, nodeVerdict}
@@ -47,8 +47,10 @@ use Rattle.format.specs.Write.{Bytes}
 use Rattle.format.proofs.Admitted.{node-admitted-at}
 use Rattle.pomthija.specs.Evaluation.{nodeRun, evaluationAnswer, SaysOf}
 use Rattle.pomthija.specs.Evaluation.Evaluated.{outcome}
-use Rattle.theorems.proofs.Outcomes.{answers-run}
 use Rattle.pomthija.specs.Node.{onNode, nodeAnswer}
+use Rattle.theorems.specs.Runs.{Source, Ends}
+use Rattle.theorems.specs.Runs.Source.{node}
+use Rattle.theorems.proofs.Outcomes.{lent, answers-run, outcome-bit}
 
 -- every held expression has its constants below their width
 abbrev FittingTable : Table → Type 0
@@ -197,68 +199,58 @@ numbered-fair s sheet small read number = go (decLt number (length (sheetAt s .n
     go (yes low) = node-admitted-at s small read number noNode low
     go (no high) = rw (List·getD-eq-default (sheetAt s .nodes .list) noNode {n = number} (omega arith)) none-fair
 
--- what decides a condition: 1 where it holds, 0 where it fails, with the reason
-abbrev pub decides : Bool → ℕ → Numbers
-decides true reason = decision 1 reason
-decides false reason = decision 0 reason
+numbers-meet : (v : Verdict) (value reason : ℕ) (went : Bool) → verdictNumbers v ≡ decision value reason
+    → Meets v (cond went truth.Holds truth.Fails) → value ≡ cond went 1 0
+numbers-meet (Always r) value reason true e h = cc
+numbers-meet (Always r) value reason false e h = let z : _≡_ {A = ℕ} 0 1 = cc in absurd (omega arith)
+numbers-meet (Never r) value reason true e h = let z : _≡_ {A = ℕ} 0 1 = cc in absurd (omega arith)
+numbers-meet (Never r) value reason false e h = cc
+numbers-meet Undecided value reason went e h = let z : _≡_ {A = ℕ} 0 1 = cc in absurd (omega arith)
+numbers-meet NoBranch value reason went e h = let z : _≡_ {A = ℕ} 0 1 = cc in absurd (omega arith)
 
-abbrev pub outcomeOf : Bool → Truth
-outcomeOf true = truth.Holds
-outcomeOf false = truth.Fails
+refused-decision : {X : Type 0} {k at value reason : ℕ} → refused k at ≡ decision value reason → X
+refused-decision e = let z : _≡_ {A = ℕ} 0 1 = cc in absurd (omega arith)
 
-numbers-meet : (v : Verdict) (b : Bool) (reason : ℕ) (t : Truth) → verdictNumbers v ≡ decides b reason → Meets v t → t ≡ outcomeOf b
-numbers-meet (Always r) true k t e h = h
-numbers-meet (Always r) false k t e h = let z : _≡_ {A = ℕ} 0 1 = cc in absurd (omega arith)
-numbers-meet (Never r) true k t e h = let z : _≡_ {A = ℕ} 0 1 = cc in absurd (omega arith)
-numbers-meet (Never r) false k t e h = h
-numbers-meet Undecided true k t e h = let z : _≡_ {A = ℕ} 0 1 = cc in absurd (omega arith)
-numbers-meet Undecided false k t e h = let z : _≡_ {A = ℕ} 0 1 = cc in absurd (omega arith)
-numbers-meet NoBranch true k t e h = let z : _≡_ {A = ℕ} 0 1 = cc in absurd (omega arith)
-numbers-meet NoBranch false k t e h = let z : _≡_ {A = ℕ} 0 1 = cc in absurd (omega arith)
+some-outcome : (went : Bool) (t : Truth) → t ≡ cond went truth.Holds truth.Fails → t ≡ NoOutcome → ⊥
+some-outcome true t is none = let z : _≡_ {A = ℕ} 0 1 = cc in omega arith
+some-outcome false t is none = let z : _≡_ {A = ℕ} 0 1 = cc in omega arith
 
-refused-decides : {X : Type 0} (k at : ℕ) (b : Bool) (reason : ℕ) → refused k at ≡ decides b reason → X
-refused-decides k at true reason e = let z : _≡_ {A = ℕ} 0 1 = cc in absurd (omega arith)
-refused-decides k at false reason e = let z : _≡_ {A = ℕ} 0 1 = cc in absurd (omega arith)
-
--- For all bytes and every number: where the answer for a node is always (never), every run of that node that has an outcome holds (fails).
-pub nodes-right : (s : List ℕ) → Bytes s → (number : ℕ) (b : Bool) (reason : ℕ) → nodeAnswer s number ≡ decides b reason
-    → (c : Choices) → (nodeRun s number c ≡ NoOutcome → ⊥) → nodeRun s number c ≡ outcomeOf b
+-- The theorem: no run of a node goes against a decision on it.
+pub node-runs : (s : List ℕ) → Bytes s → (number value reason : ℕ) → nodeAnswer s number ≡ decision value reason
+    → (went : Bool) → Ends s (node number) went → value ≡ cond went 1 0
 unfolding nodeAnswer
-nodes-right s small number b reason e c some = go (readingOf s) refl e
+node-runs s small number value reason e went r = go (readingOf s) refl e
   where
-    node : Node
-    node = nodeNumbered s number
-
     given : (sheet : Sheet) → readingOf s ≡ reading.Accepted sheet → (a : Answer) → nodeVerdict (nodeNumbered s number) (nodePlace s number) ≡ a
-        → answerNumbers a ≡ decides b reason → nodeRun s number c ≡ outcomeOf b
+        → answerNumbers a ≡ decision value reason → value ≡ cond went 1 0
     given sheet read (Given v) is q =
-        numbers-meet v b reason (nodeRun s number c) q (node-right (nodeNumbered s number) (numbered-fair s sheet small read number) (nodePlace s number) v is c some)
-    given sheet read (Refused k at) is q = refused-decides k at b reason q
+        numbers-meet v value reason went q
+        (subst (Meets v) (r .1)
+        (node-right (nodeNumbered s number) (numbered-fair s sheet small read number) (nodePlace s number) v is (r .0)
+        (some-outcome went (nodeRun s number (r .0)) (r .1))))
+    given sheet read (Refused k at) is q = refused-decision q
 
-    go : (r : Reading) → readingOf s ≡ r → answerNumbers (onNode r s number) ≡ decides b reason → nodeRun s number c ≡ outcomeOf b
-    go (reading.Refused k at) q e = refused-decides k at b reason e
+    go : (a : Reading) → readingOf s ≡ a → answerNumbers (onNode a s number) ≡ decision value reason → value ≡ cond went 1 0
+    go (reading.Refused k at) q e = refused-decision e
     go (reading.Accepted sheet) q e = on (ltb number (sheet .nodes .count)) e
       where
-        on : (t : Bool) → answerNumbers (cond t (nodeVerdict (nodeNumbered s number) (nodePlace s number)) (Refused 13 0)) ≡ decides b reason → nodeRun s number c ≡ outcomeOf b
+        on : (t : Bool) → answerNumbers (cond t (nodeVerdict (nodeNumbered s number) (nodePlace s number)) (Refused 13 0)) ≡ decision value reason
+            → value ≡ cond went 1 0
         on true e = given sheet q (nodeVerdict (nodeNumbered s number) (nodePlace s number)) refl e
-        on false e = refused-decides 13 0 b reason e
+        on false e = refused-decision e
 
--- a run from lent values; what is free beside them is taken as 0
-abbrev pub from : List ℕ → Choices
-from values = record { start = λ v. getD values v 0; memory = λ i path t a. 0; contents = λ t a. 0; effects = λ i path. 0; renewed = λ i v. 0 }
-
--- No evaluation of a node contradicts its verdict.
-pub evaluation-agrees : (s : List ℕ) → Bytes s → (number : ℕ) (values : List ℕ) (value : ℕ) → evaluationAnswer s number values ≡ outcome value
-    → (b : Bool) (reason : ℕ) → nodeAnswer s number ≡ decides b reason → SaysOf (outcome value) (outcomeOf b)
-evaluation-agrees s small number values value e b reason q =
-    let says : SaysOf (outcome value) (nodeRun s number (from values)) = rw e at (answers-run s number values (from values) (λ v h. refl)) in
-    rw (nodes-right s small number b reason q (from values) (some value says)) at says
+-- No evaluation of a node contradicts its verdict: it is a run of the node.
+pub evaluation-agrees : (s : List ℕ) → Bytes s → (number : ℕ) (values : List ℕ) (got value reason : ℕ)
+    → evaluationAnswer s number values ≡ outcome got → nodeAnswer s number ≡ decision value reason → got ≡ value
+evaluation-agrees s small number values got value reason e q =
+    let says : SaysOf (outcome got) (nodeRun s number (lent values)) = rw e at (answers-run s number values (lent values) (λ v h. refl)) in
+    go got (outcome-bit s number values got e) says
   where
-    some : (value : ℕ) → SaysOf (outcome value) (nodeRun s number (from values)) → nodeRun s number (from values) ≡ NoOutcome → ⊥
-    some zero says none = let z : _≡_ {A = ℕ} 0 1 = cc in omega arith
-    some (suc k) says none = let z : _≡_ {A = ℕ} 0 1 = cc in omega arith
+    go : (got : ℕ) → got ≤ 1 → SaysOf (outcome got) (nodeRun s number (lent values)) → got ≡ value
+    go zero bit says = sym (node-runs s small number value reason q false (lent values, says))
+    go (suc k) bit says = omega (arith, bit, node-runs s small number value reason q true (lent values, says))
 
 -- The probe table: a slot that is moved by an odd step and then copied. The two are equal afterwards, as this run shows, so no verdict may say that they never are.
-pub probe-run : run (probe .types) (probe .statements) (probe .condition) (from []) ≡ truth.Holds
+pub probe-run : (c : Choices) × (run (probe .types) (probe .statements) (probe .condition) c ≡ truth.Holds)
 unfolding runFrom ev typeOf operate operators arithmetics shifts comparisons promoted common constantType binaryType bits plainType convert number residue negative
-probe-run = refl
+probe-run = (lent [], refl)

@@ -83,12 +83,11 @@ answer-outcome s number values c starts from = go (readingOf s) refl from
         (λ t. let thirteen : 13 ≡ 14 = rw t at h in absurd (omega (arith, thirteen)))
 
 -- a choice that starts from the lent values
-lent : List ℕ → Choices
+abbrev pub lent : List ℕ → Choices
 lent values =
     record { start = λ v. getD values v 0; memory = λ i path t a. 0; contents = λ t a. 0; effects = λ i path. 0; renewed = λ i v. 0 }
 
 lent-starts : (types values : List ℕ) → StartsFrom types values (lent values)
-unfolding lent
 lent-starts types values v below = refl
 
 -- The theorem on 14: where an answer comes from the run, it is 14 exactly when no run that starts from the lent values has an outcome.
@@ -107,8 +106,8 @@ fourteen s number values from = (
     said a t e h = let g : SaysOf (refused 14 (nodePlace s number)) t = rw e at h in g refl
 
 -- the numbers that the evaluation refuses with: reading's 1 to 9, 13, and the node's 14 to 16
-abbrev pub ByEvaluation : ℕ → Type 0
-ByEvaluation k = ByReading k ⊎ ((13 ≤ k) × (k ≤ 16))
+abbrev ByEvaluation : ℕ → Type 0
+ByEvaluation k = ((1 ≤ k) × (k ≤ 9)) ⊎ ((13 ≤ k) × (k ≤ 16))
 
 numbered : (e : Evaluation) {k at : ℕ} → inNumbers e ≡ refused k at → e ≡ evaluation.Refused k at
 numbered evaluation.Holds e = cc
@@ -130,6 +129,24 @@ refusal-number s number values {k} {at} e = go (readingOf s) refl e
       where
         thirteen : refused 13 0 ≡ refused k at → 13 ≡ k
         thirteen e = cc
+
+-- an outcome is 1 or 0
+pub outcome-bit : (s : List ℕ) (number : ℕ) (values : List ℕ) (value : ℕ) → evaluationAnswer s number values ≡ outcome value → value ≤ 1
+unfolding evaluationAnswer
+outcome-bit s number values value e = go (readingOf s) e
+  where
+    refused-outcome : {X : Type 0} {k at : ℕ} → refused k at ≡ outcome value → X
+    refused-outcome e = let z : _≡_ {A = ℕ} 0 1 = cc in absurd (omega arith)
+
+    bit : (a : Evaluation) → inNumbers a ≡ outcome value → value ≤ 1
+    bit evaluation.Holds e = let is : 1 ≡ value = cc in omega (arith, is)
+    bit evaluation.Fails e = let is : 0 ≡ value = cc in omega (arith, is)
+    bit (evaluation.Refused k at) e = refused-outcome e
+
+    go : (r : Reading) → nodeOn r s number values ≡ outcome value → value ≤ 1
+    go (reading.Refused k at) h = refused-outcome h
+    go (reading.Accepted sheet) h =
+        byTest (ltb number (sheet .nodes .count)) (λ t. bit (evaluatedNode s number values) (rw t at h)) (λ t. refused-outcome (rw t at h))
 
 -- a refusal's number is never 0
 pub never-zero : (s : List ℕ) (number : ℕ) (values : List ℕ) {k at : ℕ} → evaluationAnswer s number values ≡ refused k at → k ≡ 0 → ⊥

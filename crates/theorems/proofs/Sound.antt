@@ -31,8 +31,16 @@ use Rattle.sheet.proofs.Accepted.{accepted}
 use Rattle.verdict.specs.declared.Verdict.the-variants as answer
 use Rattle.verdict_block.specs.Verdict.{within, codeOf, Parts, preceded, apart, flagVerdict, judged, verdictAt, endAt, endFrom, endOn, verdictOn, jumpOf}
 use Rattle.verdict_block.specs.Verdict.Parts.{none, ending}
-use Rattle.theorems.specs.Runs.{Outcome, runAt, runFrom, runOn, NotAgainst}
+use Rattle.verdict.specs.declared.Verdict.{Verdict}
+use Rattle.theorems.specs.Runs.{Outcome, runAt, runFrom, runOn}
 use Rattle.theorems.specs.Runs.Outcome.{jumped, nothing}
+
+-- Always means that the branch jumps, never that it does not; the other verdicts say nothing.
+abbrev pub NotAgainst : Verdict → Outcome → Type 0
+NotAgainst (answer.Always reason) o = o ≡ jumped true
+NotAgainst (answer.Never reason) o = o ≡ jumped false
+NotAgainst answer.Undecided o = Unit {0}
+NotAgainst answer.NoBranch o = Unit {0}
 
 -- an instruction that reading took is one that the machine's theorems speak of
 well : (o : Operand) → Well o → operandWellFormed o ≡ true

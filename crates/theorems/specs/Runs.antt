@@ -1,17 +1,23 @@
--- A block's run, and what it means that a verdict does not go against it.
+-- Runs: of a block, and of a block or node alike; and when a branch is forced.
 use Prim.Native.Nat.{ℕ}
 use mathlib.Core.Path.{_≡_}
 use mathlib.Core.List.{List}
-use mathlib.Core.Bool.{Bool, true, false, cond}
+use mathlib.Core.Bool.{Bool, cond}
 use Rattle.isa.specs.declared.Mnemonic.{Mnemonic}
 use Rattle.isa.specs.declared.Instruction.{Instruction}
 use Rattle.concrete.specs.Concrete.{Processor, Choice, executedAll, outcome}
 use Rattle.concrete.specs.Agreement.{Agrees}
 use Rattle.machine.specs.declared.State.{State}
-use Rattle.verdict.specs.declared.Verdict.{Verdict}
-use Rattle.verdict.specs.declared.Verdict.the-variants as verdict
-use Rattle.verdict_block.specs.Verdict.{Parts, apart, codeOf}
+use Rattle.machine.specs.Registers.{nothingKnown}
+use Rattle.verdict.specs.Numbers.{Numbers}
+use Rattle.verdict_block.specs.declared.Jump.the-variants.{Conditional}
+use Rattle.verdict_block.specs.Verdict.{Parts, apart, codeOf, endOn}
 use Rattle.verdict_block.specs.Verdict.Parts.{none, ending}
+use Rattle.value.specs.declared.Truth.the-variants as truth
+use Rattle.value.specs.Run.{Choices}
+use Rattle.pomthija.specs.Block.{blockAnswer}
+use Rattle.pomthija.specs.Node.{nodeAnswer}
+use Rattle.pomthija.specs.Evaluation.{nodeRun}
 
 -- A run's outcome: whether its last instruction jumps; none where that is no conditional branch.
 pub data Outcome : Type 0 where
@@ -32,14 +38,28 @@ runFrom start code free last = runAt start free last (apart code)
 unfoldable pub runOn : List ℕ → ℕ → Processor → (ℕ → Choice) → Bool → Outcome
 runOn s number start free last = runFrom start (codeOf s number) free last
 
--- Always means that the branch jumps, never that it does not; the other verdicts say nothing.
-abbrev pub NotAgainst : Verdict → Outcome → Type 0
-NotAgainst (verdict.Always reason) o = o ≡ jumped true
-NotAgainst (verdict.Never reason) o = o ≡ jumped false
-NotAgainst verdict.Undecided o = Unit {0}
-NotAgainst verdict.NoBranch o = Unit {0}
+-- What a verdict is about, and a line comes from: a block or a node of a sheet, by its number from 0.
+pub data Source : Type 0 where
+  block node : (number : ℕ) → Source
+
+-- The answer for it: what the block verdict, or the node verdict, yields (D7).
+abbrev pub answerFor : List ℕ → Source → Numbers
+answerFor s (block number) = blockAnswer s number
+answerFor s (node number) = nodeAnswer s number
+
+-- Some run of it has an outcome, and this one: the branch jumps, or the condition holds, or not (M24, M29, N20, N23, S34).
+abbrev pub Ends : List ℕ → Source → Bool → Type 0
+Ends s (block number) went = (start : Processor) × (free : ℕ → Choice) × (last : Bool) × (runOn s number start free last ≡ jumped went)
+Ends s (node number) went = (c : Choices) × (nodeRun s number c ≡ cond went truth.Holds truth.Fails)
 
 -- Forced (a term of the scope document) one way: the branch jumps, or does not, in every concrete state that agrees with
 -- what is known, whatever is unknown (M21).
 abbrev pub Forced : State → Mnemonic → Bool → Type 0
 Forced known mnemonic b = (q : Processor) (free : Bool) → Agrees known q → outcome mnemonic q free ≡ b
+
+-- The block of that number ends in a flag branch, and what is known there forces it one way (M21, M23).
+pub record ForcedEnd (s : List ℕ) (number : ℕ) (b : Bool) : Type 0 where
+  pub known : State
+  pub mnemonic : Mnemonic
+  pub ends : endOn s number nothingKnown ≡ record { known = known; jump = Conditional mnemonic }
+  pub forces : Forced known mnemonic b
