@@ -1,8 +1,8 @@
 // The operations as a program that a comparison can ask: frames from standard input, a line for each to standard output.
-// A frame's first byte is the operation's number: 0 reading, 1 the verdicts on all blocks, 2 the evaluation. A sheet makes
-// up the rest of a frame of 0 and 1. In a frame of 2 stand, in 4 bytes each, the node's number, how many values a set has,
-// how many sets there are, and the sheet's length; then the sheet, and the sets: a value is its number of bytes (0 to 8)
-// and those bytes.
+// A frame's first byte is the operation's number: 0 reading, 1 the verdicts on all blocks, 2 the evaluation, 3 the verdicts
+// on all nodes. A sheet makes up the rest of a frame of 0, 1 and 3. In a frame of 2 stand, in 4 bytes each, the node's
+// number, how many values a set has, how many sets there are, and the sheet's length; then the sheet, and the sets: a value
+// is its number of bytes (0 to 8) and those bytes.
 use evaluate_node::Evaluation;
 use sheet::Reading;
 use sheet::Sheet;
@@ -56,14 +56,15 @@ fn say_verdict(v: Verdict) -> bool {
     }
 }
 
+// r with its number for a refusal.
 fn say_answer(a: Answer) -> bool {
     match a {
         Answer::Given(v) => say_verdict(v),
-        Answer::Refused(k, at) => test_io::word(b" ") & refused(k, at),
+        Answer::Refused(k, _) => test_io::word(b" r") & test_io::digits(k),
     }
 }
 
-// Whether the number past the last block is refused as it should be; if not, its answer is one too many on the line.
+// Whether the number past the last record is refused as it should be; if not, its answer is one too many on the line.
 fn past_the_last(a: Answer) -> bool {
     if let Answer::Refused(k, at) = a {
         if (k == 13) & (at == 0) {
@@ -73,23 +74,50 @@ fn past_the_last(a: Answer) -> bool {
     say_answer(a)
 }
 
-fn say_blocks(s: &[u8], n: u64) -> bool {
-    let mut written = test_io::word(b"blocks");
-    let mut i: u64 = 0;
-    while i < n {
-        written = written & say_answer(pomthija::block_verdict(s, i));
-        i += 1;
-    }
-    written & past_the_last(pomthija::block_verdict(s, n))
+// What is judged.
+enum Judged {
+    Blocks,
+    Nodes,
 }
 
-fn say_verdicts(s: &[u8]) -> bool {
+// The verdict on the block or the node of that number.
+fn judge(s: &[u8], judged: Judged, number: u64) -> Answer {
+    match judged {
+        Judged::Blocks => pomthija::block_verdict(s, number),
+        Judged::Nodes => pomthija::node_verdict(s, number),
+    }
+}
+
+fn say_name(judged: Judged) -> bool {
+    match judged {
+        Judged::Blocks => test_io::word(b"blocks"),
+        Judged::Nodes => test_io::word(b"nodes"),
+    }
+}
+
+fn say_all(s: &[u8], judged: Judged, n: u64) -> bool {
+    let mut written = say_name(judged);
+    let mut i: u64 = 0;
+    while i < n {
+        written = written & say_answer(judge(s, judged, i));
+        i += 1;
+    }
+    written & past_the_last(judge(s, judged, n))
+}
+
+fn count_of(sheet: Sheet, judged: Judged) -> u64 {
+    let blocks = sheet.blocks;
+    let nodes = sheet.nodes;
+    match judged {
+        Judged::Blocks => blocks.count,
+        Judged::Nodes => nodes.count,
+    }
+}
+
+fn say_verdicts(s: &[u8], judged: Judged) -> bool {
     let reading = sheet::read(s);
     match reading {
-        Reading::Accepted(sheet) => {
-            let blocks = sheet.blocks;
-            say_blocks(s, blocks.count)
-        }
+        Reading::Accepted(sheet) => say_all(s, judged, count_of(sheet, judged)),
         Reading::Refused(k, at) => refused(k, at),
     }
 }
@@ -211,8 +239,9 @@ fn answer(s: &[u8], values: &mut [u64]) -> Ending {
     }
     match s[0] {
         0 => line(say_reading(&s[1..])),
-        1 => line(say_verdicts(&s[1..])),
+        1 => line(say_verdicts(&s[1..], Judged::Blocks)),
         2 => answer_evaluation(&s[1..], values),
+        3 => line(say_verdicts(&s[1..], Judged::Nodes)),
         _ => Ending::NoOperation,
     }
 }
