@@ -29,7 +29,7 @@ const USAGE: &str = "usage:
   oracle runs --stub [--runs N] [--seed S]
   oracle runs --given PATH [--runs N] [--seed S]
   oracle processor --program PATH [--runs N] [--seed S]
-  oracle list FILE [--listing PATH | --program PATH] [--given PATH] [--save FOLDER]
+  oracle list FILE [--listing PATH | --program PATH] [--given PATH] [--save FOLDER] [--steps FILE]
   oracle list --text DISASSEMBLY ...
                                    the decided branches of a program
   oracle evaluations --program PATH [--cases N] [--seed S]
@@ -87,6 +87,7 @@ struct Options {
     cases: Option<u64>,
     seed: Option<u64>,
     save: Option<String>,
+    steps: Option<String>,
 }
 
 impl Options {
@@ -110,6 +111,7 @@ impl Options {
                 "--listing" => options.listing = Some(value.to_string()),
                 "--given" => options.given = Some(value.to_string()),
                 "--save" => options.save = Some(value.to_string()),
+                "--steps" => options.steps = Some(value.to_string()),
                 "--sheets" => options.sheets = Some(number()?),
                 "--nodes" => options.nodes = Some(number()?),
                 "--runs" => options.runs = Some(number()?),
@@ -276,8 +278,9 @@ fn list(source: Source, options: &Options) -> Outcome {
         (Some(path), _) => Some(Program::Listing(path)),
         (None, path) => path.as_deref().map(Program::Frames),
     };
-    let (given, save) = (options.given.as_deref(), options.save.as_deref());
-    command::list(&command::Job { source, program, given, save })
+    let [given, save, steps] =
+        [&options.given, &options.save, &options.steps].map(|option| option.as_deref());
+    command::list(&command::Job { source, program, given, save, steps })
 }
 
 fn store(frames: &str, lines: &str, options: &Options) -> Outcome {

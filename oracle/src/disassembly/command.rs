@@ -8,9 +8,10 @@ use crate::disassembly::judge::{Decided, Program};
 use crate::disassembly::operand::parts;
 use crate::disassembly::sheets::{self, Counts, Part};
 use crate::disassembly::text::{self, Disassembly, Label};
-use crate::disassembly::{pointers, unwinding};
+use crate::disassembly::{pointers, steps, unwinding};
 use crate::sheets::encode::encode;
 use crate::sheets::syntax::Sheet;
+use std::collections::BTreeMap;
 use std::fs;
 use std::process::Command;
 
@@ -27,6 +28,8 @@ pub struct Job<'a> {
     pub given: Option<&'a str>,
     /// A folder for the sheets.
     pub save: Option<&'a str>,
+    /// A file for what is claimed of each instruction.
+    pub steps: Option<&'a str>,
 }
 
 /// Sheets that a program is asked at a time.
@@ -108,8 +111,7 @@ const TEXT_ALONE: &str = "from the text alone: landing pads, tables and pointers
 fn judged(job: &Job, text: &Disassembly, leaders: &Leaders) -> Result<bool, String> {
     let functions = sheets::functions(text);
     let labels: Vec<Label> = functions.iter().map(|(label, _)| *label).collect();
-    let mut report =
-        Report { text, labels: &labels, counts: Counts::default(), ..Report::empty(text) };
+    let mut report = Report::new(text, &labels);
     let mut waiting: Vec<Part> = Vec::new();
     for (number, (_, lines)) in functions.into_iter().enumerate() {
         waiting.extend(sheets::parts(text, leaders, (number, lines), &mut report.counts));
@@ -119,6 +121,10 @@ fn judged(job: &Job, text: &Disassembly, leaders: &Leaders) -> Result<bool, Stri
     }
     report.take(job, &waiting)?;
     report.print(job);
+    if let Some(path) = job.steps {
+        let claims = steps::written(text, leaders, &report.verdicts);
+        fs::write(path, claims).map_err(|error| format!("{path}: {error}"))?;
+    }
     Ok(report.differences == 0)
 }
 
@@ -128,24 +134,16 @@ struct Report<'a> {
     labels: &'a [Label<'a>],
     counts: Counts,
     sheets: usize,
-    always: usize,
-    never: usize,
+    /// Decided branches, and whether they are always taken.
+    verdicts: BTreeMap<u64, bool>,
     compared: bool,
     differences: usize,
 }
 
 impl<'a> Report<'a> {
-    fn empty(text: &'a Disassembly<'a>) -> Report<'a> {
-        Report {
-            text,
-            labels: &[],
-            counts: Counts::default(),
-            sheets: 0,
-            always: 0,
-            never: 0,
-            compared: true,
-            differences: 0,
-        }
+    fn new(text: &'a Disassembly<'a>, labels: &'a [Label<'a>]) -> Report<'a> {
+        let (counts, verdicts) = (Counts::default(), BTreeMap::new());
+        Report { text, labels, counts, sheets: 0, verdicts, compared: true, differences: 0 }
     }
 
     fn take(&mut self, job: &Job, parts: &[Part]) -> Result<(), String> {
@@ -177,8 +175,7 @@ impl<'a> Report<'a> {
         let line = self.text.line_at(branch.site).expect("a branch stands in a line");
         let name = parts(self.text.lines[line].text).mnemonic;
         let verdict = if branch.always { "always" } else { "never" };
-        self.always += usize::from(branch.always);
-        self.never += usize::from(!branch.always);
+        self.verdicts.insert(branch.site, branch.always);
         let site = self.shown(part.function, branch.site);
         let target = self.labels.partition_point(|label| label.address <= branch.target);
         let target = self.shown(target.saturating_sub(1), branch.target);
@@ -220,8 +217,10 @@ impl<'a> Report<'a> {
         println!("conditional branches {}", counts.branches);
         println!("  where any instruction may be entered: {}", counts.open_branches);
         if job.program.is_some() {
-            let undecided = counts.branches - self.always - self.never;
-            println!("  always {}, never {}, undecided {undecided}", self.always, self.never);
+            let always = self.verdicts.values().filter(|always| **always).count();
+            let never = self.verdicts.len() - always;
+            let undecided = counts.branches - self.verdicts.len();
+            println!("  always {always}, never {never}, undecided {undecided}");
         }
         if !counts.unknown.is_empty() {
             println!("not known: {}", most_first(counts));

@@ -12,6 +12,7 @@ pub mod judge;
 pub mod operand;
 pub mod pointers;
 pub mod sheets;
+pub mod steps;
 pub mod table;
 pub mod text;
 pub mod unwinding;
