@@ -39,9 +39,11 @@ pub struct ControlFlow {
 
 pub fn read(text: &Disassembly, outside: &Outside) -> ControlFlow {
     let mut control = ControlFlow::default();
+    let mut before = None;
     for line in &text.lines {
         let parts = parts(line.text);
-        let step = step(line, &parts);
+        let step = returning(before, step(line, &parts), &parts);
+        before = Some(line);
         match step.flow {
             Flow::Branch(target) | Flow::Jump(target) => control.targets.push(target),
             _ if parts.mnemonic == "call" => control.targets.extend(parts.target()),
@@ -70,6 +72,18 @@ fn step(line: &Line, parts: &Parts) -> Step {
         _ => false,
     };
     Step { flow: listed.flow, padding, call: listed.standing == Standing::Call }
+}
+
+/// A return right behind an instruction that puts an address where it is taken
+/// from is a jump to that address.
+fn returning(before: Option<&Line>, step: Step, parts: &Parts) -> Step {
+    let put = before.is_some_and(|line| {
+        line.text.starts_with("push ") || line.text.contains("QWORD PTR [rsp],")
+    });
+    match parts.mnemonic {
+        "ret" if put => Step { flow: Flow::IndirectJump, ..step },
+        _ => step,
+    }
 }
 
 /// A jump of a linkage stub, or through a slot that the loader fills, goes to

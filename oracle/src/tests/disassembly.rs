@@ -6,6 +6,7 @@ use crate::disassembly::elf::{self, Span};
 use crate::disassembly::instruction::{listed, Flow, Standing};
 use crate::disassembly::judge::of_listing;
 use crate::disassembly::sheets::{self, Counts, Part};
+use crate::disassembly::steps::{changes, Changes};
 use crate::disassembly::text::{self, Disassembly, Line};
 use crate::disassembly::{pointers, table, unwinding};
 use crate::judges::reader;
@@ -226,6 +227,10 @@ fn every_instruction_may_be_entered_where_a_jump_is_not_known() {
     let every: Vec<u64> = (0x1000..0x1004).collect();
     let code = function(&["nop", "nop", "jmp    rax", "nop"]);
     assert_eq!(starts(&text::read(&code).unwrap(), &Outside::default()), every);
+    for put in ["push   rax", "mov    QWORD PTR [rsp],rax"] {
+        let code = function(&["nop", put, "ret", "nop"]);
+        assert_eq!(starts(&text::read(&code).unwrap(), &Outside::default()), every);
+    }
     // Into an instruction, here the one at 1001.
     let code =
         function(&["nop", "nop", "nop", "ret"]).replace("1002:", "1005:").replace("1003:", "1006:");
@@ -360,6 +365,28 @@ fn a_file_tells_its_functions_and_landing_pads() {
     };
     assert!(unwinding.pads.iter().all(covered));
     assert!(pointers::stored(&file, &code).iter().any(|address| covered(address)));
+}
+
+#[test]
+fn the_claims_are_what_the_rules_of_the_sheet_say() {
+    let changed = |instruction: &str| {
+        let listed = listed(&Line { address: 0, text: instruction, after_gap: false });
+        let Changes { registers, flags } = changes(&listed.instruction);
+        (registers, flags)
+    };
+    assert_eq!(changed("mov    ecx,eax"), (2, 0));
+    assert_eq!(changed("mov    DWORD PTR [rax],ecx"), (0, 0));
+    assert_eq!(changed("sub    dh,al"), (4, 31));
+    assert_eq!(changed("sub    BYTE PTR [rax],al"), (0, 31));
+    assert_eq!(changed("cmp    eax,ecx"), (0, 31));
+    assert_eq!(changed("test   eax,eax"), (0, 31));
+    assert_eq!(changed("inc    r15"), (0x8000, 30));
+    assert_eq!(changed("dec    BYTE PTR [rax]"), (0, 30));
+    assert_eq!(changed("neg    eax"), (1, 31));
+    assert_eq!(changed("not    eax"), (1, 0));
+    assert_eq!(changed("cmc"), (0, 1));
+    assert_eq!(changed("pop    rbx"), (0x18, 0));
+    assert_eq!(changed("je     10 <f>"), (0, 0));
 }
 
 #[test]
