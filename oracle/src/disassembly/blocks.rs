@@ -18,8 +18,9 @@ pub fn leaders(text: &Disassembly, control: &ControlFlow, outside: &Outside) -> 
     let mut leads = open.clone();
     let labels = text.labels.iter().map(|label| label.address);
     let functions = outside.functions.iter().map(|span| span.start);
-    let entries = outside.entries.iter().chain(&control.targets).chain(&control.named).copied();
-    for address in labels.chain(functions).chain(entries) {
+    let entries = outside.entries.iter().chain(&outside.possible).copied();
+    let named = control.targets.iter().chain(&control.named).copied();
+    for address in labels.chain(functions).chain(entries).chain(named) {
         if let Ok(number) = text.line_at(address) {
             leads[number] = true;
         }

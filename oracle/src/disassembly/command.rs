@@ -60,10 +60,10 @@ fn outside(file: &File) -> Result<Outside, String> {
         functions: unwinding.functions,
         unread: unwinding.unread,
         entries: unwinding.pads,
+        possible: pointers::stored(file, &code),
         slots: Vec::new(),
     };
     outside.entries.push(file.entry);
-    outside.entries.extend(pointers::stored(file, &code));
     outside.functions.extend(file.functions());
     for name in [".got", ".got.plt"] {
         let slots = file.section(name).map(|s| Span { start: s.address, end: s.address + s.size });
@@ -76,7 +76,7 @@ fn outside(file: &File) -> Result<Outside, String> {
 fn add_tables(file: &File, control: &ControlFlow, outside: &mut Outside) {
     let code = file.code();
     let targets = control.named.iter().flat_map(|table| pointers::offsets(file, &code, *table));
-    outside.entries.extend(targets);
+    outside.possible.extend(targets);
 }
 
 /// Lists the source; true unless a program and the given source differ.

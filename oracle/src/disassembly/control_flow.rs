@@ -21,8 +21,10 @@ pub struct Outside {
     pub functions: Vec<Span>,
     /// Ranges in which there are entries that could not be read.
     pub unread: Vec<Span>,
-    /// Places that may be entered.
+    /// Places that are entered.
     pub entries: Vec<u64>,
+    /// Places that may be entered; some of them may be no instructions.
+    pub possible: Vec<u64>,
     /// Where the loader stores the addresses of functions for jumps through them.
     pub slots: Vec<Span>,
 }

@@ -73,7 +73,9 @@ pub fn read(bytes: &[u8]) -> Result<File<'_>, String> {
 }
 
 fn sections(bytes: &[u8]) -> Option<Vec<Section<'_>>> {
-    let (table, count) = (number(bytes, 40, 8)?, number(bytes, 60, 2)?);
+    let table = number(bytes, 40, 8)?;
+    // 0 also stands for more sections than the field can count.
+    let count = number(bytes, 60, 2).filter(|count| *count > 0)?;
     let names_at = table + 64 * number(bytes, 62, 2)?;
     let names = contents(bytes, names_at)?;
     (0..count).map(|index| section(bytes, table + 64 * index, names)).collect()

@@ -5,7 +5,7 @@
 //! joined where control can go from one into the other other than by a call or
 //! a jump to the start of a function. A part is open, and all that is joined
 //! with it, if it has a jump to an address that is not in the text, or is
-//! jumped to between two instructions.
+//! entered between two of the instructions that are shown.
 
 use crate::disassembly::control_flow::{ControlFlow, Outside, Step};
 use crate::disassembly::elf::Span;
@@ -142,9 +142,11 @@ fn open_parts(
     let steps = text.lines.iter().zip(&control.steps);
     let indirect = steps.filter(|(_, step)| step.flow == Flow::IndirectJump);
     let mut open: HashSet<usize> = indirect.map(|(line, _)| parts.of(line.address)).collect();
-    // A target between two lines starts other code than the text shows.
-    let between = |target: &&u64| text.reaches(**target) && text.line_at(**target).is_err();
-    open.extend(control.targets.iter().filter(between).map(|target| parts.of(*target)));
+    // An entry between two lines starts other code than the text shows.
+    let between = |address: &u64| text.reaches(*address) && text.line_at(*address).is_err();
+    let starts = outside.functions.iter().map(|span| span.start);
+    let entries = control.targets.iter().chain(&outside.entries).copied().chain(starts);
+    open.extend(entries.filter(between).map(|address| parts.of(address)));
     for span in &outside.unread {
         open.extend(parts.of(span.start)..=parts.of(span.end.max(span.start + 1) - 1));
     }

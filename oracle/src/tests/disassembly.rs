@@ -184,6 +184,7 @@ fn files_of_other_kinds_are_refused() {
     assert!(error(&with(16, 1)).contains("not linked"));
     assert!(error(&with(16, 4)).contains("neither"));
     assert!(error(&own[..100]).contains("cut"));
+    assert!(error(&[&own[..60], &[0, 0], &own[62..]].concat()).contains("cut"));
     assert_eq!(error(&own), "");
 }
 
@@ -237,6 +238,12 @@ fn every_instruction_may_be_entered_where_a_jump_is_not_known() {
     let into = code.clone() + "    1007:\tje     1003 <f+0x3>\n";
     let text = text::read(&into).unwrap();
     assert_eq!(starts(&text, &Outside::default()), [0x1000, 0x1001, 0x1005, 0x1006, 0x1007]);
+    let text = text::read(&code).unwrap();
+    assert_eq!(starts(&text, &Outside::default()), [0x1000]);
+    let outside = Outside { entries: vec![0x1003], ..Outside::default() };
+    assert_eq!(starts(&text, &outside), [0x1000, 0x1001, 0x1005, 0x1006]);
+    let outside = Outside { possible: vec![0x1003, 0x1005], ..Outside::default() };
+    assert_eq!(starts(&text, &outside), [0x1000, 0x1005]);
 }
 
 #[test]
