@@ -67,11 +67,11 @@ unfolding refusalText
 put-refusal-of number place a b c d e = put-then (put-then (put-then (put-then a b) c) d) e
 
 -- the whole text of a list, from its pieces
-pub put-branches-of : {b₀ b₁ b₂ b₃ b₄ : List ℕ} {p₀ p₁ p₂ p₃ p₄ : ℕ} (list : List ℕ) (count : ℕ)
+pub put-branches-of : {b₀ b₁ b₂ b₃ b₄ : List ℕ} {p₀ p₁ p₂ p₃ p₄ : ℕ} (count : ℕ) {lines : List ℕ}
     → Put b₀ b₁ p₀ p₁ (branches ++ space) → Put b₁ b₂ p₁ p₂ (decimal count) → Put b₂ b₃ p₂ p₃ lineFeed
-    → Put b₃ b₄ p₃ p₄ (entriesText list 0 count) → Put b₀ b₄ p₀ p₄ (branchesText list count)
+    → Put b₃ b₄ p₃ p₄ lines → Put b₀ b₄ p₀ p₄ (branchesText count lines)
 unfolding branchesText
-put-branches-of list count a b c d = put-then (put-then (put-then a b) c) d
+put-branches-of count a b c d = put-then (put-then (put-then a b) c) d
 
 -- the lines of a list's entries: with those that are left the text is whole
 pub record EntriesLeft (list : List ℕ) (count : ℕ) (old : List ℕ) (from : ℕ) (new : List ℕ) (at i : ℕ) : Type 0 where

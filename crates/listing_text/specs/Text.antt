@@ -48,9 +48,9 @@ unfoldable pub entriesText : List ℕ → ℕ → ℕ → List ℕ
 entriesText list from zero = []
 entriesText list from (suc count) = entryText list from ++ entriesText list (from + 18) count
 
--- The number of branches on a line of its own, then the lines of a list's first entries (L10).
-unfoldable pub branchesText : List ℕ → ℕ → List ℕ
-branchesText list count = branches ++ space ++ decimal count ++ lineFeed ++ entriesText list 0 count
+-- The number of branches on a line of its own, then their lines (L10).
+unfoldable pub branchesText : ℕ → List ℕ → List ℕ
+branchesText count lines = branches ++ space ++ decimal count ++ lineFeed ++ lines
 
 -- A refusal's line, with its number and its place (L11).
 unfoldable pub refusalText : ℕ → ℕ → List ℕ

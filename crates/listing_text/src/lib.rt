@@ -153,7 +153,7 @@ fn put_entries(list: &[u8], count: usize, out: &mut [u8], from: usize) -> usize
 pub fn write_branches(list: &[u8], count: usize, out: &mut [u8]) -> usize
     requires { ⌜ 18 * count ≤ length (now list) ⌝ }
     requires { ⌜ 30 + 45 * count ≤ length (now out) ⌝ }
-    ensures { λ r. ⌜ Written (now (out .entry)) (now (out .exit)) r (branchesText (now (list .entry)) count) ⌝ }
+    ensures { λ r. ⌜ Written (now (out .entry)) (now (out .exit)) r (branchesText count (entriesText (now (list .entry)) 0 count)) ⌝ }
 {
     let number = put_word(b"branches ", out, 0);
     let end = put_decimal(count as u64, out, number);

@@ -30,7 +30,7 @@ same-length : tie.Need-same-length
 same-length c = search needs
 
 returns : tie.Need-returns
-returns c = written (put-branches-of _ _ (c .before .before .before .before .before .before .before .before .before .before .before .before .before .before .before .put-word .ensures) (c .before .before .before .before .before .before .before .before .before .before .before .put-decimal .ensures) (c .before .before .before .before .before .before .put-word2 .ensures) (c .before .before .put-entries .ensures))
+returns c = written (put-branches-of _ (c .before .before .before .before .before .before .before .before .before .before .before .before .before .before .before .put-word .ensures) (c .before .before .before .before .before .before .before .before .before .before .before .put-decimal .ensures) (c .before .before .before .before .before .before .put-word2 .ensures) (c .before .before .put-entries .ensures))
 
 pub write-branches-spec : {M : Type 1} → statement M
 write-branches-spec =

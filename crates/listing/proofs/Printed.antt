@@ -1,0 +1,90 @@
+-- The text of the listing's answer on a list that is long enough is what the program writes.
+use Prim.Native.Nat.{ℕ, zero, suc, _+_, _*_, _≤_}
+use mathlib.Core.Path.{_≡_, refl, sym, ap, _∙_}
+use mathlib.Core.Bool.{Bool, true, false}
+use mathlib.Core.List.{List, [], _∷_, _++_}
+use native.Mathlib.Omega.{arith}
+use lib.Dec.{leb}
+use lib.ListN.{length, length-append}
+use borrow.Author.Tests.{leb-true, leb-false}
+use Rattle.isa.specs.declared.Instruction.{Instruction}
+use Rattle.verdict.specs.declared.Verdict.{Verdict}
+use Rattle.verdict.specs.declared.Verdict.the-variants.{Always, Never, Undecided, NoBranch}
+use Rattle.sheet.specs.declared.Reading.{Reading}
+use Rattle.sheet.specs.declared.Reading.the-variants as reading
+use Rattle.sheet.specs.Sheet.{sheetAt, readingOf}
+use Rattle.sheet.proofs.Accepted.{accepted}
+use Rattle.sheet.proofs.ByNumber.{instructions-count}
+use Rattle.format.specs.Write.{bytes, records}
+use Rattle.verdict_lines.specs.Lines.{Line, lineOf, lineBytes}
+use Rattle.verdict_sheet.specs.Said.{Judged, Said, judgedUpTo, firstDecided, linesOf}
+use Rattle.verdict_sheet.specs.Said.Judged.{all, refused as nodeRefused}
+use Rattle.pomthija.specs.Listing.{ListedNumbers, Listing, written, onJudged, listingOn, listingOf}
+use Rattle.pomthija.specs.Listing.ListedNumbers.{lines, refused}
+use Rattle.listing_text.specs.Text.{branchesText, refusalText, entriesText}
+use Rattle.listing.specs.Program.{linesText, judgedText, readText}
+use Rattle.listing.proofs.Entries.{bytes-long, entries-lines, over-spans}
+
+-- at most one line for each instruction
+line-few : (i : Instruction) (v : Verdict) → length (lineOf i v) ≤ 1
+line-few i (Always r) = omega arith
+line-few i (Never r) = omega arith
+line-few i Undecided = omega arith
+line-few i NoBranch = omega arith
+
+lines-few : (code : List Instruction) (said : List Said) → length (linesOf code said) ≤ length code
+unfolding linesOf
+lines-few [] said = omega arith
+lines-few (i ∷ code) said =
+    let v : Verdict = firstDecided (i .address) said in
+    omega (arith, length-append (lineOf i v) (linesOf code said), line-few i v, lines-few code said)
+
+-- 18 bytes for each line
+line-long : (l : Line) → length (lineBytes l) ≡ 18
+unfolding lineBytes
+line-long l = simp (length-append, bytes-long)
+
+lines-long : (due : List Line) → length (records lineBytes due) ≡ 18 * length due
+unfolding records
+lines-long [] = refl
+lines-long (l ∷ due) = omega (arith, length-append (lineBytes l) (records lineBytes due), line-long l, lines-long due)
+
+-- what an answer says of the text
+pub record Says (text : List ℕ) (room : ℕ) (given : Listing) : Type 0 where
+  pub of-lines : (n : ℕ) → given .answer ≡ lines n → (text ≡ branchesText n (entriesText (given .list) 0 n)) × (18 * n ≤ room)
+  pub of-refusal : (k p : ℕ) → given .answer ≡ refused k p → text ≡ refusalText k p
+
+refusal-says : (k p room : ℕ) (list : List ℕ) → Says (refusalText k p) room (record { answer = refused k p; list = list })
+refusal-says k p room list = record {
+  of-lines = λ n e. let z : _≡_ {A = ℕ} 0 1 = cc in absurd (omega arith);
+  of-refusal = λ k′ p′ e. let a : k ≡ k′ = cc in let b : p ≡ p′ = cc in rw (a, b);
+}
+
+-- the lines due, where the list has room for them
+written-says : (s list : List ℕ) (due : List Line) (fits : Bool) → leb (18 * length due) (length list) ≡ fits → 18 * length due ≤ length list
+    → Says (branchesText (length due) (linesText due)) (length list) (written s due list)
+written-says s list due false e room = absurd (omega (arith, leb-false (18 * length due) (length list) e))
+written-says s list due true e room = rw e record {
+  of-lines = λ n is.
+      let same : length due ≡ n = cc in
+      let spans = over-spans (records lineBytes due) list (rw lines-long room) in
+      (rw (← same, entries-lines due (spans .1)), rw same at room);
+  of-refusal = λ k p is. let z : _≡_ {A = ℕ} 0 1 = cc in absurd (omega arith);
+}
+
+judged-says : (s list : List ℕ) (j : Judged) → 18 * length (sheetAt s .instructions .list) ≤ length list → Says (judgedText j s) (length list) (onJudged j s list)
+judged-says s list (nodeRefused k p) room = refusal-says k p (length list) list
+judged-says s list (all said) room =
+    let code = sheetAt s .instructions .list in
+    let due = linesOf code said in
+    written-says s list due (leb (18 * length due) (length list)) refl (omega (arith, lines-few code said))
+
+reading-says : (s list : List ℕ) (r : Reading) → readingOf s ≡ r → 36864 ≤ length list → Says (readText r s) (length list) (listingOn r s list)
+reading-says s list (reading.Refused k p) e room = refusal-says k p (length list) list
+reading-says s list (reading.Accepted sheet) e room =
+    judged-says s list (judgedUpTo s (sheet .blocks .count) (sheet .nodes .count))
+    (omega (arith, instructions-count s sheet e, accepted s sheet e .few))
+
+pub listing-says : (s list : List ℕ) → 36864 ≤ length list → Says (readText (readingOf s) s) (length list) (listingOf s list)
+unfolding listingOf
+listing-says s list room = reading-says s list (readingOf s) refl room
