@@ -1,13 +1,10 @@
 -- Blocks, forced: the verdict on a flag branch is always, or never, exactly where what is known forces the branch that way.
-use Prim.Native.Nat.{ℕ, zero, suc}
-use mathlib.Core.Path.{_≡_, refl, sym, ap, _∙_}
-use mathlib.Core.List.{List, [], _∷_}
+use Prim.Native.Nat.{ℕ}
+use mathlib.Core.Path.{_≡_, refl, ap, _∙_}
+use mathlib.Core.List.{List}
 use mathlib.Core.Logic.{_↔_}
-use mathlib.Core.Bool.{Bool, true, false, cond}
-use lib.ListN.{getD}
-use native.Mathlib.Omega.{arith}
+use mathlib.Core.Bool.{Bool, true, false}
 use Rattle.isa.specs.declared.Mnemonic.{Mnemonic}
-use Rattle.isa.specs.declared.Instruction.{Instruction}
 use Rattle.alu.specs.declared.Flag.{Flag}
 use Rattle.alu.specs.declared.Flag.the-variants.{Known, Unknown}
 use Rattle.machine.specs.declared.State.{State}
@@ -18,13 +15,12 @@ use Rattle.concrete.proofs.Sound.{nothing-known, steps-sound}
 use Rattle.concrete.proofs.Forced.{forced}
 use Rattle.sheet.specs.declared.Sheet.{Sheet}
 use Rattle.sheet.specs.declared.Reading.the-variants as reading
-use Rattle.sheet.specs.Sheet.{sheetAt, readingOf}
+use Rattle.sheet.specs.Sheet.{readingOf}
 use Rattle.verdict.specs.declared.Reason.the-variants.{Flags}
 use Rattle.verdict.specs.declared.Verdict.{Verdict}
 use Rattle.verdict.specs.declared.Verdict.the-variants.{Always, Never}
-use Rattle.verdict_block.specs.declared.End.{End}
 use Rattle.verdict_block.specs.declared.Jump.the-variants.{Conditional}
-use Rattle.verdict_block.specs.Verdict.{codeOf, Parts, apart, flagVerdict, judged, endAt, endFrom, endOn, verdictOn}
+use Rattle.verdict_block.specs.Verdict.{codeOf, Parts, apart, flagVerdict, endAt, endFrom, endOn, verdictOn}
 use Rattle.verdict_block.specs.Verdict.Parts.{none, ending}
 use Rattle.theorems.specs.Runs.{Forced}
 use Rattle.theorems.proofs.Sound.{all-of-block, Before, before-last}

@@ -1,8 +1,14 @@
 -- the theorems
+pub mod Apart
 pub mod Sound
 pub mod Nodes
 pub mod Forced
 pub mod Public
 pub mod Outcomes
 pub mod Whole
+pub mod First
+pub mod Deciding
+pub mod DueLines
+pub mod InList
+pub mod Listing
 pub mod Main

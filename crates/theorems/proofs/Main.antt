@@ -28,14 +28,18 @@ use Rattle.decide.proofs.Evaluation.{ev-low}
 use Rattle.evaluate_node.specs.Evaluate.{StartsFrom}
 use Rattle.pomthija.specs.Block.{blockAnswer}
 use Rattle.pomthija.specs.Node.{nodeAnswer}
+use Rattle.pomthija.specs.Listing.{listingOf}
+use Rattle.pomthija.specs.Listing.ListedNumbers.{lines, refused as refused-listing}
 use Rattle.pomthija.specs.Evaluation.{evaluationAnswer, nodeRun, SaysOf, AnswerFromRun}
 use Rattle.pomthija.specs.Evaluation.Evaluated.{outcome, refused}
 use Rattle.theorems.specs.Runs.{Source, answerFor, Ends, ForcedEnd}
+use Rattle.theorems.specs.Lines.{lineAt, Listed, Refuses, TrueOf}
 use Rattle.theorems.specs.Rows.{Yields, rows, probe, marked}
 use Rattle.theorems.proofs.Public.{answers-forced}
 use Rattle.theorems.proofs.Nodes.{evaluation-agrees, probe-run}
 use Rattle.theorems.proofs.Outcomes.{answers-run, fourteen, refusal-number}
 use Rattle.theorems.proofs.Whole.{runs-right}
+use Rattle.theorems.proofs.Listing.{lines-true, lines-due, refused-for, list-kept}
 
 -- Reading accepts exactly the bytes of the valid sheets, and yields their content; a refusal has a number from 1 to 9 and a place within the sheet.
 pub reading : Format
@@ -51,6 +55,27 @@ short-sheets = examples-hold
 pub runs : (s : List Byte) (from : Source) (value reason : ℕ) → answerFor (numbers s) from ≡ decision value reason
     → (went : Bool) → Ends (numbers s) from went → value ≡ cond went 1 0
 runs = runs-right
+
+-- Every line that a listing writes is true of every run of the block or node that it comes from.
+pub true-lines : (s : List Byte) (list : List ℕ) (count k : ℕ) → listingOf (numbers s) list .answer ≡ lines count → k < count
+    → TrueOf (numbers s) (lineAt (listingOf (numbers s) list .list) k)
+true-lines = lines-true
+
+-- The lines that a listing writes are exactly those due, each read from its 18 bytes, rising by site, one a site: that of the first block, or else
+-- node, that decides the branch. Their number is the answer, they fit the list, and what is beyond them is as it was.
+pub due-lines : (s : List Byte) (list : List ℕ) (count : ℕ) → listingOf (numbers s) list .answer ≡ lines count
+    → Listed (numbers s) count list (listingOf (numbers s) list .list)
+due-lines = lines-due
+
+-- A listing is refused exactly where reading refuses, or a node is refused, or the list is too short for the lines due.
+pub refused-listings : (s : List Byte) (list : List ℕ) (number place : ℕ)
+    → (listingOf (numbers s) list .answer ≡ refused-listing number place) ↔ Refuses (numbers s) list number place
+refused-listings = refused-for
+
+-- A refused listing leaves the list as it was.
+pub kept-list : (s : List Byte) (list : List ℕ) (number place : ℕ) → listingOf (numbers s) list .answer ≡ refused-listing number place
+    → listingOf (numbers s) list .list ≡ list
+kept-list = list-kept
 
 -- For a block of an accepted sheet the answer is always (never) exactly where the block ends in a flag branch that what is known there forces to jump
 -- (not to jump); its reason is 1.

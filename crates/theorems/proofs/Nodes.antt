@@ -7,7 +7,7 @@ use mathlib.Core.List.{List, [], _∷_}
 use native.Mathlib.Omega.{arith}
 use lib.Dec.{eqb, ltb}
 use native.Mathlib.Decide.{decLt}
-use lib.ListN.{length, getD, List·getD-eq-default}
+use lib.ListN.{length, List·getD-eq-default}
 use Rattle.expr.specs.Admission.{Admitted, AdmittedAll, AdmittedNode}
 use Rattle.expr.proofs.Admission.{constant-fits}
 use Rattle.expr.specs.Tree.{Expr, flat}
@@ -23,14 +23,14 @@ use Rattle.value.specs.Operators.{truthOf, operate, operators, arithmetics, shi
 use Rattle.expr.specs.Types.{bits, plainType, promoted, common, constantType, binaryType, typeOf}
 use Rattle.arith.specs.Numbers.{convert, number, residue, negative}
 use Rattle.theorems.specs.Rows.{probe}
-use Rattle.value.specs.Evaluation.{Values, Contents, Effects, shared, ev}
+use Rattle.value.specs.Evaluation.{shared, ev}
 use Rattle.value.specs.Run.{Choices, runFrom, run}
 use Rattle.substitution.specs.Substitution.{Entry, free, held, Table, nothingHeld, standing, substitute, entryReads, kept, holdable, entryOf, assigned, long, Substituted, tooLong, into, substituted, withAssignments}
 use Rattle.substitution.proofs.Runs.{every-run}
 use Rattle.verdict.specs.declared.Verdict.{Verdict}
 use Rattle.verdict.specs.declared.Verdict.the-variants.{Always, Never, Undecided, NoBranch}
-use Rattle.verdict.specs.Numbers.{Numbers, verdictNumbers, answerNumbers}
-use Rattle.verdict.specs.Numbers.Numbers.{decision, refused}
+use Rattle.verdict.specs.Numbers.{verdictNumbers, answerNumbers}
+use Rattle.verdict.specs.Numbers.Numbers.{decision}
 use Rattle.verdict.specs.declared.Answer.{Answer}
 use Rattle.verdict.specs.declared.Answer.the-variants.{Given, Refused}
 use Rattle.sheet_node.specs.Node.{Node}
@@ -48,8 +48,9 @@ use Rattle.format.proofs.Admitted.{node-admitted-at}
 use Rattle.pomthija.specs.Evaluation.{nodeRun, evaluationAnswer, SaysOf}
 use Rattle.pomthija.specs.Evaluation.Evaluated.{outcome}
 use Rattle.pomthija.specs.Node.{onNode, nodeAnswer}
-use Rattle.theorems.specs.Runs.{Source, Ends}
+use Rattle.theorems.specs.Runs.{Ends}
 use Rattle.theorems.specs.Runs.Source.{node}
+use Rattle.theorems.proofs.Apart.{no-decision}
 use Rattle.theorems.proofs.Outcomes.{lent, answers-run, outcome-bit}
 
 -- every held expression has its constants below their width
@@ -208,9 +209,6 @@ numbers-meet (Never r) value reason false e h = cc
 numbers-meet Undecided value reason went e h = let z : _≡_ {A = ℕ} 0 1 = cc in absurd (omega arith)
 numbers-meet NoBranch value reason went e h = let z : _≡_ {A = ℕ} 0 1 = cc in absurd (omega arith)
 
-refused-decision : {X : Type 0} {k at value reason : ℕ} → refused k at ≡ decision value reason → X
-refused-decision e = let z : _≡_ {A = ℕ} 0 1 = cc in absurd (omega arith)
-
 some-outcome : (went : Bool) (t : Truth) → t ≡ cond went truth.Holds truth.Fails → t ≡ NoOutcome → ⊥
 some-outcome true t is none = let z : _≡_ {A = ℕ} 0 1 = cc in omega arith
 some-outcome false t is none = let z : _≡_ {A = ℕ} 0 1 = cc in omega arith
@@ -228,16 +226,16 @@ node-runs s small number value reason e went r = go (readingOf s) refl e
         (subst (Meets v) (r .1)
         (node-right (nodeNumbered s number) (numbered-fair s sheet small read number) (nodePlace s number) v is (r .0)
         (some-outcome went (nodeRun s number (r .0)) (r .1))))
-    given sheet read (Refused k at) is q = refused-decision q
+    given sheet read (Refused k at) is q = no-decision q
 
     go : (a : Reading) → readingOf s ≡ a → answerNumbers (onNode a s number) ≡ decision value reason → value ≡ cond went 1 0
-    go (reading.Refused k at) q e = refused-decision e
+    go (reading.Refused k at) q e = no-decision e
     go (reading.Accepted sheet) q e = on (ltb number (sheet .nodes .count)) e
       where
         on : (t : Bool) → answerNumbers (cond t (nodeVerdict (nodeNumbered s number) (nodePlace s number)) (Refused 13 0)) ≡ decision value reason
             → value ≡ cond went 1 0
         on true e = given sheet q (nodeVerdict (nodeNumbered s number) (nodePlace s number)) refl e
-        on false e = refused-decision e
+        on false e = no-decision e
 
 -- No evaluation of a node contradicts its verdict: it is a run of the node.
 pub evaluation-agrees : (s : List ℕ) → Bytes s → (number : ℕ) (values : List ℕ) (got value reason : ℕ)

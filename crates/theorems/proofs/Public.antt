@@ -15,17 +15,18 @@ use Rattle.sheet.specs.declared.Reading.the-variants as reading
 use Rattle.sheet.specs.Sheet.{readingOf}
 use Rattle.verdict.specs.declared.Verdict.{Verdict}
 use Rattle.verdict.specs.declared.Verdict.the-variants as verdict
-use Rattle.verdict.specs.Numbers.{Numbers, verdictNumbers, answerNumbers}
-use Rattle.verdict.specs.Numbers.Numbers.{decision, refused}
+use Rattle.verdict.specs.Numbers.{verdictNumbers, answerNumbers}
+use Rattle.verdict.specs.Numbers.Numbers.{decision}
 use Rattle.verdict.specs.declared.Answer.the-variants.{Given}
 use Rattle.verdict.proofs.Apart.{answers-apart}
 use Rattle.verdict_block.specs.declared.Jump.{Jump}
 use Rattle.verdict_block.specs.declared.Jump.the-variants.{Conditional, Nothing}
 use Rattle.verdict_block.specs.Verdict.{judged, endOn, verdictOn}
 use Rattle.pomthija.specs.Block.{onReading, blockAnswer}
-use Rattle.theorems.specs.Runs.{Outcome, Source, runOn, Ends, ForcedEnd}
+use Rattle.theorems.specs.Runs.{Ends, ForcedEnd}
 use Rattle.theorems.specs.Runs.Source.{block}
 use Rattle.theorems.specs.Runs.Outcome.{jumped}
+use Rattle.theorems.proofs.Apart.{no-decision}
 use Rattle.theorems.proofs.Sound.{NotAgainst, blocks-right}
 use Rattle.theorems.proofs.Forced.{saying, blocks-forced}
 use Rattle.laws.proofs.Booleans.{byTest}
@@ -36,19 +37,16 @@ record Decision (s : List ℕ) (number value reason : ℕ) : Type 0 where
   read : readingOf s ≡ reading.Accepted sheet
   is : verdictNumbers (verdictOn s number) ≡ decision value reason
 
-not-refused : {X : Type 0} {k at value reason : ℕ} → refused k at ≡ decision value reason → X
-not-refused e = let z : _≡_ {A = ℕ} 0 1 = cc in absurd (omega arith)
-
 decided-by : (s : List ℕ) (number value reason : ℕ) → blockAnswer s number ≡ decision value reason → Decision s number value reason
 unfolding blockAnswer
 decided-by s number value reason e = go (readingOf s) refl e
   where
     go : (r : Reading) → readingOf s ≡ r → answerNumbers (onReading r s number) ≡ decision value reason → Decision s number value reason
-    go (reading.Refused k at) q h = not-refused h
+    go (reading.Refused k at) q h = no-decision h
     go (reading.Accepted sheet) q h =
         byTest (ltb number (sheet .blocks .count))
         (λ t. record { sheet = sheet; read = q; is = rw t at h })
-        (λ t. not-refused (rw t at h))
+        (λ t. no-decision (rw t at h))
 
 against : (v : Verdict) (value reason : ℕ) (went : Bool) → verdictNumbers v ≡ decision value reason → NotAgainst v (jumped went) → value ≡ cond went 1 0
 against (verdict.Always r) value reason true e h = cc
