@@ -14,13 +14,13 @@ use Rattle.poly.specs.Meaning.{bits, value}
 use Rattle.poly.proofs.Values.{value-sum, ascending-sum}
 use Rattle.poly.proofs.Unique.{one-everywhere}
 use Rattle.parity.specs.Parity.{parity, difference}
-use Rattle.decide.specs.LowBit.{lowBit, AlwaysDiffer}
-use Rattle.decide.specs.Exact.{exactSides}
+use Rattle.parity.specs.LowBit.{lowBit, AlwaysDiffer}
+use Rattle.exact.specs.Exact.{exactSides}
 use Rattle.decide.specs.Decide.{orElse, equalSides, onExact, oddSides, equality, decide}
 use Rattle.verdict.specs.declared.Verdict.{Verdict}
 use Rattle.verdict.specs.declared.Verdict.the-variants.{Always, Never, Undecided, NoBranch}
 use Rattle.parity.proofs.Ordered.{parity-ascending}
-use Rattle.decide.proofs.Choices.{poly-low, some-choice}
+use Rattle.parity.proofs.Choices.{poly-low, some-choice}
 
 -- Where the low bits always differ, the difference is the polynomial 1.
 pub differs-one : (a b : Expr) → AlwaysDiffer a b → difference a b ≡ 0 ∷ []

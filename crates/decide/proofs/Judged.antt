@@ -19,13 +19,14 @@ use Rattle.parity.specs.Parity.{parity, rightLow, difference, few}
 use Rattle.verdict.specs.declared.Reason.the-variants.{EqualSides, Truth, Parity}
 use Rattle.verdict.specs.declared.Verdict.{Verdict}
 use Rattle.verdict.specs.declared.Verdict.the-variants.{Always, Never, Undecided, NoBranch}
-use Rattle.decide.specs.Exact.{isConstant, exact, written, exactFits, compared}
-use Rattle.decide.specs.Decide.{said, saidIf, asked, orElse, ofEqual, equalSides, isOne, oddSides, onExact, equality, unsignedCast, aboveZero, mirrored, unsignedZero, both, either, byOperator, decide, equalityFits, fits}
-use Rattle.decide.specs.declared.Known.{Known}
-use Rattle.decide.specs.declared.Parted as Parted
+use Rattle.exact.specs.Exact.{isConstant, exact, written, exactFits, compared, isOne}
+use Rattle.decide.specs.Decide.{said, saidIf, asked, orElse, ofEqual, equalSides, oddSides, onExact, equality, unsignedCast, aboveZero, mirrored, unsignedZero, both, either, byOperator, decide, equalityFits, fits}
+use Rattle.exact.specs.declared.Known.{Known}
+use Rattle.exact.specs.declared.Parted as Parted
 use Rattle.decide.specs.declared.Decision as Decision
 use Rattle.decide.specs.declared.Decision.the-variants.{Of, TooMany}
-use Rattle.decide.specs.Answers.{Buffers, known, sumFits, parted, answered, exactVerdict, parityVerdict, knownFits, partedFits, firstStep, halvesOf}
+use Rattle.exact.specs.Answers.{Buffers, known, sumFits, parted}
+use Rattle.decide.specs.Answers.{answered, exactVerdict, parityVerdict, knownFits, partedFits, firstStep, halvesOf}
 
 -- lent lists stay as long
 pub buffers-kept : {atoms terms scratch atoms′ terms′ scratch′ : List ℕ} → Buffers atoms terms scratch

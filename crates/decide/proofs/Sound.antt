@@ -31,17 +31,17 @@ use Rattle.verdict.specs.declared.Reason.{Reason}
 use Rattle.verdict.specs.declared.Reason.the-variants.{EqualSides, UnsignedZero, ExactSides, Parity}
 use Rattle.verdict.specs.declared.Verdict.{Verdict}
 use Rattle.verdict.specs.declared.Verdict.the-variants.{Always, Never, Undecided, NoBranch}
-use Rattle.decide.specs.Decide.{said, saidIf, orElse, ofEqual, equalSides, isOne, asked, oddSides, onExact, equality, unsignedCast, unsignedZero, both, either, byOperator, decide}
-use Rattle.decide.specs.Exact.{isConstant, exact, written, compared, exactSides}
+use Rattle.exact.specs.Exact.{isOne, isConstant, exact, written, compared, exactSides}
+use Rattle.decide.specs.Decide.{said, saidIf, orElse, ofEqual, equalSides, asked, oddSides, onExact, equality, unsignedCast, unsignedZero, both, either, byOperator, decide}
 use Rattle.parity.specs.Parity.{parity, difference}
-use Rattle.decide.specs.LowBit.{bit, lowBit, low, Has, sharedBits, ownBits}
+use Rattle.parity.specs.LowBit.{bit, lowBit, low, Has, sharedBits, ownBits}
 use Rattle.poly.specs.Meaning.{value}
 use Rattle.poly.proofs.Values.{value-sum, value-one}
-use Rattle.decide.proofs.Choices.{poly-low, some-bits}
-use Rattle.decide.proofs.LowBits.{convert-low}
-use Rattle.decide.proofs.TypeLaws.{together-taken, wider-left, wider-right, unsigned-left, unsigned-right, constant-unsigned, small-plain}
-use Rattle.decide.proofs.Evaluation.{ev-low}
-use Rattle.decide.proofs.ExactValue.{Fitting, convert-plain, value-is, operands, typed-left, typed-right, one-value, constant-at, exact-value}
+use Rattle.parity.proofs.Choices.{poly-low, some-bits}
+use Rattle.parity.proofs.LowBits.{convert-low}
+use Rattle.parity.proofs.TypeLaws.{together-taken, wider-left, wider-right, unsigned-left, unsigned-right, constant-unsigned, small-plain}
+use Rattle.parity.proofs.Evaluation.{ev-low}
+use Rattle.exact.proofs.ExactValue.{Fitting, convert-plain, value-is, operands, typed-left, typed-right, one-value, constant-at, exact-value}
 
 -- An outcome does not go against a verdict.
 abbrev pub Meets : Verdict → Truth → Type 0

@@ -14,7 +14,7 @@ use Rattle.verdict.specs.declared.Reason.the-variants.{EqualSides, Truth, Unsig
 use Rattle.verdict.specs.declared.Verdict.{Verdict}
 use Rattle.verdict.specs.declared.Verdict.the-variants.{Always, Never, Undecided, NoBranch}
 use Rattle.parity.specs.Parity.{parity, rightLow, difference, few}
-use Rattle.decide.specs.Exact.{isConstant, exactFits, exactSides}
+use Rattle.exact.specs.Exact.{isConstant, isOne, exactFits, exactSides}
 
 -- always where it holds, never where it fails
 abbrev pub said : Reason → Bool → Verdict
@@ -41,12 +41,6 @@ ofEqual o =
 -- Equal sides without an effect decide a comparison (N3, N17).
 abbrev pub equalSides : ℕ → Expr → Expr → Verdict
 equalSides o a b = cond (sameTree a b && not (hasOwnValue a)) (saidIf EqualSides (ofEqual o)) Undecided
-
--- a polynomial is the constant 1
-abbrev pub isOne : List ℕ → Bool
-isOne [] = false
-isOne (m ∷ []) = eqb m 0
-isOne (m ∷ n ∷ l) = false
 
 -- == where the first is true, else !=: from whether the sides are equal
 abbrev pub asked : Bool → Bool → Bool
@@ -107,18 +101,16 @@ both Undecided Undecided = Undecided
 both Undecided NoBranch = Undecided
 both NoBranch v = Undecided
 
--- One half of || holds, or both fail (N8, N9).
+-- always and never exchanged
+abbrev pub negated : Verdict → Verdict
+negated (Always r) = Never r
+negated (Never r) = Always r
+negated Undecided = Undecided
+negated NoBranch = NoBranch
+
+-- One half of || holds, or both fail: && of the negations, negated (N8, N9).
 abbrev pub either : Verdict → Verdict → Verdict
-either (Always r) v = Always r
-either (Never r) (Always q) = Always q
-either (Never r) (Never q) = Never Halves
-either (Never r) Undecided = Undecided
-either (Never r) NoBranch = Undecided
-either Undecided (Always q) = Always q
-either Undecided (Never q) = Undecided
-either Undecided Undecided = Undecided
-either Undecided NoBranch = Undecided
-either NoBranch v = Undecided
+either l r = negated (both (negated l) (negated r))
 
 -- by the operator: == and !=; < <= > >=; && and ||; no other decides
 abbrev pub byOperator : ℕ → Expr → Expr → Verdict → Verdict → Verdict

@@ -1,4 +1,2 @@
-pub mod LowBit
-pub mod Exact
 pub mod Decide
 pub mod Answers

@@ -1,225 +1,23 @@
 // The verdict on a substituted condition: equal sides, truth, exact sides, parity, unsigned casts against 0, logic half by half.
-use parity::Constant;
-use parity::Pair;
-use parity::Size;
+use exact::Known;
+use exact::Parted;
 use verdict::Reason;
 use verdict::Verdict;
 ghost use mathlib.Core.Path.{_≡_};
-ghost use mathlib.Core.Bool.{not, _&&_};
-ghost use mathlib.Core.List.{[]};
 ghost use Prim.Native.Nat.{_≤_};
 ghost use lib.Dec.{eqb};
 ghost use lib.ListN.{length};
 ghost use Rattle.expr.specs.Codes.{opEqual};
 ghost use Rattle.expr.specs.Tree.{Wf, treeOf};
-ghost use Rattle.expr.specs.Scan.{hasOwnValue, sameTree};
-ghost use Rattle.parity.specs.Parity.{parity as parityOf, difference};
-ghost use Rattle.decide.specs.Exact.{isConstant, low, shape, exact as exactOf, written as writtenOf, exactFits};
-ghost use Rattle.decide.specs.Decide.{isOne, said as saidOf, asked as askedOf, orElse, equalSides, equality as equalityOf, unsignedCast, aboveZero, mirrored as mirroredOf, unsignedZero, both as bothOf, either as eitherOf, decide as decideOf, equalityFits, fits};
 ghost use Rattle.parity.specs.Lent.{LentTwo};
-ghost use Rattle.decide.specs.Answers.{Buffers, shapeOf, known, castKnown, evenKnown, sumFits, parted, exactVerdict, answered, parityVerdict, knownFits, partedFits, firstStep, halvesOf};
-
-// A value that a side has, or that none is known, or that a part passes the limits.
-pub enum Known {
-    Value(u64),
-    Open,
-    TooMany,
-}
-
-// Whether two sides' low bits always differ, or that a part passes the limits.
-pub enum Parted {
-    Always,
-    Open,
-    TooMany,
-}
+ghost use Rattle.exact.specs.Answers.{Buffers};
+ghost use Rattle.decide.specs.Decide.{said as saidOf, asked as askedOf, orElse, equalSides, equality as equalityOf, unsignedCast, aboveZero, mirrored as mirroredOf, unsignedZero, both as bothOf, negated as negatedOf, either as eitherOf, decide as decideOf, equalityFits, fits};
+ghost use Rattle.decide.specs.Answers.{answered, exactVerdict, parityVerdict, knownFits, partedFits, firstStep, halvesOf};
 
 // A verdict, or that an equality passes the limits.
 pub enum Decision {
     Of(Verdict),
     TooMany,
-}
-
-// How a part with an operator is exact: by its left side's low bit, by its right side's, by being even, or by being 0.
-pub enum Shape {
-    LowLeft,
-    LowRight,
-    Even,
-    Vanishes,
-    Other,
-}
-
-// A part is this constant.
-fn is_constant(rs: &[u64], k: u64) -> bool
-    requires { ⌜ Wf (now rs) ⌝ }
-    ensures { λ r. ⌜ r ≡ isConstant k (treeOf (now (rs .entry))) ⌝ }
-{
-    match parity::constant_of(rs) {
-        Constant::Of(x) => x == k,
-        Constant::Other => false,
-    }
-}
-
-// Two sides are equal, and have no value of their own at each occurrence.
-fn same_sides(left: &[u64], right: &[u64]) -> bool
-    requires { ⌜ Wf (now left) ⌝ }
-    requires { ⌜ Wf (now right) ⌝ }
-    ensures { λ r. ⌜ r ≡ (sameTree (treeOf (now (left .entry))) (treeOf (now (right .entry))) && not (hasOwnValue (treeOf (now (left .entry))))) ⌝ }
-{
-    expr::same(left, right) & !expr::has_own_value(left)
-}
-
-// How a part with this operator is exact.
-fn shape_of(operator: u64, left: &[u64], right: &[u64]) -> Shape
-    requires { ⌜ Wf (now left) ⌝ }
-    requires { ⌜ Wf (now right) ⌝ }
-    ensures { λ r. ⌜ shapeOf r ≡ shape operator (treeOf (now (left .entry))) (treeOf (now (right .entry))) ⌝ }
-{
-    if (operator == expr::AND) & is_constant(right, 1) {
-        return Shape::LowLeft;
-    }
-    if (operator == expr::AND) & is_constant(left, 1) {
-        return Shape::LowRight;
-    }
-    if (operator == expr::MOD) & is_constant(right, 2) {
-        return Shape::Even;
-    }
-    if ((operator == expr::SUB) | (operator == expr::XOR)) & same_sides(left, right) {
-        return Shape::Vanishes;
-    }
-    if ((operator == expr::AND) | (operator == expr::MUL))
-        & (is_constant(left, 0) | is_constant(right, 0))
-    {
-        return Shape::Vanishes;
-    }
-    Shape::Other
-}
-
-// The low bit of a part by itself.
-fn low_bit(part: &[u64], atoms: &mut [u64], terms: &mut [u64], scratch: &mut [u64]) -> Known
-    requires { ⌜ Wf (now part) ⌝ }
-    requires { ⌜ length (now part) ≤ 256 ⌝ }
-    requires { ⌜ Buffers (now atoms) (now terms) (now scratch) ⌝ }
-    ensures { λ r. ⌜ r ≡ known (parityOf [] (treeOf (now (part .entry))) .fits) (low (treeOf (now (part .entry)))) ⌝ }
-{
-    match parity::parity(part, 0, part, atoms, 0, terms, scratch) {
-        Size::Of(count, _) => {
-            if count == 0 {
-                return Known::Value(0);
-            }
-            if (count == 1) & (terms[0] == 0) {
-                return Known::Value(1);
-            }
-            Known::Open
-        }
-        Size::TooMany => Known::TooMany,
-    }
-}
-
-// The low bits of two sides of an equality: whether their polynomials' sum is 1.
-fn parted_sides(
-    whole: &[u64],
-    left: &[u64],
-    right: &[u64],
-    atoms: &mut [u64],
-    terms: &mut [u64],
-    scratch: &mut [u64],
-) -> Parted
-    requires { ⌜ LentTwo (now whole) 0 (now left) (now right) (now atoms) 0 (now terms) ⌝ }
-    requires { ⌜ Buffers (now atoms) (now terms) (now scratch) ⌝ }
-    ensures { λ r. ⌜ r ≡ parted (sumFits (treeOf (now (left .entry))) (treeOf (now (right .entry)))) (isOne (difference (treeOf (now (left .entry))) (treeOf (now (right .entry))))) ⌝ }
-{
-    match parity::sides(Pair::Sum, whole, 0, left, right, atoms, 0, terms, scratch) {
-        Size::Of(count, _) => {
-            if (count == 1) & (terms[0] == 0) {
-                return Parted::Always;
-            }
-            Parted::Open
-        }
-        Size::TooMany => Parted::TooMany,
-    }
-}
-
-// A value that a cast keeps.
-fn cast_value(v: Known) -> Known
-    ensures { λ r. ⌜ r ≡ castKnown v ⌝ }
-{
-    match v {
-        Known::Value(x) => { if x <= 1 { Known::Value(x) } else { Known::Open } }
-        Known::Open => Known::Open,
-        Known::TooMany => Known::TooMany,
-    }
-}
-
-// The remainder by 2 of a part with this low bit.
-fn even_value(v: Known) -> Known
-    ensures { λ r. ⌜ r ≡ evenKnown v ⌝ }
-{
-    match v {
-        Known::Value(x) => { if x == 0 { Known::Value(0) } else { Known::Open } }
-        Known::Open => Known::Open,
-        Known::TooMany => Known::TooMany,
-    }
-}
-
-// The value of an exact side.
-fn exact(rs: &[u64], atoms: &mut [u64], terms: &mut [u64], scratch: &mut [u64]) -> Known
-    requires { ⌜ Wf (now rs) ⌝ }
-    requires { ⌜ length (now rs) ≤ 256 ⌝ }
-    requires { ⌜ Buffers (now atoms) (now terms) (now scratch) ⌝ }
-    ensures { λ r. ⌜ r ≡ known (exactFits (treeOf (now (rs .entry)))) (exactOf (treeOf (now (rs .entry)))) ⌝ }
-{
-    let n = rs.len() - 2;
-    let tag = rs[n];
-    let kind = expr::kind(tag);
-    if kind == expr::CONSTANT {
-        return Known::Value(rs[n + 1]);
-    }
-    if kind == expr::CAST {
-        return cast_value(exact(&rs[..n], atoms, terms, scratch));
-    }
-    if kind != expr::BINARY {
-        return Known::Open;
-    }
-    let m = expr::last_start(&rs[..n]);
-    let left = &rs[..m];
-    let right = &rs[m..n];
-    match shape_of(expr::argument(tag), left, right) {
-        Shape::LowLeft => low_bit(left, atoms, terms, scratch),
-        Shape::LowRight => low_bit(right, atoms, terms, scratch),
-        Shape::Even => even_value(low_bit(left, atoms, terms, scratch)),
-        Shape::Vanishes => Known::Value(0),
-        Shape::Other => Known::Open,
-    }
-}
-
-// A constant as written: one inside casts, & 1 and % 2.
-fn written(rs: &[u64]) -> bool
-    requires { ⌜ Wf (now rs) ⌝ }
-    requires { ⌜ length (now rs) ≤ 256 ⌝ }
-    ensures { λ r. ⌜ r ≡ writtenOf (treeOf (now (rs .entry))) ⌝ }
-{
-    let n = rs.len() - 2;
-    let tag = rs[n];
-    let kind = expr::kind(tag);
-    if kind == expr::CONSTANT {
-        return true;
-    }
-    if kind == expr::CAST {
-        return written(&rs[..n]);
-    }
-    if kind != expr::BINARY {
-        return false;
-    }
-    let m = expr::last_start(&rs[..n]);
-    let left = &rs[..m];
-    let right = &rs[m..n];
-    match shape_of(expr::argument(tag), left, right) {
-        Shape::LowLeft => written(left),
-        Shape::LowRight => written(right),
-        Shape::Even => written(left),
-        Shape::Vanishes => false,
-        Shape::Other => false,
-    }
 }
 
 fn said(reason: Reason, holds: bool) -> Verdict
@@ -356,26 +154,23 @@ fn both(left: Verdict, right: Verdict) -> Verdict
     }
 }
 
-// One half of || holds, or both fail.
+// Always and never exchanged.
+fn negated(v: Verdict) -> Verdict
+    ensures { λ r. ⌜ r ≡ negatedOf v ⌝ }
+{
+    match v {
+        Verdict::Always(reason) => Verdict::Never(reason),
+        Verdict::Never(reason) => Verdict::Always(reason),
+        Verdict::Undecided => Verdict::Undecided,
+        Verdict::NoBranch => Verdict::NoBranch,
+    }
+}
+
+// One half of || holds, or both fail: && of the negations, negated.
 fn either(left: Verdict, right: Verdict) -> Verdict
     ensures { λ r. ⌜ r ≡ eitherOf left right ⌝ }
 {
-    match left {
-        Verdict::Always(reason) => Verdict::Always(reason),
-        Verdict::Never(_) => match right {
-            Verdict::Always(reason) => Verdict::Always(reason),
-            Verdict::Never(_) => Verdict::Never(Reason::Halves),
-            Verdict::Undecided => Verdict::Undecided,
-            Verdict::NoBranch => Verdict::Undecided,
-        },
-        Verdict::Undecided => match right {
-            Verdict::Always(reason) => Verdict::Always(reason),
-            Verdict::Never(_) => Verdict::Undecided,
-            Verdict::Undecided => Verdict::Undecided,
-            Verdict::NoBranch => Verdict::Undecided,
-        },
-        Verdict::NoBranch => Verdict::Undecided,
-    }
+    negated(both(negated(left), negated(right)))
 }
 
 // Logic from its halves: && where `and`, else ||.
@@ -402,7 +197,7 @@ fn equal_sides(operator: u64, left: &[u64], right: &[u64]) -> Verdict
     requires { ⌜ Wf (now right) ⌝ }
     ensures { λ r. ⌜ r ≡ equalSides operator (treeOf (now (left .entry))) (treeOf (now (right .entry))) ⌝ }
 {
-    if !same_sides(left, right) {
+    if !exact::same_sides(left, right) {
         return Verdict::Undecided;
     }
     if (operator == expr::EQUAL)
@@ -452,10 +247,10 @@ fn equality(
     ensures { λ r. ⌜ r ≡ answered (equalityFits (treeOf (now (left .entry))) (treeOf (now (right .entry)))) (orElse (equalSides operator (treeOf (now (left .entry))) (treeOf (now (right .entry)))) (equalityOf (eqb operator opEqual) (treeOf (now (left .entry))) (treeOf (now (right .entry))))) ⌝ }
 {
     let same = equal_sides(operator, left, right);
-    let as_written = written(left) & written(right);
-    let sides = parted_sides(whole, left, right, atoms, terms, scratch);
-    let a = exact(left, atoms, terms, scratch);
-    let b = exact(right, atoms, terms, scratch);
+    let as_written = exact::written(left) & exact::written(right);
+    let sides = exact::parted_sides(whole, left, right, atoms, terms, scratch);
+    let a = exact::exact(left, atoms, terms, scratch);
+    let b = exact::exact(right, atoms, terms, scratch);
     first_step(same, operator == expr::EQUAL, a, b, as_written, sides)
 }
 
@@ -479,13 +274,13 @@ fn unsigned_zero(operator: u64, left: &[u64], right: &[u64]) -> Verdict
     requires { ⌜ Wf (now right) ⌝ }
     ensures { λ r. ⌜ r ≡ unsignedZero operator (treeOf (now (left .entry))) (treeOf (now (right .entry))) ⌝ }
 {
-    if is_constant(right, 0) {
+    if exact::is_constant(right, 0) {
         if unsigned_cast(left) {
             return above_zero(operator);
         }
         return Verdict::Undecided;
     }
-    if is_constant(left, 0) & unsigned_cast(right) {
+    if exact::is_constant(left, 0) & unsigned_cast(right) {
         return above_zero(mirrored(operator));
     }
     Verdict::Undecided

@@ -21,10 +21,10 @@ use Rattle.format.proofs.Unique.{all-bytes, format}
 use Rattle.format.proofs.Examples.{examples-hold}
 use Rattle.verdict.specs.declared.Verdict.the-variants as verdict
 use Rattle.verdict.specs.Numbers.Numbers.{decision}
-use Rattle.decide.specs.LowBit.{lowBit, AlwaysDiffer, low, Has, sharedBits, ownBits}
+use Rattle.parity.specs.LowBit.{lowBit, AlwaysDiffer, low, Has, sharedBits, ownBits}
 use Rattle.decide.specs.Decide.{decide}
 use Rattle.decide.proofs.Complete.{decided}
-use Rattle.decide.proofs.Evaluation.{ev-low}
+use Rattle.parity.proofs.Evaluation.{ev-low}
 use Rattle.evaluate_node.specs.Evaluate.{StartsFrom}
 use Rattle.pomthija.specs.Block.{blockAnswer}
 use Rattle.pomthija.specs.Node.{nodeAnswer}

@@ -35,8 +35,8 @@ use Rattle.verdict.specs.declared.Answer.{Answer}
 use Rattle.verdict.specs.declared.Answer.the-variants.{Given, Refused}
 use Rattle.sheet_node.specs.Node.{Node}
 use Rattle.decide.specs.Decide.{decide, fits}
-use Rattle.decide.specs.LowBit.{Has}
-use Rattle.decide.proofs.ExactValue.{Fitting}
+use Rattle.parity.specs.LowBit.{Has}
+use Rattle.exact.proofs.ExactValue.{Fitting}
 use Rattle.decide.proofs.Sound.{Meets, right}
 use Rattle.verdict_node.specs.NodeVerdict.{onSubstituted, nodeVerdict}
 use Rattle.sheet.specs.declared.Sheet.{Sheet}

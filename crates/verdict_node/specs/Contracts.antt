@@ -5,7 +5,7 @@ use mathlib.Core.List.{List}
 use lib.ListN.{length}
 use Rattle.verdict.specs.declared.Answer.{Answer}
 use Rattle.verdict.specs.declared.Answer.the-variants.{Given, Refused}
-use Rattle.decide.specs.Answers.{Buffers}
+use Rattle.exact.specs.Answers.{Buffers}
 use Rattle.decide.specs.declared.Decision.{Decision}
 use Rattle.decide.specs.declared.Decision.the-variants.{Of, TooMany}
 

@@ -18,7 +18,7 @@ use Rattle.decide.proofs.+decide.Lts-decide as decide-lts
 use Rattle.decide.proofs.+decide.Tie.{close}
 use Rattle.decide.proofs.+decide.{statement}
 use Rattle.decide.proofs.Judged.{buffers-kept, decide-true, decide-false, decide-other, decide-logic, decide-equality, decide-relation}
-use Rattle.decide.proofs.Steps.{lent-whole}
+use Rattle.exact.proofs.Steps.{lent-whole}
 use Rattle.decide.proofs.decide.Kinds as decide-kinds
 use Rattle.decide.proofs.decide.Reads as decide
 use Rattle.decide.proofs.equality.Reads as equality-reads

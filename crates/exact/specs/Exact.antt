@@ -18,6 +18,12 @@ valued (some x) k = eqb x k
 abbrev pub isConstant : ℕ → Expr → Bool
 isConstant k e = valued (constantOf e) k
 
+-- a polynomial is the constant 1
+abbrev pub isOne : List ℕ → Bool
+isOne [] = false
+isOne (m ∷ []) = eqb m 0
+isOne (m ∷ n ∷ l) = false
+
 -- a polynomial that is 0 or 1 decides the low bit
 abbrev pub decidedBit : List ℕ → Option ℕ
 decidedBit [] = some 0

@@ -1,9 +1,9 @@
--- `decide::shape_of` meets its contract: by the tests, in order.
+-- `exact::shape_of` meets its contract: by the tests, in order.
 -- Assumes nothing.
 use borrow.Author.Needs.{needs}
-use Rattle.decide.proofs.Steps.{shape-1, shape-2, shape-3, shape-4, shape-5, shape-6}
-use Rattle.decide.proofs.shape_of.Statement.{statement}
-use Rattle.decide.proofs.shape_of.Tie as tie
+use Rattle.exact.proofs.Steps.{shape-1, shape-2, shape-3, shape-4, shape-5, shape-6}
+use Rattle.exact.proofs.shape_of.Statement.{statement}
+use Rattle.exact.proofs.shape_of.Tie as tie
 
 is-constant-requires : tie.Need-is-constant-requires
 is-constant-requires c κs = search needs

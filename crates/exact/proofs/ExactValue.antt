@@ -26,16 +26,16 @@ use Rattle.value.specs.Evaluation.{Values, Contents, Effects, under, shared, ev
 use Rattle.poly.specs.Meaning.{value}
 use Rattle.poly.proofs.Values.{value-one}
 use Rattle.parity.specs.Parity.{parity}
-use Rattle.decide.specs.Exact.{Shape, isConstant, decidedBit, low as lowOf, shape, shapeValue, evenOnly, atMostOne, exact}
-use Rattle.decide.specs.Exact.Shape.{lowLeft, lowRight, even, vanishes, other}
-use Rattle.decide.specs.LowBit.{bit, lowBit, low, Has, sharedBits, ownBits}
+use Rattle.exact.specs.Exact.{Shape, isConstant, decidedBit, low as lowOf, shape, shapeValue, evenOnly, atMostOne, exact}
+use Rattle.exact.specs.Exact.Shape.{lowLeft, lowRight, even, vanishes, other}
+use Rattle.parity.specs.LowBit.{bit, lowBit, low, Has, sharedBits, ownBits}
 use Rattle.expr.proofs.Sameness.{sameTree-true}
 use Rattle.value.proofs.Laws.{ev-typed}
 use Rattle.value.proofs.Independence.{without-effect}
-use Rattle.decide.proofs.Choices.{poly-low, part-bits}
-use Rattle.decide.proofs.LowBits.{by-two, convert-low, number-low, even-width}
-use Rattle.decide.proofs.TypeLaws.{constant-plain, small-plain, wider-left, wider-right, together-taken}
-use Rattle.decide.proofs.Evaluation.{ev-low}
+use Rattle.parity.proofs.Choices.{poly-low, part-bits}
+use Rattle.parity.proofs.LowBits.{by-two, convert-low, number-low, even-width}
+use Rattle.parity.proofs.TypeLaws.{constant-plain, small-plain, wider-left, wider-right, together-taken}
+use Rattle.parity.proofs.Evaluation.{ev-low}
 
 -- every constant of a tree is below its width
 unfoldable pub Fitting : Expr → Type 0

@@ -14,16 +14,16 @@ use Rattle.expr.proofs.argument.Reads as argument-reads
 use Rattle.expr.proofs.kind.Reads as kind-reads
 use Rattle.expr.proofs.last_start.Reads as last-start-reads
 use Rattle.expr.specs.Tree.{treeOf}
-use Rattle.decide.proofs.+exact.Lts-exact as exact-lts
-use Rattle.decide.proofs.+exact.Tie.{close}
-use Rattle.decide.proofs.+exact.{statement}
-use Rattle.decide.proofs.Steps.{exact-constant, exact-cast, exact-shape, exact-even, exact-other}
-use Rattle.decide.proofs.cast_value.Reads as cast-value-reads
-use Rattle.decide.proofs.even_value.Reads as even-value-reads
-use Rattle.decide.proofs.exact.Kinds as exact-kinds
-use Rattle.decide.proofs.exact.Reads as exact
-use Rattle.decide.proofs.low_bit.Reads as low-bit-reads
-use Rattle.decide.proofs.shape_of.Reads as shape-of-reads
+use Rattle.exact.proofs.+exact.Lts-exact as exact-lts
+use Rattle.exact.proofs.+exact.Tie.{close}
+use Rattle.exact.proofs.+exact.{statement}
+use Rattle.exact.proofs.Steps.{exact-constant, exact-cast, exact-shape, exact-even, exact-other}
+use Rattle.exact.proofs.cast_value.Reads as cast-value-reads
+use Rattle.exact.proofs.even_value.Reads as even-value-reads
+use Rattle.exact.proofs.exact.Kinds as exact-kinds
+use Rattle.exact.proofs.exact.Reads as exact
+use Rattle.exact.proofs.low_bit.Reads as low-bit-reads
+use Rattle.exact.proofs.shape_of.Reads as shape-of-reads
 
 abbrev μ-exact : Measures 4 exact-kinds.ps ℕ
 μ-exact κs a = length (a .0 .now)

@@ -1,10 +1,10 @@
--- `decide::low_bit` meets its contract: by the count of terms.
+-- `exact::low_bit` meets its contract: by the count of terms.
 -- Assumes nothing.
 use borrow.Author.Needs.{needs}
 use Rattle.expr.specs.Tree.{treeOf}
-use Rattle.decide.proofs.Steps.{lent-whole, low-none, low-one, low-open, low-past}
-use Rattle.decide.proofs.low_bit.Statement.{statement}
-use Rattle.decide.proofs.low_bit.Tie as tie
+use Rattle.exact.proofs.Steps.{lent-whole, low-none, low-one, low-open, low-past}
+use Rattle.exact.proofs.low_bit.Statement.{statement}
+use Rattle.exact.proofs.low_bit.Tie as tie
 
 parity-requires : tie.Need-parity-requires
 parity-requires c κs = (lent-whole (c .before .before .before .before .before .before .before .pre .0) (c .before .before .before .before .before .before .before .pre .1 .0) (c .before .before .before .before .before .before .before .pre .1 .1), c .before .before .before .before .before .before .before .pre .1 .1 .products)

@@ -20,11 +20,11 @@ use Rattle.poly.specs.Terms.{sum, product}
 use Rattle.poly.specs.Meaning.{holds, value}
 use Rattle.poly.proofs.Sets.{holds-step, holds-none}
 use Rattle.poly.proofs.Values.{value-sum, value-product, value-one, xor-none}
 use Rattle.parity.specs.Parity.{Entry, Low, entered, place, numberIn, noted, constantPoly, joined, atomLow, lowOf, parity}
 use Rattle.parity.specs.Parity.Entry.{adds, multiplies, joins, keeps, clears, atom}
-use Rattle.decide.specs.LowBit.{atomBit, bitOf, lowBit}
+use Rattle.parity.specs.LowBit.{atomBit, bitOf, lowBit}
 use Rattle.parity.proofs.Atoms.{Extends, Noting, noting, before, number-upto, place-stays, place-new, atoms-grow, extends-refl, extends-trans}
 use Rattle.parity.proofs.Atoms.Noting.{known, new}
 
 -- bits by the number of an atom
 abbrev pub Bits : Type 0

@@ -13,13 +13,13 @@ use Rattle.expr.proofs.Parts.{root-place}
 use Rattle.expr.proofs.argument.Reads as argument-reads
 use Rattle.expr.proofs.kind.Reads as kind-reads
 use Rattle.expr.proofs.last_start.Reads as last-start-reads
-use Rattle.decide.proofs.+written.Lts-written as written-lts
-use Rattle.decide.proofs.+written.Tie.{close}
-use Rattle.decide.proofs.+written.{statement}
-use Rattle.decide.proofs.Steps.{written-constant, written-cast, written-shape, exact-other}
-use Rattle.decide.proofs.shape_of.Reads as shape-of-reads
-use Rattle.decide.proofs.written.Kinds as written-kinds
-use Rattle.decide.proofs.written.Reads as written
+use Rattle.exact.proofs.+written.Lts-written as written-lts
+use Rattle.exact.proofs.+written.Tie.{close}
+use Rattle.exact.proofs.+written.{statement}
+use Rattle.exact.proofs.Steps.{written-constant, written-cast, written-shape, exact-other}
+use Rattle.exact.proofs.shape_of.Reads as shape-of-reads
+use Rattle.exact.proofs.written.Kinds as written-kinds
+use Rattle.exact.proofs.written.Reads as written
 
 abbrev μ-written : Measures 1 written-kinds.ps ℕ
 μ-written κs a = length (a .0 .now)

@@ -22,11 +22,11 @@ use Rattle.value.specs.Evaluation.{Values, Contents, Effects, ByPath, under, sh
 use Rattle.value.proofs.Laws.{ev-typed}
 use Rattle.value.proofs.Independence.{without-effect}
 use Rattle.arith.proofs.Laws.{convert-lt, count-is, cut-lt}
-use Rattle.decide.proofs.TypeLaws.{promoted-taken, together-taken, constant-wide}
+use Rattle.parity.proofs.TypeLaws.{promoted-taken, together-taken, constant-wide}
 use Rattle.parity.specs.Parity.{Entry, constantOf, onRemainder, onShift, entered}
 use Rattle.parity.specs.Parity.Entry.{adds, multiplies, joins, keeps, clears, atom}
-use Rattle.decide.specs.LowBit.{bit, atomBit, bitOf, lowBit, low, Has, sharedBits, ownBits}
-use Rattle.decide.proofs.LowBits.{width-low, convert-low, sum-low, difference-low, product-low, xor-low, and-low, or-low, remainder-low, shift-none, shift-some}
+use Rattle.parity.specs.LowBit.{bit, atomBit, bitOf, lowBit, low, Has, sharedBits, ownBits}
+use Rattle.parity.proofs.LowBits.{width-low, convert-low, sum-low, difference-low, product-low, xor-low, and-low, or-low, remainder-low, shift-none, shift-some}
 
 -- The operators that are entered, and that no other is.
 data View : ℕ → Type 0 where

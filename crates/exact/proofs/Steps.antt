@@ -22,15 +22,14 @@ use Rattle.parity.specs.declared.Size.{Size}
 use Rattle.parity.specs.declared.Size.the-variants as sizes
 use Rattle.parity.specs.Lent.{optionOf, pairOf, atomsAt, Parts, Lent, Given}
 use Rattle.parity.proofs.Steps.{Told, told, passed}
-use Rattle.decide.specs.Exact as Exact
-use Rattle.decide.specs.Exact.{valued, isConstant, decidedBit, low, shape, atMostOne, evenOnly, shapeValue, exact, shapeWritten, written, shapeFits, exactFits}
-use Rattle.decide.specs.Exact.Shape.{lowLeft, lowRight, even, vanishes, other}
-use Rattle.decide.specs.Decide.{isOne}
-use Rattle.decide.specs.declared.Known.{Known}
-use Rattle.decide.specs.declared.Known.the-variants.{Value, Open, TooMany}
-use Rattle.decide.specs.declared.Parted.the-variants as parteds
-use Rattle.decide.specs.declared.Shape as Shape
-use Rattle.decide.specs.Answers.{Buffers, shapeOf, knownIf, known, castKnown, evenKnown, sumFits, parted}
+use Rattle.exact.specs.Exact as Exact
+use Rattle.exact.specs.Exact.{valued, isConstant, decidedBit, low, shape, atMostOne, evenOnly, shapeValue, exact, shapeWritten, written, shapeFits, exactFits, isOne}
+use Rattle.exact.specs.Exact.Shape.{lowLeft, lowRight, even, vanishes, other}
+use Rattle.exact.specs.declared.Known.{Known}
+use Rattle.exact.specs.declared.Known.the-variants.{Value, Open, TooMany}
+use Rattle.exact.specs.declared.Parted.the-variants as parteds
+use Rattle.exact.specs.declared.Shape as Shape
+use Rattle.exact.specs.Answers.{Buffers, shapeOf, knownIf, known, castKnown, evenKnown, sumFits, parted}
 
 -- a constant, and what is none
 pub constant-value : {r : Constant.Constant} {v : Option ℕ} {x : ℕ} (k : ℕ) → optionOf r ≡ v → r ≡ constants.Of x → eqb x k ≡ valued v k

@@ -1,10 +1,10 @@
--- `decide::same_sides` meets its contract: both tests.
+-- `exact::same_sides` meets its contract: both tests.
 -- Assumes nothing.
 use mathlib.Core.Bool.{Bool, not, _&&_}
 use mathlib.Core.Path.{ap₂}
 use borrow.Author.Needs.{needs}
-use Rattle.decide.proofs.same_sides.Statement.{statement}
-use Rattle.decide.proofs.same_sides.Tie as tie
+use Rattle.exact.proofs.same_sides.Statement.{statement}
+use Rattle.exact.proofs.same_sides.Tie as tie
 
 same-requires : tie.Need-same-requires
 same-requires c κs = search needs

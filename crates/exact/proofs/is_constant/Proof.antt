@@ -1,9 +1,9 @@
--- `decide::is_constant` meets its contract: by cases.
+-- `exact::is_constant` meets its contract: by cases.
 -- Assumes nothing.
 use borrow.Author.Needs.{needs}
-use Rattle.decide.proofs.Steps.{constant-value, constant-none}
-use Rattle.decide.proofs.is_constant.Statement.{statement}
-use Rattle.decide.proofs.is_constant.Tie as tie
+use Rattle.exact.proofs.Steps.{constant-value, constant-none}
+use Rattle.exact.proofs.is_constant.Statement.{statement}
+use Rattle.exact.proofs.is_constant.Tie as tie
 
 constant-of-requires : tie.Need-constant-of-requires
 constant-of-requires c κs = search needs

@@ -1,13 +1,13 @@
--- `decide::parted_sides` meets its contract: the sum of the sides is 1, or not.
+-- `exact::parted_sides` meets its contract: the sum of the sides is 1, or not.
 -- Assumes nothing.
 use mathlib.Core.Bool.{Bool, true}
 use mathlib.Core.Path.{ap, sym, _∙_}
 use borrow.Author.Needs.{needs}
 use Rattle.expr.specs.Tree.{treeOf}
-use Rattle.decide.proofs.Steps.{parted-is, parted-past}
-use Rattle.decide.proofs.parted_sides.Statement.{statement}
-use Rattle.decide.proofs.parted_sides.Tie as tie
-use Rattle.decide.specs.Answers.{parted}
+use Rattle.exact.proofs.Steps.{parted-is, parted-past}
+use Rattle.exact.proofs.parted_sides.Statement.{statement}
+use Rattle.exact.proofs.parted_sides.Tie as tie
+use Rattle.exact.specs.Answers.{parted}
 
 sides-requires : tie.Need-sides-requires
 sides-requires c κs = search needs
