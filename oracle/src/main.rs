@@ -1,7 +1,9 @@
 //! The commands. README.md has an example of each.
 
 use oracle::comparisons::frames::{self, Question};
-use oracle::comparisons::{evaluations, nodes, processor, reading, runs, times, verdicts};
+use oracle::comparisons::{
+    evaluations, node_times, nodes, processor, reading, runs, times, verdicts,
+};
 use oracle::disassembly::command::{self, Source};
 use oracle::disassembly::judge::Program;
 use oracle::judges::{evaluator, node_verdict, reader};
@@ -18,7 +20,7 @@ const USAGE: &str = "usage:
   oracle answer                    answers frames, but for those of blocks
   oracle compare --program PATH [--sheets N] [--seed S]
   oracle compare --stub [--sheets N] [--seed S]
-  oracle bench [--program PATH] [--save SHEET]
+  oracle bench [--program PATH [--given PATH]] [--save SHEET]
   oracle stored FRAMES LINES --given PATH
                                    the stored cases, and the lines due
   oracle verdicts --program PATH --given PATH [--sheets N] [--seed S]
@@ -299,7 +301,11 @@ fn store(frames: &str, lines: &str, options: &Options) -> Outcome {
 
 fn bench(options: &Options) -> Outcome {
     let program = options.command()?;
-    let outcome = times::bench(program.as_deref(), options.save.as_deref());
+    let mut outcome = times::bench(program.as_deref(), options.save.as_deref());
+    if let (Some(program), Some(given)) = (&program, &options.given) {
+        let nodes = || node_times::bench(program, std::slice::from_ref(given));
+        outcome = outcome.and_then(|()| nodes());
+    }
     outcome.map_err(|error| error.to_string())?;
     Ok(true)
 }

@@ -12,10 +12,12 @@ use crate::pipeline::Disasm;
 use crate::register::RegisterId;
 #[cfg(product)]
 use crate::structure::Terminator;
-use oracle::sheets::syntax as sheet;
-use oracle::judges::substitution::{substitute, Rule};
 use oracle::judges::node_limits;
 use oracle::judges::reader;
+use oracle::judges::substitution::{substitute, Rule};
+use oracle::sheets::syntax as sheet;
+use std::hint::black_box;
+use std::time::Instant;
 
 /// Records of a substituted expression beyond which a node is not judged:
 /// the given source has no limit, and expressions may double at each step.
@@ -65,11 +67,11 @@ pub fn branches(sheet: &sheet::Sheet) -> Option<usize> {
 /// The answers for the nodes of a sheet alone.
 pub fn node_line(bytes: &[u8], nodes: Nodes) -> String {
     match reader::read(bytes) {
-        Ok(accepted) => accepted
-            .sheet
-            .nodes
-            .iter()
-            .fold("nodes".to_string(), |line, node| format!("{line} {}", node_answer(node, nodes))),
+        Ok(accepted) => {
+            accepted.sheet.nodes.iter().fold("nodes".to_string(), |line, node| {
+                format!("{line} {}", node_answer(node, nodes))
+            })
+        }
         Err(refusal) => refusal.to_string(),
     }
 }
@@ -146,22 +148,48 @@ fn node_answer(node: &sheet::Node, nodes: Nodes) -> String {
     if let (true, Some(number)) = (differ, node_limits::refusal(node)) {
         return format!("r{number}");
     }
-    let rule = if differ { Rule::Ours } else { Rule::Given };
-    let Some(found) = substitute(node, rule, MOST_RECORDS) else {
+    let Some((statements, condition)) = trees(node, nodes) else {
         return "-".to_string();
     };
+    match guard::limited(|| opaque::node_verdict(&statements, &condition)) {
+        None => "-".to_string(),
+        Some(None) => "u".to_string(),
+        Some(Some((holds, why))) => answer(holds, reason(&why)),
+    }
+}
+
+/// The node in the source's types; nothing if its expressions grow too long.
+fn trees(node: &sheet::Node, nodes: Nodes) -> Option<(Vec<Statement>, AstNode)> {
+    let differ = nodes == Nodes::WithDifferences;
+    let rule = if differ { Rule::Ours } else { Rule::Given };
+    let found = substitute(node, rule, MOST_RECORDS)?;
     let mut builder = Builder { effects: differ.then_some(0) };
     let mut statements = Vec::new();
     for (number, statement) in node.statements.iter().enumerate() {
         let held = !found.not_held.contains(&number);
         statements.push(Statement { node: builder.statement(statement, held) });
     }
-    let condition = builder.expression(&node.condition);
-    match guard::limited(|| opaque::node_verdict(&statements, &condition)) {
-        None => "-".to_string(),
-        Some(None) => "u".to_string(),
-        Some(Some((holds, why))) => answer(holds, reason(&why)),
-    }
+    Some((statements, builder.expression(&node.condition)))
+}
+
+/// Nanoseconds that judging each node of a sheet took, the least of several
+/// times, or `-`.
+pub fn time_line(bytes: &[u8]) -> String {
+    let sheet = match reader::read(bytes) {
+        Ok(accepted) => accepted.sheet,
+        Err(refusal) => return refusal.to_string(),
+    };
+    let time = |node: &sheet::Node| {
+        let (statements, condition) = trees(node, Nodes::AsTheyAre)?;
+        let once = || {
+            let start = Instant::now();
+            let found = guard::limited(|| opaque::node_verdict(&statements, &condition));
+            black_box(found).map(|_| start.elapsed().as_nanos())
+        };
+        (0..20).map(|_| once()).min().flatten()
+    };
+    let word = |node| time(node).map_or("-".to_string(), |time| time.to_string());
+    sheet.nodes.iter().fold("nodes".to_string(), |line, node| format!("{line} {}", word(node)))
 }
 
 /// The number of a sentence: its words tell the step it comes from.

@@ -12,10 +12,10 @@ mod ast {
 mod cpu_context {
     include!(concat!(env!("OUT_DIR"), "/cpu_context.rs"));
 }
-#[cfg(given_source)]
-mod engine;
 #[cfg(all(given_source, product))]
 mod bench;
+#[cfg(given_source)]
+mod engine;
 #[cfg(all(given_source, product))]
 mod fuzz;
 #[cfg(given_source)]
@@ -47,12 +47,13 @@ use stand_ins::{asm, cfg, emit, emulate, iced_x86, lift, pipeline, register, str
 use std::io;
 use std::process::ExitCode;
 
-const USAGE: &str = "usage: given [--differences]
+const USAGE: &str = "usage: given [--differences | --time]
        given fuzz SECONDS SEED
        given bench PLOT
 Frames for the verdicts on blocks and on nodes are read from standard input.
 --differences judges nodes with the entries of docs/DIFFERENCES.md and with the
-refusals 10 and 11. fuzz compares the product's C exports with these answers, and
+refusals 10 and 11, --time answers nodes with the nanoseconds that judging each took,
+the least of several times. fuzz compares the product's C exports with these answers, and
 bench times both on the same sheets and writes a plot; they are there where the
 build was told the product's folder.";
 
@@ -60,8 +61,9 @@ fn main() -> ExitCode {
     let args: Vec<String> = std::env::args().skip(1).collect();
     let words: Vec<&str> = args.iter().map(String::as_str).collect();
     let outcome = match words.as_slice() {
-        [] => run(false),
-        ["--differences"] => run(true),
+        [] => run(Lines::AsItIs),
+        ["--differences"] => run(Lines::WithDifferences),
+        ["--time"] => run(Lines::Times),
         ["fuzz", seconds, seed] => fuzzed(seconds, seed),
         ["bench", plot] => timed(plot),
         _ => Err(io::Error::other(USAGE)),
@@ -102,23 +104,35 @@ fn timed(_plot: &str) -> io::Result<()> {
     Err(io::Error::other(NO_PRODUCT))
 }
 
+/// What the lines say: answers, or nanoseconds on nodes.
+#[allow(dead_code)]
+enum Lines {
+    AsItIs,
+    WithDifferences,
+    Times,
+}
+
 #[cfg(given_source)]
-fn run(differences: bool) -> io::Result<()> {
+fn run(lines: Lines) -> io::Result<()> {
     use engine::Nodes;
     use oracle::comparisons::frames::Question;
     guard::hush();
-    let nodes = if differences { Nodes::WithDifferences } else { Nodes::AsTheyAre };
+    let nodes = match lines {
+        Lines::WithDifferences => Nodes::WithDifferences,
+        _ => Nodes::AsTheyAre,
+    };
     let mut input = io::BufReader::new(io::stdin());
     let mut output = io::BufWriter::new(io::stdout());
     oracle::comparisons::frames::serve(&mut input, &mut output, |question| match question {
         Question::Blocks(sheet) => Ok(engine::line(sheet, nodes)),
+        Question::Nodes(sheet) if matches!(lines, Lines::Times) => Ok(engine::time_line(sheet)),
         Question::Nodes(sheet) => Ok(engine::node_line(sheet, nodes)),
         _ => Err(io::Error::other("the given source judges blocks and nodes alone")),
     })
 }
 
 #[cfg(not(given_source))]
-fn run(_differences: bool) -> io::Result<()> {
+fn run(_lines: Lines) -> io::Result<()> {
     println!("{}", oracle::comparisons::verdicts::ABSENT);
     io::copy(&mut io::stdin(), &mut io::sink()).map(|_| ())
 }

@@ -58,9 +58,12 @@ fn chain(generator: &mut Generator) -> Node {
         variables[0] = value_type::POINTER;
     }
     let many = generator.random.once_in(20);
-    let statements = 2 + generator.random.below(if many { 63 } else { 6 });
+    let statements = 2 + generator.random.below(if many { 61 } else { 6 });
     let mut writer = Writer { generator, variables };
-    let statements = (0..statements).map(|_| writer.link()).collect();
+    let mut statements: Vec<Statement> = (0..statements).map(|_| writer.link()).collect();
+    if writer.below(3) == 0 {
+        statements.extend(writer.ended());
+    }
     let condition = match writer.below(4) {
         0 => writer.limited(|writer| writer.condition(1)),
         1 => join(writer.link_value(), EQUAL, writer.link_value()),
@@ -148,6 +151,24 @@ impl Writer<'_> {
             value.push(Record::Cast(declared));
         }
         Statement::Assign { variable, value }
+    }
+
+    /// Two assignments, the second of which ends what the first one holds and
+    /// reads its variable in what it would hold itself.
+    fn ended(&mut self) -> [Statement; 2] {
+        let [first, second] = [0, 1].map(|number| vec![Record::Variable(number)]);
+        let operators = [ADD, SUB, MUL, AND, OR, XOR];
+        let odd = self.below(2) == 0;
+        let part = if odd { join(second, OR, self.one()) } else { second };
+        let value = join(first.clone(), self.generator.random.pick(&operators), part);
+        let other = match self.below(3) {
+            0 => join(first.clone(), self.generator.random.pick(&operators), self.leaf()),
+            _ => first,
+        };
+        [(0, value), (1, other)].map(|(variable, mut value)| {
+            value.push(Record::Cast(self.variables[variable as usize]));
+            Statement::Assign { variable, value }
+        })
     }
 
     /// One operator on two leaves, at times with an odd part.

@@ -2,6 +2,7 @@
 
 pub mod evaluations;
 pub mod frames;
+pub mod node_times;
 pub mod nodes;
 pub mod processor;
 pub mod reading;

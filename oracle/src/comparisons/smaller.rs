@@ -1,19 +1,21 @@
 //! Smaller nodes of the same class of differences.
 
-use crate::comparisons::nodes::{both, class, sheet_of, size, Class};
+use crate::comparisons::nodes::{both, class, sheet_of, Class};
 use crate::judges::node_limits::children;
 use crate::judges::reader::read;
 use crate::sheets::syntax::{Expression, Node, Record, Statement};
 use std::io;
 
 /// The node made smaller as long as a step keeps its class: in each turn the
-/// smallest of all nodes that are one step away.
+/// smallest of all nodes that are one step away. Of two sheets of one length
+/// the one with the lower bytes is the smaller one.
 pub fn smallest(given: &[String], wanted: &Class, node: &Node) -> io::Result<Node> {
     let mut node = node.clone();
     loop {
         let mut steps = steps(&node);
-        steps.retain(|step| size(step) < size(&node) && read(&sheet_of(&[step.clone()])).is_ok());
-        steps.sort_by_key(size);
+        let here = rank(&node);
+        steps.retain(|step| rank(step) < here && read(&rank(step).1).is_ok());
+        steps.sort_by_cached_key(rank);
         let Some([as_it_is, due]) = both(given, &steps)? else {
             return Ok(node);
         };
@@ -24,6 +26,11 @@ pub fn smallest(given: &[String], wanted: &Class, node: &Node) -> io::Result<Nod
             None => return Ok(node),
         }
     }
+}
+
+fn rank(node: &Node) -> (usize, Vec<u8>) {
+    let sheet = sheet_of(std::slice::from_ref(node));
+    (sheet.len(), sheet)
 }
 
 /// Nodes with one statement, variable or address less, or with a part of an
@@ -63,6 +70,10 @@ fn shorter(records: &[Record]) -> Vec<Expression> {
             children(part).into_iter().map(|child| child.to_vec()).collect();
         inner.extend((0..4).map(|number| vec![Record::Variable(number)]));
         inner.extend([Record::True, Record::False].map(|record| vec![record]));
+        if let Some((Record::Binary(code), rest)) = part.split_last() {
+            let other = |code| [rest, &[Record::Binary(code)]].concat();
+            inner.extend((0..*code).map(other));
+        }
         for other in inner {
             list.push([&records[..start], &other, &records[end..]].concat());
         }

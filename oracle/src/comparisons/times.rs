@@ -88,7 +88,7 @@ fn ticks(stat: &str) -> Option<(bool, u64)> {
 
 /// Seconds of processor time that a program takes for an input. It is read
 /// between the process's end and the wait for it.
-fn processor_time(program: &[String], input: Vec<u8>) -> io::Result<f64> {
+pub fn processor_time(program: &[String], input: Vec<u8>) -> io::Result<f64> {
     let mut command = Command::new(&program[0]);
     let mut child =
         command.args(&program[1..]).stdin(Stdio::piped()).stdout(Stdio::piped()).spawn()?;

@@ -3,12 +3,14 @@
 
 pub mod blocks;
 pub mod evaluation;
+pub mod nodes;
 pub mod reading;
 pub mod text;
 
 pub const READING: &str = include_str!("../../vectors/reading.txt");
 pub const EVALUATION: &str = include_str!("../../vectors/evaluation.txt");
 pub const BLOCKS: &str = include_str!("../../vectors/blocks.txt");
+pub const NODES: &str = include_str!("../../vectors/nodes.txt");
 
 #[derive(Default)]
 pub struct List {
@@ -31,6 +33,7 @@ pub fn list(given: &[String]) -> Result<List, String> {
     let mut list = List::default();
     reading::store(&reading::cases(READING)?, &mut list);
     evaluation::store(&evaluation::cases(EVALUATION)?, &mut list);
+    nodes::store(nodes::cases(NODES)?, given, &mut list)?;
     blocks::store(&blocks::cases(BLOCKS)?, given, &mut list)?;
     Ok(list)
 }

@@ -1,5 +1,6 @@
 mod disassembly;
 mod evaluation;
 mod listing;
+mod nodes;
 mod sheets;
 mod verdicts;

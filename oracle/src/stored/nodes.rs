@@ -1,0 +1,133 @@
+//! Stored cases of the verdicts on nodes: sheets with answers worked out by
+//! hand, and generated nodes with those of the given source.
+
+use crate::cases::verdict_node;
+use crate::comparisons::frames::{ask_nodes, run};
+use crate::comparisons::nodes::{sheet_of, size};
+use crate::comparisons::verdicts::{Line, ABSENT};
+use crate::judges::node_verdict;
+use crate::judges::reader::read;
+use crate::sheets::syntax::Node;
+use crate::stored::text::{self, sources, Source};
+use crate::stored::List;
+
+/// Generated nodes in the list, in sheets of so many, and the seed that they
+/// depend on.
+const NODES: usize = 400;
+const IN_A_SHEET: usize = 8;
+const SEED: u64 = 2_016;
+
+/// Longer nodes are passed over.
+const MOST_BYTES: usize = 160;
+
+pub struct Case {
+    pub name: String,
+    pub sheet: Vec<u8>,
+    pub expected: Vec<String>,
+    /// The given source's answers as it is, where they are others.
+    pub given: Option<Vec<String>>,
+}
+
+/// The cases of a text: `case NAME`, `expect nodes ...`, at times
+/// `given nodes ...`, the sheet. Each is checked against the judge that is
+/// written from the description.
+pub fn cases(text: &str) -> Result<Vec<Case>, String> {
+    let named = |source: &Source| format!("case {}: ", source.name);
+    let list = sources(text)?;
+    list.iter().map(|source| one(source).map_err(|error| named(source) + &error)).collect()
+}
+
+fn one(source: &Source) -> Result<Case, String> {
+    let (expectation, body) = source.parts()?;
+    let (given, others) = source.split("given");
+    let body: Vec<&str> = body
+        .iter()
+        .zip(others)
+        .map(|(line, other)| if other.is_empty() { other } else { line })
+        .collect();
+    let given = match given.as_slice() {
+        [] => None,
+        [(_, line)] => Some(answers(&line.split_whitespace().skip(1).collect::<Vec<&str>>())?),
+        _ => return Err("more than one line 'given ...'".to_string()),
+    };
+    let (sheet, _) = text::sheet_of(&body, source.first_line)?;
+    read(&sheet).map_err(|refusal| refusal.to_string())?;
+    let expected = answers(&expectation)?;
+    let found = node_verdict::line(&sheet);
+    if found != due(&expected) {
+        return Err(format!("the judge says '{found}'"));
+    }
+    Ok(Case { name: source.name.to_string(), sheet, expected, given })
+}
+
+fn answers(words: &[&str]) -> Result<Vec<String>, String> {
+    match words {
+        ["nodes", answers @ ..] => Ok(answers.iter().map(|answer| answer.to_string()).collect()),
+        _ => Err("'nodes ...' is needed".to_string()),
+    }
+}
+
+/// The line due for these answers.
+fn due(answers: &[String]) -> String {
+    answers.iter().fold("nodes".to_string(), |line, answer| format!("{line} {answer}"))
+}
+
+/// Sheets of generated nodes, none of them long, with the judge's answers.
+fn generated() -> Vec<Case> {
+    let nodes = (0..).map(|index| verdict_node::numbered(SEED, index));
+    let short: Vec<Node> = nodes.filter(|node| size(node) <= MOST_BYTES).take(NODES).collect();
+    let case = |(number, nodes): (usize, &[Node])| {
+        let sheet = sheet_of(nodes);
+        let expected = nodes.iter().map(|node| node_verdict::verdict(node).to_string()).collect();
+        Case { name: format!("generated nodes, sheet {number}"), sheet, expected, given: None }
+    };
+    short.chunks(IN_A_SHEET).enumerate().map(case).collect()
+}
+
+/// Adds the cases by hand and the generated ones. A case that the given source
+/// answers otherwise, with the differences or as it is, is an error.
+pub fn store(by_hand: Vec<Case>, given: &[String], list: &mut List) -> Result<(), String> {
+    let named = by_hand.len();
+    let cases: Vec<Case> = by_hand.into_iter().chain(generated()).collect();
+    let mut input = Vec::new();
+    cases.iter().for_each(|case| ask_nodes(&mut input, &case.sheet));
+    list.frames.extend(&input);
+    list.lines.extend(cases.iter().map(|case| due(&case.expected)));
+    let asked = |command: &[String]| {
+        run(command, input.clone()).map_err(|error| format!("{}: {error}", command[0]))
+    };
+    let as_it_is = asked(given)?;
+    if as_it_is.first().is_some_and(|line| line == ABSENT) {
+        return Ok(());
+    }
+    let with_differences = asked(&[given, &["--differences".to_string()]].concat())?;
+    for (number, case) in cases.iter().enumerate() {
+        let lines = [&as_it_is, &with_differences]
+            .map(|lines| lines.get(number).map_or("no line", String::as_str));
+        check(case, lines, number < named)?;
+    }
+    Ok(())
+}
+
+/// Whether the given source answers as the case says: with the differences, and
+/// for a case by hand also as it is.
+fn check(
+    case: &Case,
+    [as_it_is, with_differences]: [&str; 2],
+    by_hand: bool,
+) -> Result<(), String> {
+    let wrong = |line: &str| Err(format!("case {}: the given source says '{line}'", case.name));
+    if with_differences != due(&case.expected) {
+        return wrong(with_differences);
+    }
+    let Line::Answers { nodes, .. } = Line::parse(as_it_is) else {
+        return wrong(as_it_is);
+    };
+    let stated = case.given.as_ref().unwrap_or(&case.expected);
+    // The given source refuses nothing.
+    let alike = |(found, stated): (&String, &String)| found == stated || stated.starts_with('r');
+    if by_hand && !nodes.iter().zip(stated).all(alike) {
+        return wrong(as_it_is);
+    }
+    Ok(())
+}
