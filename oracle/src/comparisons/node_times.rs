@@ -45,6 +45,19 @@ fn product() -> Sheets {
     sheet_of_text(&format!("node\nvars repeat 6 {{ u32 }}\ncond (== (* {once} {once}) 1:4)\n"))
 }
 
+/// The slowest node that was found, 125 bytes: nine products of 63 by 63 terms,
+/// each of which stands at 1,953 terms before they cancel to 63, made twice,
+/// for the exact step and for parity.
+pub fn slowest() -> Sheets {
+    let either = "(| (| (| (| (| v0 v1) v2) v3) v4) v5)";
+    let [factors, products] = ["v12 ".repeat(9), "* ".repeat(9)];
+    let last = "v5 v6 v7 | v8 | v9 | v10 | v11 | *";
+    sheet_of_text(&format!(
+        "node\nvars repeat 13 {{ u32 }}\nassign 12 {either}\n\
+         cond records [ {factors}{last} {products}1:4 & v0 == ]\n"
+    ))
+}
+
 /// Sixty-four assignments: one value of 63 records, and 58 values of 127
 /// records that are written with it, in turn for 31 variables.
 fn substitution() -> Sheets {
@@ -100,11 +113,12 @@ fn judging(given: &[String], sheets: &Sheets) -> io::Result<Option<(f64, usize)>
 /// each number that it judges, the one past the last too; what a verdict takes
 /// is the rest with one reading.
 pub fn bench(program: &[String], given: &[String]) -> io::Result<()> {
-    let sets: [(&str, fn() -> Sheets); 4] = [
+    let sets: [(&str, fn() -> Sheets); 5] = [
         ("plain conditions", plain),
         ("polynomials of 128 to 256 terms", polynomials),
         ("a product of 64 by 64 terms", product),
         ("the longest substitution", substitution),
+        ("the slowest node", slowest),
     ];
     for (name, sheets) in sets {
         let sheets = sheets();
