@@ -10,12 +10,10 @@ use crate::cases::verdict_node;
 use crate::comparisons::frames::{ask_nodes, run};
 use crate::comparisons::smaller;
 use crate::comparisons::verdicts::{named, Line, ABSENT};
-use crate::judges::node_limits::{children, has_effect};
-use crate::judges::node_verdict::verdict;
-use crate::judges::substitution::{substitute, Rule};
+use crate::judges::node_verdict::{verdict, verdict_by, Answer, Entries, BOTH_ENTRIES, NO_ENTRY};
+use crate::judges::substitution::Rule;
 use crate::sheets::encode::encode;
-use crate::sheets::names::operator::*;
-use crate::sheets::syntax::{Node, Record, Sheet};
+use crate::sheets::syntax::{Node, Sheet};
 use crate::sheets::to_text;
 use std::collections::BTreeMap;
 use std::io;
@@ -51,15 +49,14 @@ pub enum Entry {
 }
 
 impl Entry {
-    /// The entry that changes something in the verdict on a node.
+    /// The entry without which the answer for a node would be another one.
     pub fn of(node: &Node) -> Entry {
-        let condition = |rule: Rule| substitute(node, rule, LONGEST).map(|found| found.condition);
-        let ours = condition(Rule::Ours);
-        if condition(Rule::Given) != ours {
-            return Entry::First;
-        }
-        match ours {
-            Some(condition) if folds_an_effect(&condition) => Entry::Second,
+        let due = verdict(node);
+        let changes = |entries: Entries| verdict_by(node, entries) != due;
+        match () {
+            _ if changes(Entries { rule: Rule::Given, ..BOTH_ENTRIES }) => Entry::First,
+            _ if changes(Entries { folds_effects: true, ..BOTH_ENTRIES }) => Entry::Second,
+            _ if changes(NO_ENTRY) => Entry::First,
             _ => Entry::None,
         }
     }
@@ -73,21 +70,11 @@ impl Entry {
     }
 }
 
-/// Records beyond which the given source's driver judges no node.
-const LONGEST: usize = 2_000;
-
-/// Whether a comparison reached through logic alone has equal sides with an
-/// effect in them.
-fn folds_an_effect(condition: &[Record]) -> bool {
-    match (condition.last(), children(condition).as_slice()) {
-        (Some(Record::Binary(BOTH | EITHER)), [left, right]) => {
-            folds_an_effect(left) || folds_an_effect(right)
-        }
-        (Some(Record::Binary(EQUAL..=GREATER_EQUAL)), [left, right]) => {
-            left == right && has_effect(left)
-        }
-        _ => false,
-    }
+/// Whether the given source's answer is that of the description without the
+/// entries. Where that is refused, nothing is said.
+fn as_described(node: &Node, given: &str) -> bool {
+    let described = verdict_by(node, NO_ENTRY);
+    given == OPEN || matches!(described, Answer::Refused(_)) || described.to_string() == given
 }
 
 /// Nodes for which another answer is due than the given source's.
@@ -249,11 +236,12 @@ fn compare_node(node: &Node, [given, due, program]: [&str; 3], tally: &mut Tally
     let open = due == OPEN;
     tally.open += u64::from(open);
     let class = class(node, given, due);
-    let unexplained = class.as_ref().is_some_and(|class| class.entry == Entry::None);
+    let entry = class.as_ref().map(|class| class.entry);
     if let Some(class) = class {
         tally.note(class, node);
     }
-    if unexplained || program != judge || (!open && program != due) {
+    let explained = as_described(node, given) && entry != Some(Entry::None);
+    if !explained || program != judge || (!open && program != due) {
         tally.difference(node, [given, due, &judge, program]);
     }
 }

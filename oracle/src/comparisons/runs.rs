@@ -5,6 +5,7 @@ use crate::cases::verdict_node;
 use crate::comparisons::nodes::{answers, text_of, Entry};
 use crate::comparisons::verdicts::ABSENT;
 use crate::judges::node_runs::Runs;
+use crate::judges::node_verdict::{verdict, Answer};
 use crate::sheets::syntax::Node;
 use std::collections::BTreeMap;
 use std::io;
@@ -91,6 +92,10 @@ fn judge_node(node: &Node, answer: &str, verdicts: Verdicts, tally: &mut Tally) 
         Some(b'v') => false,
         _ => return,
     };
+    // The given source also answers where a verdict is refused.
+    if matches!(verdict(node), Answer::Refused(_)) && verdicts == Verdicts::GivenAsTheyAre {
+        return;
+    }
     tally.decided += 1;
     let prepared = Runs::of(node);
     let mut against = None;
@@ -108,7 +113,7 @@ fn judge_node(node: &Node, answer: &str, verdicts: Verdicts, tally: &mut Tally) 
     let entry = Entry::of(node);
     *tally.against.entry(entry).or_default() += 1;
     let due = verdicts == Verdicts::GivenAsTheyAre && entry != Entry::None;
-    if !due && tally.violations() <= SHOWN {
+    if !due && tally.against[&entry] <= SHOWN {
         println!("a run goes against {answer}");
         text_of(node).lines().for_each(|line| println!("    {line}"));
     }

@@ -5,11 +5,11 @@ use crate::judges::substitution::{substitute, Rule};
 use crate::sheets::names::operator::*;
 use crate::sheets::names::refusal;
 use crate::sheets::names::value_type::BOOL;
-use crate::sheets::syntax::{Node, Record};
+use crate::sheets::syntax::{Expression, Node, Record};
 use std::collections::BTreeSet;
 
 /// Records of a substituted value or condition.
-pub const MOST_RECORDS: usize = 128;
+const MOST_RECORDS: usize = 128;
 
 /// Terms of a polynomial, and of two multiplied before equal ones cancel.
 const MOST_TERMS: usize = 256;
@@ -17,10 +17,15 @@ const MOST_PRODUCT: usize = 4_096;
 
 /// The number that the node verdict is refused with, if it is.
 pub fn refusal(node: &Node) -> Option<u8> {
-    match substitute(node, Rule::Ours, MOST_RECORDS) {
-        None => Some(refusal::RECORDS),
-        Some(found) if passes(&found.condition) => Some(refusal::TERMS),
-        Some(_) => None,
+    condition(node, Rule::Ours).err()
+}
+
+/// The substituted condition, or the number of the refusal.
+pub fn condition(node: &Node, rule: Rule) -> Result<Expression, u8> {
+    match substitute(node, rule, MOST_RECORDS) {
+        None => Err(refusal::RECORDS),
+        Some(found) if passes(&found.condition) => Err(refusal::TERMS),
+        Some(found) => Ok(found.condition),
     }
 }
 

@@ -1,11 +1,9 @@
 //! The verdict on a node, from the description alone: the given source has no
 //! part in it, so that it also judges nodes on which that source takes too long.
 
-use crate::judges::node_limits::{
-    children, has_effect, is_constant, parity, refusal, Poly, MOST_RECORDS,
-};
+use crate::judges::node_limits::{children, condition, has_effect, is_constant, parity, Poly};
 use crate::judges::reader::read;
-use crate::judges::substitution::{substitute, Rule};
+use crate::judges::substitution::Rule;
 use crate::sheets::names::operator::*;
 use crate::sheets::names::value_type::{POINTER, U8};
 use crate::sheets::syntax::{Node, Record};
@@ -43,13 +41,31 @@ impl fmt::Display for Answer {
     }
 }
 
+/// Which entries of docs/DIFFERENCES.md hold: the first by the rule of
+/// substitution, the second where equal sides with an effect do not fold.
+#[derive(Clone, Copy)]
+pub struct Entries {
+    pub rule: Rule,
+    pub folds_effects: bool,
+}
+
+/// Both entries: what is due.
+pub const BOTH_ENTRIES: Entries = Entries { rule: Rule::Ours, folds_effects: false };
+
+/// None of them: what the given source answers, where it is not refused here.
+pub const NO_ENTRY: Entries = Entries { rule: Rule::Given, folds_effects: true };
+
 pub fn verdict(node: &Node) -> Answer {
-    if let Some(number) = refusal(node) {
-        return Answer::Refused(number);
+    verdict_by(node, BOTH_ENTRIES)
+}
+
+pub fn verdict_by(node: &Node, entries: Entries) -> Answer {
+    match condition(node, entries.rule) {
+        Ok(condition) => {
+            decide(&condition, entries.folds_effects).map_or(Answer::Undecided, Answer::Decided)
+        }
+        Err(number) => Answer::Refused(number),
     }
-    let found = substitute(node, Rule::Ours, MOST_RECORDS);
-    let condition = found.expect("longer expressions were refused").condition;
-    decide(&condition).map_or(Answer::Undecided, Answer::Decided)
 }
 
 /// The answers for all nodes of a sheet, or its refusal.
@@ -66,18 +82,19 @@ fn decided(holds: bool, reason: u8) -> Option<Decided> {
     Some(Decided { holds, reason })
 }
 
-fn decide(condition: &[Record]) -> Option<Decided> {
+fn decide(condition: &[Record], folds_effects: bool) -> Option<Decided> {
     match (condition.last(), children(condition).as_slice()) {
         (Some(Record::True), _) => decided(true, WRITTEN),
         (Some(Record::False), _) => decided(false, WRITTEN),
         (Some(Record::Binary(operator @ EQUAL..=GREATER_EQUAL)), [left, right]) => {
-            if left == right && !has_effect(left) {
+            if left == right && (folds_effects || !has_effect(left)) {
                 return decided(matches!(*operator, EQUAL | LESS_EQUAL | GREATER_EQUAL), SAME);
             }
             compared(left, *operator, right)
         }
         (Some(Record::Binary(operator @ (BOTH | EITHER))), [left, right]) => {
-            halves(*operator == BOTH, decide(left), decide(right))
+            let half = |part: &[Record]| decide(part, folds_effects);
+            halves(*operator == BOTH, half(left), half(right))
         }
         _ => None,
     }
