@@ -13,20 +13,29 @@ pub enum Width {
     Quad,
 }
 
-// The width of a size in bits: 8, 16, 32, else 64. The sizes of well-formed registers are these four.
-pub fn width_of(size: u64) -> Width
+// What a size in bits is: that of a width, or of none. The sizes of well-formed registers of class 1 are those of the four widths.
+pub enum Size {
+    Of(Width),
+    NoWidth,
+}
+
+// The width of a size in bits.
+pub fn width_of(size: u64) -> Size
     ensures { λ r. ⌜ r ≡ widthOf size ⌝ }
 {
     if size == 8 {
-        return Width::Byte;
+        return Size::Of(Width::Byte);
     }
     if size == 16 {
-        return Width::Word;
+        return Size::Of(Width::Word);
     }
     if size == 32 {
-        return Width::Double;
+        return Size::Of(Width::Double);
     }
-    Width::Quad
+    if size == 64 {
+        return Size::Of(Width::Quad);
+    }
+    Size::NoWidth
 }
 
 // The low bits that the width has.

@@ -12,6 +12,7 @@ use lib.Pow.{pow-pos}
 use lib.Count.{ones}
 use lib.Bits.{bitAnd, bitOr, bitXor, and-lt, or-lt, xor-lt, xor-self}
 use Rattle.alu.specs.declared.Width.{Width}
+use Rattle.alu.specs.declared.Size.the-variants.{Of}
 use Rattle.alu.specs.declared.Flag.{Flag}
 use Rattle.alu.specs.declared.Flags.{Flags}
 use Rattle.alu.specs.declared.Operation.{Operation}
@@ -137,7 +138,7 @@ on-operands-agrees op w Unknown b x y hx hy ha hb = unknown-agrees op w x y
 -- add to test
 pub arith-agrees : (op : Binary) (w : Width) (same : Bool) (a b : Value) (x y : ℕ) → x < 2 ^ bits w → y < 2 ^ bits w
     → AllowsValue a x → AllowsValue b y → (same ≡ true → y ≡ x)
-    → EffectAgrees (arithEffect op w same a b) (bits w) (computed op (bits w) x y)
+    → EffectAgrees (arithEffect op (Of w) same a b) (bits w) (computed op (bits w) x y)
 unfolding arithEffect
 arith-agrees op w same a b x y hx hy ha hb one =
     byTest (isIdiom op && same)

@@ -18,7 +18,8 @@ use Rattle.known.specs.declared.Value.the-variants.{Known, Unknown}
 use Rattle.known.specs.Operations.{forgetFlag, forgetFlags}
 use Rattle.known.specs.Registers.{unmarked}
 use Rattle.isa.specs.FlagBits as bit
-use Rattle.machine.specs.Registers.{slotAt, wholeOf, noRegister, forgetRegister, forgetRegisters, forgotten}
+use Rattle.machine.specs.States.{noRegister}
+use Rattle.machine.specs.Registers.{slotAt, wholeOf, forgetRegister, forgetRegisters, forgotten}
 use Rattle.concrete.specs.Concrete.{Status, Processor, Choice, declares, chosen, declaredStatus, byDeclaration}
 use Rattle.concrete.specs.Agreement.{Allows, AllowsValue, FlagsAgree, Agrees}
 use Rattle.concrete.proofs.Registers.{replaced-same, replaced-other, replaced-flags, never}

@@ -285,7 +285,7 @@ module _ (s : State) (p : Processor) (agrees : Agrees s p) where
           record {
             registers = λ k.
                 byTest (eqb k 1)
-                (λ t. rw (eqb-true k 1 t, unread s (countRegister c) refl e) tt)
+                (λ t. rw (eqb-true k 1 t, unread s (countRegister c) ok refl e) tt)
                 (λ t. rw t (agrees .registers k));
             flags = agrees .flags;
           }

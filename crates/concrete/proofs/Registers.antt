@@ -14,6 +14,8 @@ use lib.Seq.{getD-set-same, getD-set-other}
 use Rattle.isa.specs.declared.Register.{Register}
 use Rattle.isa.specs.Register.{wellFormed}
 use Rattle.alu.specs.declared.Width.{Width}
+use Rattle.alu.specs.declared.Width.the-variants.{Byte, Word, Double, Quad}
+use Rattle.alu.specs.declared.Size.the-variants.{Of}
 use Rattle.alu.specs.Width.{bits, widthOf}
 use Rattle.machine.specs.declared.State.{State}
 use Rattle.known.specs.declared.Value.{Value}
@@ -21,7 +23,8 @@ use Rattle.known.specs.declared.Value.the-variants.{Known, Unknown}
 use Rattle.known.specs.Values.{extracted, inserted, onValue, merged}
 use Rattle.known.specs.declared.Slot.{Slot}
 use Rattle.known.specs.Registers.{unmarked, contents, slotOf, partOf, withPart}
-use Rattle.machine.specs.Registers.{slotAt, wholeOf, replaced, readOf, written}
+use Rattle.machine.specs.States.{replaced}
+use Rattle.machine.specs.Registers.{slotAt, wholeOf, readOf, written}
 use Rattle.concrete.specs.Concrete.{Processor, value, part, stored, assign}
 use Rattle.concrete.specs.Agreement.{AllowsValue, Agrees}
 use Rattle.laws.proofs.Booleans.{and-right, byTest}
@@ -67,9 +70,24 @@ pub form : (r : Register) → wellFormed r ≡ true → eqb (r .class) 1 ≡ tru
 form r h one =
     form-of (leb (r .index) 3) (r .size) (r .offset) (and-right (leb (r .index) 15) _ (rw one at h))
 
+-- their sizes have widths
+abbrev pub widthIn : {size offset : ℕ} → Form size offset → Width
+widthIn low-byte = Byte
+widthIn high-byte = Byte
+widthIn word = Word
+widthIn double = Double
+widthIn quad = Quad
+
+pub width-law : {size offset : ℕ} (f : Form size offset) → widthOf size ≡ Of (widthIn f)
+width-law low-byte = refl
+width-law high-byte = refl
+width-law word = refl
+width-law double = refl
+width-law quad = refl
+
 -- ---- reads
 
-pub extract-law : {size offset : ℕ} → Form size offset → (x : ℕ) → extracted (widthOf size) offset x ≡ x / 2 ^ offset % 2 ^ size
+pub extract-law : {size offset : ℕ} (f : Form size offset) (x : ℕ) → extracted (widthIn f) offset x ≡ x / 2 ^ offset % 2 ^ size
 unfolding extracted
 extract-law low-byte x = refl
 extract-law high-byte x = refl
@@ -85,8 +103,8 @@ pub reads : (s : State) (p : Processor) (r : Register) → Agrees s p → wellFo
 unfolding readOf partOf part
 reads s p r agrees ok =
     byTest (eqb (r .class) 1)
-    (λ one. rw one
-    (on-value (extracted (widthOf (r .size)) (r .offset)) (λ (x : ℕ). x / 2 ^ r .offset % 2 ^ r .size)
+    (λ one. rw (one, width-law (form r ok one))
+    (on-value (extracted (widthIn (form r ok one)) (r .offset)) (λ (x : ℕ). x / 2 ^ r .offset % 2 ^ r .size)
     (extract-law (form r ok one)) (wholeOf s (r .index)) (value p (r .index)) (agrees .registers (r .index))))
     (λ other. rw other tt)
 
@@ -112,7 +130,7 @@ high-below q u c hq hu hc = omega arith
 moved : (a q u c : ℕ) → a ≡ q + c → a + u ≡ q + u + c
 moved a q u c e = omega arith
 
-pub bits-law : {size offset : ℕ} → Form size offset → bits (widthOf size) ≡ size
+pub bits-law : {size offset : ℕ} (f : Form size offset) → bits (widthIn f) ≡ size
 bits-law low-byte = refl
 bits-law high-byte = refl
 bits-law word = refl
@@ -131,8 +149,8 @@ stores-known f (Known y) x h k = (rw h (within f x k), rw h (mod-eq-of-lt k))
 stores-known f Unknown x h k = tt
 
 -- a known part in a known whole
-pub insert-law : {size offset : ℕ} → Form size offset → (old y : ℕ) → old < 2 ^ 64 → ltb size 32 ≡ true
-    → inserted (widthOf size) offset old y ≡ stored old size offset (y % 2 ^ size) % 2 ^ 64
+pub insert-law : {size offset : ℕ} (f : Form size offset) (old y : ℕ) → old < 2 ^ 64 → ltb size 32 ≡ true
+    → inserted (widthIn f) offset old y ≡ stored old size offset (y % 2 ^ size) % 2 ^ 64
 unfolding inserted stored
 insert-law low-byte old y h small = omega arith
 insert-law high-byte old y h small =
@@ -143,9 +161,9 @@ insert-law double old y h small = never small
 insert-law quad old y h small = never small
 
 -- the whole register after a write
-pub merge-law : {size offset : ℕ} → Form size offset → (old v : Value) (was x : ℕ) → was < 2 ^ 64
+pub merge-law : {size offset : ℕ} (f : Form size offset) (old v : Value) (was x : ℕ) → was < 2 ^ 64
     → AllowsValue old was → Stores size v x
-    → AllowsValue (merged (widthOf size) offset old v) (stored was size offset x % 2 ^ 64)
+    → AllowsValue (merged (widthIn f) offset old v) (stored was size offset x % 2 ^ 64)
 unfolding merged stored
 merge-law low-byte old Unknown was x h o w = tt
 merge-law high-byte old Unknown was x h o w = tt
@@ -198,7 +216,7 @@ unfolding assign
 assign-status p r x = byTest (eqb (r .class) 1) (λ t. rw t) (λ t. rw t)
 
 with-part : (w : Width) (offset : ℕ) (slot : Slot) (v : Value) (y : ℕ) → AllowsValue (merged w offset (contents slot) v) y
-    → AllowsValue (contents (withPart w offset slot v)) y
+    → AllowsValue (contents (withPart (Of w) offset slot v)) y
 unfolding withPart
 with-part w offset slot v y h = rw (contents-slot (merged w offset (contents slot) v)) h
 
@@ -211,10 +229,11 @@ write-at s p r v x agrees ok what k =
     byTest (eqb (r .class) 1)
     (λ one. byTest (eqb k (r .index))
     (λ t.
-    let new = withPart (widthOf (r .size)) (r .offset) (slotAt s (r .index)) v in
-    let here = merge-law (form r ok one) (wholeOf s (r .index)) v (value p (r .index)) x (mod-lt _ (pow-pos 64)) (agrees .registers (r .index)) (what one) in
-    rw (one, eqb-true k (r .index) t, eq-eqb (r .index) (r .index) refl)
-    (replaced-same s (r .index) new _ (with-part (widthOf (r .size)) (r .offset) (slotAt s (r .index)) v _ here)))
+    let f = form r ok one in
+    let new = withPart (Of (widthIn f)) (r .offset) (slotAt s (r .index)) v in
+    let here = merge-law f (wholeOf s (r .index)) v (value p (r .index)) x (mod-lt _ (pow-pos 64)) (agrees .registers (r .index)) (what one) in
+    rw (one, eqb-true k (r .index) t, eq-eqb (r .index) (r .index) refl, width-law f)
+    (replaced-same s (r .index) new _ (with-part (widthIn f) (r .offset) (slotAt s (r .index)) v _ here)))
     (λ t.
     let e = replaced-other s (r .index) k (withPart (widthOf (r .size)) (r .offset) (slotAt s (r .index)) v) (eqb-false k (r .index) t) in
     rw (one, t, e) (agrees .registers k)))

@@ -29,6 +29,8 @@ use Rattle.isa.specs.Register.{wellFormed}
 use Rattle.isa.specs.Modelled.{modelled, sizesDiffer, outside, isMov, declaresResult, declaresOwn, undeclared}
 use Rattle.alu.specs.declared.Flag.{Flag}
 use Rattle.alu.specs.declared.Flags.{Flags}
+use Rattle.alu.specs.declared.Width.{Width}
+use Rattle.alu.specs.declared.Size.the-variants.{Of}
 use Rattle.alu.specs.Width.{bits, widthOf}
 use Rattle.alu.specs.Flags.{opposite}
 use Rattle.machine.specs.declared.State.{State}
@@ -39,11 +41,12 @@ use Rattle.known.specs.Operations.{withCarry, forgetFlag, forgetFlags, unknownC
 use Rattle.known.specs.Values.{onValue}
 use Rattle.known.specs.Registers.{unmarked, partOf}
 use Rattle.machine.specs.Registers.{nothingKnown, slotAt, wholeOf, readOf, written, operandOf, forgetRegisters, forgotten}
-use Rattle.machine.specs.Rules.{writes as writesResult, sameRegister, finished, carryStep, arithStep, unaryUnknown, unaryOn, unaryStep, registerStep, onFirst, modelledStep, stepped, steppedAll}
+use Rattle.machine.specs.Finish.{finished}
+use Rattle.machine.specs.Rules.{writes as writesResult, sameRegister, carryStep, arithStep, unaryUnknown, unaryOn, unaryStep, registerStep, onFirst, modelledStep, stepped, steppedAll}
 use Rattle.concrete.specs.Concrete.{Status, Processor, Choice, value, part, assign, argument, computed, computedAlone, withStatus, withOwnCarry, carryAfter, keeps, binary, alone, onRegister, onOperand, byManual, byDeclaration, executed, executedAll}
 use Rattle.concrete.specs.Agreement.{Allows, AllowsValue, FlagsAgree, Agrees, operandWellFormed, Accepted, AllAccepted}
 use Rattle.concrete.proofs.Outcome.{Matches}
-use Rattle.concrete.proofs.Registers.{Form, low-byte, high-byte, word, double, quad, form, bits-law, reads, part-below, Stores, stores-known, writes, never}
+use Rattle.concrete.proofs.Registers.{Form, low-byte, high-byte, word, double, quad, form, widthIn, width-law, bits-law, reads, part-below, Stores, stores-known, writes, never}
 use Rattle.concrete.proofs.Forget.{less-known, less-both, forgets, forgotten-agrees}
 use Rattle.concrete.proofs.Effects.{right, alone-matches, alone-below, EffectAgrees, arith-agrees, kept-agrees}
 use Rattle.alu.specs.declared.Flag.the-variants as flag
@@ -70,7 +73,7 @@ operand-agrees s p free f (Reg r) agrees ok =
     byTest (eqb (r .class) 1)
     (λ t. rw t (reads s p r agrees ok))
     (λ t. rw (read-outside s r t) tt)
-operand-agrees s p free f (Imm x) agrees ok = rw (bits-law f)
+operand-agrees s p free f (Imm x) agrees ok = rw (width-law f, bits-law f)
 operand-agrees s p free f Mem agrees ok = tt
 
 argument-below : (p : Processor) (free : Choice) (size : ℕ) (o : Operand) → SizeFits size o → argument p free size o < 2 ^ size
@@ -132,9 +135,9 @@ on-unknown : (f : ℕ → ℕ) (v : Value) → onValue f v ≡ Unknown → v ≡
 on-unknown f (Known x) h = cc
 on-unknown f Unknown h = refl
 
-pub unread : (s : State) (r : Register) → eqb (r .class) 1 ≡ true → readOf s r ≡ Unknown → wholeOf s (r .index) ≡ Unknown
+pub unread : (s : State) (r : Register) → wellFormed r ≡ true → eqb (r .class) 1 ≡ true → readOf s r ≡ Unknown → wholeOf s (r .index) ≡ Unknown
 unfolding readOf partOf
-unread s r one h = on-unknown _ (wholeOf s (r .index)) (rw one at h)
+unread s r ok one h = on-unknown _ (wholeOf s (r .index)) (rw (one, width-law (form r ok one)) at h)
 
 forgot-flag : (declared : Bool) (f : Flag) (b : Bool) → declared ≡ true → Allows (forgetFlag declared f) b
 forgot-flag declared f b h = rw h tt
@@ -197,8 +200,16 @@ module _ (s : State) (p : Processor) (free : Choice) (agrees : Agrees s p) (d : 
       (λ one. complement-stores (form d ok one) (readOf s d) (part p d) (reads s p d agrees ok) (part-below p d))
 
   module _ (one : eqb (d .class) 1 ≡ true) where
-    width-is : bits (widthOf (d .size)) ≡ d .size
+    width : Width
+    width = widthIn (form d ok one)
+
+    width-is : bits width ≡ d .size
+    unfolding width
     width-is = bits-law (form d ok one)
+
+    sized : widthOf (d .size) ≡ Of width
+    unfolding width
+    sized = width-law (form d ok one)
 
     -- add to test
     binary-agrees : (op : Binary) (o : Operand) → operandWellFormed o ≡ true → SizeFits (d .size) o
@@ -209,11 +220,11 @@ module _ (s : State) (p : Processor) (free : Choice) (agrees : Agrees s p) (d : 
         let y = argument p free (d .size) o in
         let hx : x < 2 ^ d .size = part-below p d in
         let hy : y < 2 ^ d .size = argument-below p free (d .size) o fits in
-        let effect = arith-agrees op (widthOf (d .size)) (sameRegister d o) (readOf s d) (operandOf s (d .size) o) x y
+        let effect = arith-agrees op width (sameRegister d o) (readOf s d) (operandOf s (d .size) o) x y
         (rw width-is hx) (rw width-is hy) (reads s p d agrees ok) (operand-agrees s p free (form d ok one) o agrees ok-o)
         (same-argument p free (d .size) d o one) in
         let there : EffectAgrees (arithEffect op (widthOf (d .size)) (sameRegister d o) (readOf s d) (operandOf s (d .size) o))
-        (d .size) (computed op (d .size) x y) = rw width-is at effect in
+        (d .size) (computed op (d .size) x y) = rw sized (rw width-is at effect) in
         let below = right op .below (d .size) x y hx hy in
         rw (same-writes op) (finish-agrees s p d (keeps op) _ _ _ agrees ok one (there .value) below (there .flags))
 
@@ -225,9 +236,9 @@ module _ (s : State) (p : Processor) (free : Choice) (agrees : Agrees s p) (d : 
         let x = part p d in
         let e : a ≡ x = rw read-is at (reads s p d agrees ok) in
         let hx : x < 2 ^ d .size = part-below p d in
-        let same = alone-matches op (widthOf (d .size)) x (rw width-is hx) in
-        let there : Matches (d .size) (performAlone op (widthOf (d .size)) x) (computedAlone op (d .size) x) = rw width-is at same in
-        rw e
+        let same = alone-matches op width x (rw width-is hx) in
+        let there : Matches (d .size) (performAlone op width x) (computedAlone op (d .size) x) = rw width-is at same in
+        rw (e, sized)
         (finish-agrees s p d true _ _ _ agrees ok one (there .value) (alone-below op (d .size) x)
         (kept-agrees op (s .flags .cf) (p .status .cf) _ _ (agrees .flags .cf) (there .flags)))
 
@@ -237,7 +248,7 @@ module _ (s : State) (p : Processor) (free : Choice) (agrees : Agrees s p) (d : 
     unfolding assign
     unknown-register rs n k x read-is =
         byTest (eqb k (d .index))
-        (λ t. less-known _ Unknown _ (less-both _ _ _ (forgets s rs n k) (inr (rw (eqb-true k (d .index) t) (unread s d one read-is)))) tt)
+        (λ t. less-known _ Unknown _ (less-both _ _ _ (forgets s rs n k) (inr (rw (eqb-true k (d .index) t) (unread s d ok one read-is)))) tt)
         (λ t. rw (one, t) (less-known _ (wholeOf s k) _ (forgets s rs n k) (agrees .registers k)))
 
     unknown-agrees : (i : Instruction) (op : Unary) → declaresOwn op (i .flags) ≡ true → readOf s d ≡ Unknown

@@ -1,5 +1,5 @@
 -- What an instruction leaves, as far as values and flags go, in the order of the claims.
-use Prim.Native.Nat.{ℕ, _-_, _^_}
+use Prim.Native.Nat.{ℕ, _-_, _%_, _^_}
 use mathlib.Core.Bool.{Bool, true, false, cond, _&&_}
 use Rattle.isa.specs.declared.CarryChange.{CarryChange}
 use Rattle.isa.specs.declared.CarryChange.the-variants.{Stc, Clc, Cmc}
@@ -9,6 +9,9 @@ use Rattle.isa.specs.declared.Unary.{Unary}
 use Rattle.isa.specs.declared.Unary.the-variants.{Inc, Dec, Neg}
 use Rattle.isa.specs.FlagBits.{CF, PF, ZF, SF, OF, declares}
 use Rattle.alu.specs.declared.Width.{Width}
+use Rattle.alu.specs.declared.Size.{Size}
+use Rattle.alu.specs.declared.Size.the-variants.{Of, NoWidth}
+use Rattle.alu.specs.Width.{bits}
 use Rattle.alu.specs.declared.Flag.{Flag}
 use Rattle.alu.specs.declared.Flags.{Flags}
 use Rattle.alu.specs.declared.Operation.{Operation}
@@ -60,6 +63,15 @@ ofItself w = record { value = Known 0; flags = resultFlags w 0 false false }
 abbrev pub noFlags : Flags
 noFlags = record { cf = flag.Unknown; pf = flag.Unknown; zf = flag.Unknown; sf = flag.Unknown; of = flag.Unknown }
 
+-- neither a value nor a flag known: all that is left where a register's size has no width
+abbrev pub nothingLeft : Effect
+nothingLeft = record { value = Unknown; flags = noFlags }
+
+-- an immediate, cut to a width (S17)
+abbrev pub immediate : Size → ℕ → Value
+immediate (Of w) x = Known (x % 2 ^ bits w)
+immediate NoWidth x = Unknown
+
 -- CF and OF known to be clear
 abbrev pub bitwiseFlags : Flags
 bitwiseFlags = record { cf = flag.Known false; pf = flag.Unknown; zf = flag.Unknown; sf = flag.Unknown; of = flag.Known false }
@@ -88,8 +100,9 @@ onOperands op w (Known a) Unknown = record { value = Unknown; flags = ofUnknown 
 onOperands op w Unknown b = record { value = Unknown; flags = ofUnknown op }
 
 -- The effect of add to test: the register with itself first, then by what is known of the operands (M12, M13, M14).
-unfoldable pub arithEffect : Binary → Width → Bool → Value → Value → Effect
-arithEffect op w same a b = cond (isIdiom op && same) (ofItself w) (onOperands op w a b)
+unfoldable pub arithEffect : Binary → Size → Bool → Value → Value → Effect
+arithEffect op (Of w) same a b = cond (isIdiom op && same) (ofItself w) (onOperands op w a b)
+arithEffect op NoWidth same a b = nothingLeft
 
 -- flags with another CF
 abbrev pub withCarry : Flags → Flag → Flags
@@ -108,10 +121,11 @@ keptCarry Dec cf f = withCarry f cf
 keptCarry Neg cf f = f
 
 -- inc, dec, neg of a known value
-unfoldable pub unaryEffect : Unary → Width → Flag → ℕ → Effect
-unaryEffect op w cf a =
+unfoldable pub unaryEffect : Unary → Size → Flag → ℕ → Effect
+unaryEffect op (Of w) cf a =
     let o = alone op w a in
     record { value = Known (o .value); flags = keptCarry op cf (o .flags) }
+unaryEffect op NoWidth cf a = nothingLeft
 
 -- inc and dec of an unknown register keep CF; neg forgets it (M15, M16).
 abbrev pub unknownCarry : Unary → Flag → Flag

@@ -1,7 +1,8 @@
 -- What is known of a register, and of its parts.
 use Prim.Native.Nat.{ℕ}
 use mathlib.Core.Bool.{true, false, cond}
-use Rattle.alu.specs.declared.Width.{Width}
+use Rattle.alu.specs.declared.Size.{Size}
+use Rattle.alu.specs.declared.Size.the-variants.{Of, NoWidth}
 use Rattle.known.specs.declared.Value.{Value}
 use Rattle.known.specs.declared.Value.the-variants.{Known, Unknown}
 use Rattle.known.specs.declared.Slot.{Slot}
@@ -19,10 +20,12 @@ abbrev pub slotOf : Value → Slot
 slotOf (Known x) = record { known = true; value = x }
 slotOf Unknown = unmarked
 
--- a read: a part is known where the whole is (M2)
-unfoldable pub partOf : Width → ℕ → Slot → Value
-partOf w offset s = onValue (extracted w offset) (contents s)
+-- a read: a part is known where the whole is; of a part that has no width nothing is known (M2)
+unfoldable pub partOf : Size → ℕ → Slot → Value
+partOf (Of w) offset s = onValue (extracted w offset) (contents s)
+partOf NoWidth offset s = Unknown
 
--- a write to a part (M7, M8, M9)
-unfoldable pub withPart : Width → ℕ → Slot → Value → Slot
-withPart w offset s v = slotOf (merged w offset (contents s) v)
+-- a write to a part; one to a part that has no width leaves nothing known (M7, M8, M9)
+unfoldable pub withPart : Size → ℕ → Slot → Value → Slot
+withPart (Of w) offset s v = slotOf (merged w offset (contents s) v)
+withPart NoWidth offset s v = unmarked

@@ -4,6 +4,7 @@ use alu::Flag;
 use alu::Flags;
 use alu::Operation;
 use alu::Performed;
+use alu::Size;
 use alu::Width;
 use isa::Binary;
 use isa::CarryChange;
@@ -12,7 +13,7 @@ use isa::Unary;
 ghost use mathlib.Core.Path.{_≡_};
 ghost use Rattle.known.specs.Values.{extracted, inserted, onValue, onto, merged};
 ghost use Rattle.known.specs.Registers.{unmarked, contents, slotOf, partOf, withPart};
-ghost use Rattle.known.specs.Operations.{carryRule, complement, operationOf, isIdiom, ofItself, noFlags, bitwiseFlags, ofUnknown, ofKnown, onOperands, arithEffect, withCarry, alone, keptCarry, unknownCarry, unaryEffect, forgetFlag, forgetFlags};
+ghost use Rattle.known.specs.Operations.{carryRule, complement, operationOf, isIdiom, ofItself, noFlags, nothingLeft, immediate, bitwiseFlags, ofUnknown, ofKnown, onOperands, arithEffect, withCarry, alone, keptCarry, unknownCarry, unaryEffect, forgetFlag, forgetFlags};
 ghost use Rattle.known.specs.Conditions.{flagCondition, isZero};
 
 // A value that is read or written: known or not.
@@ -121,18 +122,34 @@ fn slot_of(v: Value) -> Slot
 }
 
 // What is known of a part of a register.
-pub fn read(w: Width, offset: u64, s: Slot) -> Value
-    ensures { λ r. ⌜ r ≡ partOf w offset s ⌝ }
+pub fn read(size: Size, offset: u64, s: Slot) -> Value
+    ensures { λ r. ⌜ r ≡ partOf size offset s ⌝ }
 {
-    part(w, offset, contents_of(s))
+    match size {
+        Size::Of(w) => part(w, offset, contents_of(s)),
+        Size::NoWidth => Value::Unknown,
+    }
 }
 
 // What is known of a register after a write to a part of it.
-pub fn write(w: Width, offset: u64, s: Slot, v: Value) -> Slot
-    ensures { λ r. ⌜ r ≡ withPart w offset s v ⌝ }
+pub fn write(size: Size, offset: u64, s: Slot, v: Value) -> Slot
+    ensures { λ r. ⌜ r ≡ withPart size offset s v ⌝ }
 {
     let old = contents_of(s);
-    slot_of(merge(w, offset, old, v))
+    match size {
+        Size::Of(w) => slot_of(merge(w, offset, old, v)),
+        Size::NoWidth => unknown(),
+    }
+}
+
+// An immediate, cut to a width.
+pub fn immediate_of(size: Size, x: u64) -> Value
+    ensures { λ r. ⌜ r ≡ immediate size x ⌝ }
+{
+    match size {
+        Size::Of(w) => Value::Known(alu::cut(w, x)),
+        Size::NoWidth => Value::Unknown,
+    }
 }
 
 // stc, clc, cmc.
@@ -266,14 +283,28 @@ fn on_operands(op: Binary, w: Width, a: Value, b: Value) -> Effect
     }
 }
 
-// add, sub, cmp, and, or, xor, test.
-pub fn arith_effect(op: Binary, w: Width, same: bool, a: Value, b: Value) -> Effect
-    ensures { λ e. ⌜ e ≡ arithEffect op w same a b ⌝ }
+// Nothing is known after an operation of a size that has no width.
+fn nothing_left() -> Effect
+    ensures { λ e. ⌜ e ≡ nothingLeft ⌝ }
 {
-    if is_idiom(op) & same {
-        of_itself(w)
-    } else {
-        on_operands(op, w, a, b)
+    let value = Value::Unknown;
+    let flags = no_flags();
+    Effect { value, flags }
+}
+
+// add, sub, cmp, and, or, xor, test.
+pub fn arith_effect(op: Binary, size: Size, same: bool, a: Value, b: Value) -> Effect
+    ensures { λ e. ⌜ e ≡ arithEffect op size same a b ⌝ }
+{
+    match size {
+        Size::Of(w) => {
+            if is_idiom(op) & same {
+                of_itself(w)
+            } else {
+                on_operands(op, w, a, b)
+            }
+        }
+        Size::NoWidth => nothing_left(),
     }
 }
 
@@ -321,14 +352,19 @@ pub fn unknown_carry(op: Unary, cf: Flag) -> Flag
 }
 
 // inc, dec, neg of a known value.
-pub fn unary_effect(op: Unary, w: Width, cf: Flag, a: u64) -> Effect
-    ensures { λ e. ⌜ e ≡ unaryEffect op w cf a ⌝ }
+pub fn unary_effect(op: Unary, size: Size, cf: Flag, a: u64) -> Effect
+    ensures { λ e. ⌜ e ≡ unaryEffect op size cf a ⌝ }
 {
-    let o = perform_alone(op, w, a);
-    let flags = o.flags;
-    let kept = keep_carry(op, cf, flags);
-    let value = Value::Known(o.value);
-    Effect { value, flags: kept }
+    match size {
+        Size::Of(w) => {
+            let o = perform_alone(op, w, a);
+            let flags = o.flags;
+            let kept = keep_carry(op, cf, flags);
+            let value = Value::Known(o.value);
+            Effect { value, flags: kept }
+        }
+        Size::NoWidth => nothing_left(),
+    }
 }
 
 fn forget_flag(declared: bool, f: Flag) -> Flag

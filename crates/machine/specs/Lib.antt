@@ -1,3 +1,5 @@
+pub mod States
 pub mod Registers
+pub mod Finish
 pub mod Rules
 pub mod Conditions

@@ -1,21 +1,21 @@
 -- What is known of registers, each as a whole, and of flags, each by itself; reads, writes and forgetting.
-use Prim.Native.Nat.{ℕ, zero, suc, min, _%_, _^_}
+use Prim.Native.Nat.{ℕ, zero, suc, min}
 use mathlib.Core.Bool.{cond}
 use mathlib.Core.List.{List}
-use lib.ListN.{getD, set, replicate}
+use lib.ListN.{getD, replicate}
 use lib.Dec.{ltb, eqb}
 use Rattle.isa.specs.declared.Register.{Register}
 use Rattle.isa.specs.declared.Operand.{Operand}
 use Rattle.isa.specs.declared.Operand.the-variants.{Absent, Reg, Imm, Mem}
 use Rattle.isa.specs.declared.Instruction.{Instruction}
-use Rattle.alu.specs.declared.Flags.{Flags}
-use Rattle.alu.specs.Width.{bits, widthOf}
+use Rattle.alu.specs.Width.{widthOf}
 use Rattle.known.specs.declared.Value.{Value}
 use Rattle.known.specs.declared.Value.the-variants.{Known, Unknown}
 use Rattle.known.specs.declared.Slot.{Slot}
 use Rattle.known.specs.Registers.{unmarked, contents, partOf, withPart}
-use Rattle.known.specs.Operations.{noFlags, forgetFlags}
+use Rattle.known.specs.Operations.{noFlags, immediate, forgetFlags}
 use Rattle.machine.specs.declared.State.{State}
+use Rattle.machine.specs.States.{replaced, withFlags, noRegister}
 
 -- At the start nothing is known: of sixteen registers, nor of the five flags, each of which is known by itself (M3, M4).
 unfoldable pub nothingKnown : State
@@ -29,11 +29,6 @@ slotAt s index = cond (ltb index 16) (getD (s .registers) index unmarked) unmark
 -- its value, whole (M2)
 abbrev pub wholeOf : State → ℕ → Value
 wholeOf s index = contents (slotAt s index)
-
--- the state with something else known of a register
-unfoldable pub replaced : State → ℕ → Slot → State
-replaced s index slot =
-    cond (ltb index 16) (record { registers = set (s .registers) index slot; flags = s .flags }) s
 
 -- A read of a register: of class 1, the part that its size and offset name; of another class nothing is known (M2).
 unfoldable pub readOf : State → Register → Value
@@ -52,16 +47,8 @@ written s r v =
 unfoldable pub operandOf : State → ℕ → Operand → Value
 operandOf s size Absent = Unknown
 operandOf s size (Reg r) = readOf s r
-operandOf s size (Imm x) = Known (x % 2 ^ bits (widthOf size))
+operandOf s size (Imm x) = immediate (widthOf size) x
 operandOf s size Mem = Unknown
-
--- the state with other flags
-abbrev pub withFlags : State → Flags → State
-withFlags s f = record { registers = s .registers; flags = f }
-
--- past the end of a list
-abbrev pub noRegister : Register
-noRegister = record { class = 0; index = 0; size = 0; offset = 0 }
 
 -- A register that is declared as written is forgotten whole (M17).
 unfoldable pub forgetRegister : State → Register → State

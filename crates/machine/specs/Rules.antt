@@ -29,10 +29,11 @@ use Rattle.isa.specs.Modelled.{modelled}
 use Rattle.alu.specs.Width.{widthOf}
 use Rattle.known.specs.declared.Value.{Value}
 use Rattle.known.specs.declared.Value.the-variants.{Known, Unknown}
-use Rattle.known.specs.declared.Effect.{Effect}
 use Rattle.known.specs.Operations.{carryRule, complement, arithEffect, withCarry, unknownCarry, unaryEffect}
 use Rattle.machine.specs.declared.State.{State}
-use Rattle.machine.specs.Registers.{nothingKnown, readOf, written, operandOf, withFlags, forgotten}
+use Rattle.machine.specs.States.{withFlags}
+use Rattle.machine.specs.Registers.{nothingKnown, readOf, written, operandOf, forgotten}
+use Rattle.machine.specs.Finish.{finished}
 
 -- stc, clc, cmc: CF alone
 unfoldable pub carryStep : State → CarryChange → State
@@ -55,10 +56,6 @@ sameRegister d (Reg r) =
     eqb (r .class) (d .class) && eqb (r .index) (d .index) && eqb (r .size) (d .size) && eqb (r .offset) (d .offset)
 sameRegister d (Imm x) = false
 sameRegister d Mem = false
-
--- the value is written to the register, if the instruction writes, and the flags are set
-unfoldable pub finished : State → Bool → Register → Effect → State
-finished s there d e = withFlags (cond there (written s d (e .value)) s) (e .flags)
 
 -- add to test, with a register first (M12, M13, M14)
 unfoldable pub arithStep : State → Binary → Register → Operand → State

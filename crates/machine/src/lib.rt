@@ -15,8 +15,10 @@ use known::Value;
 ghost use mathlib.Core.Path.{_≡_};
 ghost use mathlib.Core.Bool.{cond};
 ghost use Prim.Native.Nat.{min, _≤_};
-ghost use Rattle.machine.specs.Registers.{nothingKnown, slotAt, replaced, readOf, written, operandOf, withFlags, forgetRegister, forgetRegisters, forgotten};
-ghost use Rattle.machine.specs.Rules.{writes, sameRegister, finished, carryStep, arithStep, unaryUnknown, unaryOn, unaryStep, registerStep, onFirst, modelledStep, stepped};
+ghost use Rattle.machine.specs.Registers.{nothingKnown, slotAt, readOf, written, operandOf, forgetRegister, forgetRegisters, forgotten};
+ghost use Rattle.machine.specs.States.{replaced, withFlags};
+ghost use Rattle.machine.specs.Finish.{finished};
+ghost use Rattle.machine.specs.Rules.{writes, sameRegister, carryStep, arithStep, unaryUnknown, unaryOn, unaryStep, registerStep, onFirst, modelledStep, stepped};
 ghost use Rattle.machine.specs.Conditions.{countSize, conditionOf};
 
 pub struct State {
@@ -102,7 +104,7 @@ fn operand(s: State, size: u64, o: Operand) -> Value
         Operand::Reg(r) => read(s, r),
         Operand::Imm(x) => {
             let w = alu::width_of(size);
-            Value::Known(alu::cut(w, x))
+            known::immediate_of(w, x)
         }
         Operand::Mem => Value::Unknown,
     }

@@ -3,6 +3,7 @@ use Prim.Native.Nat.{ℕ, zero, suc, _+_, _<_}
 use mathlib.Core.Path.{_≡_, refl, sym, _∙_}
 use mathlib.Core.List.{List}
 use mathlib.Core.Bool.{Bool, true, false, not, _||_}
+use native.Mathlib.Omega.{arith}
 use lib.Dec.{eqb, ltb}
 use borrow.Author.Tests.{ltb-true, not-true}
 use Rattle.isa.specs.declared.Operand.{Operand}
@@ -14,6 +15,7 @@ use Rattle.sheet_field.specs.declared.Place.the-variants.{At, Refused}
 use Rattle.sheet_field.specs.declared.Field.{Field}
 use Rattle.sheet_field.specs.Field.{fieldAt, startOf, codeAt, countAt, checkField, judge, keep, WentOn}
 use Rattle.sheet_field.proofs.Fields.{judge-at, check-at, field-at, code-at, count-at, not-both, field-on, code-on}
+use Rattle.sheet_field.proofs.Counted.{back}
 use Rattle.sheet_instruction.specs.Instruction.{registerAt, operandAt, withRegister, registersFrom, registersAt, optionalRegisters, optionalOperand, optionalField, optionalCode, bitOf, mapAt, addressAt, headAt, tailAt, instructionAt}
 
 register-on : (s : List ℕ) (p : Place) {a : ℕ} → registerAt s p .next ≡ At a → WentOn p
@@ -57,10 +59,14 @@ operand-on s p e = zero-or (eqb (codeAt 3 s p .value) 0) (eqb (codeAt 3 s p .val
     zero-or false true q r = code-on 3 s p (field-on 8 s (codeAt 3 s p .next) (rw (q, r) at e) .1)
     zero-or false false q r = code-on 3 s p (rw (q, r) at e)
 
+-- a register that is read where reading was refused leaves the refusal
+registers-keep : (s : List ℕ) (p : Place) (j k at : ℕ) → registersFrom s p j .next ≡ Refused k at → registersFrom s p (suc j) .next ≡ Refused k at
+unfolding registersFrom withRegister registerAt fieldAt
+registers-keep s p j k at e = rw e
+
 registers-from-on : (s : List ℕ) (p : Place) (k : ℕ) {a : ℕ} → registersFrom s p k .next ≡ At a → WentOn p
-unfolding registersFrom withRegister
-registers-from-on s p zero {a} e = (a, e)
-registers-from-on s p (suc k) e = registers-from-on s p k (register-on s (registersFrom s p k .next) e .1)
+unfolding registersFrom
+registers-from-on s p k e = back (λ j. registersFrom s p j .next) (registers-keep s p) k 0 e (omega arith)
 
 registers-on : (s : List ℕ) (p : Place) {a : ℕ} → registersAt s p .next ≡ At a → WentOn p
 unfolding registersAt
@@ -107,14 +113,14 @@ tail-well map s p e =
     (optional-operand-well (bitOf map 4) s p (one .1), optional-operand-well (bitOf map 8) s _ (two .1))
 
 -- what an instruction that was read whole is
-pub record Taken (first : Bool) (last : ℕ) (s : List ℕ) (p : Place) : Type 0 where
+pub record Taken (opens : Bool) (last : ℕ) (s : List ℕ) (p : Place) : Type 0 where
   pub from : ℕ
   pub there : p ≡ At from
-  pub above : first ≡ false → last < instructionAt first last s p .instruction .address
-  pub again : instructionAt true 0 s p ≡ instructionAt first last s p
-  pub one : Well (instructionAt first last s p .instruction .first)
-  pub two : Well (instructionAt first last s p .instruction .second)
-  pub sound : atFault (instructionAt first last s p .instruction) ≡ false
+  pub above : opens ≡ false → last < instructionAt opens last s p .instruction .address
+  pub again : instructionAt true 0 s p ≡ instructionAt opens last s p
+  pub one : Well (instructionAt opens last s p .instruction .first)
+  pub two : Well (instructionAt opens last s p .instruction .second)
+  pub sound : atFault (instructionAt opens last s p .instruction) ≡ false
 
 -- a field that was read whole passes a check that holds
 check-true : (k at : ℕ) (f : Field) {a : ℕ} → f .next ≡ At a → checkField true k at f ≡ f
@@ -126,10 +132,10 @@ check-true k at f e = go (f .next) e
     go (Refused n b) q = absurd (not-both q)
 
 -- an address is read alike where any would do
-address-again : (first : Bool) (last : ℕ) (s : List ℕ) (p : Place) {a : ℕ} → addressAt first last s p .next ≡ At a
-    → addressAt true 0 s p ≡ addressAt first last s p
+address-again : (opens : Bool) (last : ℕ) (s : List ℕ) (p : Place) {a : ℕ} → addressAt opens last s p .next ≡ At a
+    → addressAt true 0 s p ≡ addressAt opens last s p
 unfolding addressAt
-address-again first last s p e =
+address-again opens last s p e =
     let c = check-at _ 4 (startOf p) (fieldAt 8 s p) e in
     check-true 4 (startOf p) (fieldAt 8 s p) (c .1) ∙ sym (c .2)
 
@@ -137,25 +143,25 @@ other-true : (a b : Bool) → (a || b) ≡ true → a ≡ false → b ≡ true
 other-true true b e q = cc
 other-true false b e q = e
 
-pub instruction-on : (first : Bool) (last : ℕ) (s : List ℕ) (p : Place) {a : ℕ} → instructionAt first last s p .next ≡ At a
-    → Taken first last s p
+pub instruction-on : (opens : Bool) (last : ℕ) (s : List ℕ) (p : Place) {a : ℕ} → instructionAt opens last s p .next ≡ At a
+    → Taken opens last s p
 unfolding instructionAt headAt mapAt addressAt
-instruction-on first last s p e =
+instruction-on opens last s p e =
     let map = mapAt s p in
-    let address = addressAt first last s (map .next) in
-    let head = headAt first last s p in
+    let address = addressAt opens last s (map .next) in
+    let head = headAt opens last s p in
     let behind = tail-on (head .map) s (head .next) (judge-at _ 6 (startOf p) _ e .1) in
     let target = optional-field-on (bitOf (map .value) 1) s _ (behind .1) in
     let mnemonic = code-on 35 s (address .next) (target .1) in
-    let rises = check-at (first || ltb last (fieldAt 8 s (map .next) .value)) 4 (startOf (map .next)) (fieldAt 8 s (map .next)) (mnemonic .1) in
+    let rises = check-at (opens || ltb last (fieldAt 8 s (map .next) .value)) 4 (startOf (map .next)) (fieldAt 8 s (map .next)) (mnemonic .1) in
     let mapped = field-on 8 s (map .next) (rises .1) in
     let w = field-on 1 s p (check-at _ 2 (startOf p) (fieldAt 1 s p) (mapped .1) .1) in
     record {
       from = w .0;
       there = w .1;
-      above = λ q. rw (rises .2) (ltb-true last _ (other-true first _ (rises .0) q));
+      above = λ q. rw (rises .2) (ltb-true last _ (other-true opens _ (rises .0) q));
       one = tail-well (head .map) s (head .next) (judge-at _ 6 (startOf p) _ e .1) .0;
       two = tail-well (head .map) s (head .next) (judge-at _ 6 (startOf p) _ e .1) .1;
       sound = not-true _ (judge-at _ 6 (startOf p) (tailAt (head .map) s (head .next) .next) e .0);
-      again = rw (address-again first last s (map .next) (mnemonic .1));
+      again = rw (address-again opens last s (map .next) (mnemonic .1));
     }

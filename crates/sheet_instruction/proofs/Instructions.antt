@@ -64,8 +64,8 @@ tail-is map s p e4 one-is e8 two-is e16 written-is e32 flags-is =
     rw (flags-is, written-is, two-is, one-is, e4, e8, e16, e32)
 
 -- an instruction from its parts
-pub instruction-is : (first : Bool) (last : ℕ) (s : List ℕ) (p : Place) {head : Head} {tail : Tail} {branch call fault : Bool} {start : ℕ} {next : Place}
-    → head ≡ headAt first last s p → tail ≡ tailAt (head .map) s (head .next)
+pub instruction-is : (opens : Bool) (last : ℕ) (s : List ℕ) (p : Place) {head : Head} {tail : Tail} {branch call fault : Bool} {start : ℕ} {next : Place}
+    → head ≡ headAt opens last s p → tail ≡ tailAt (head .map) s (head .next)
     → branch ≡ bitOf (head .map) 1 → call ≡ bitOf (head .map) 2
     → fault ≡ atFault (record { address = head .address; mnemonic = head .mnemonic; branch = branch; target = head .target; call = call; first = tail .first; second = tail .second; written = tail .written; count = tail .count; flags = tail .flags })
     → start ≡ startOf p → next ≡ judge (not fault) 6 start (tail .next)
@@ -74,9 +74,9 @@ pub instruction-is : (first : Bool) (last : ℕ) (s : List ℕ) (p : Place) {hea
       instruction = record { address = head .address; mnemonic = head .mnemonic; branch = branch; target = head .target; call = call; first = tail .first; second = tail .second; written = tail .written; count = tail .count; flags = tail .flags };
       next = next;
     })
-    (instructionAt first last s p)
+    (instructionAt opens last s p)
 unfolding instructionAt
-instruction-is first last s p head-is tail-is branch-is call-is fault-is start-is next-is =
+instruction-is opens last s p head-is tail-is branch-is call-is fault-is start-is next-is =
     rw (next-is, start-is, fault-is, branch-is, call-is, tail-is, head-is)
 
 -- a mnemonic's number, also where reading was refused, is in the table

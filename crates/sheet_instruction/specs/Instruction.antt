@@ -89,17 +89,17 @@ mapAt s p =
     let f = fieldAt 1 s p in
     checkField (mapOk (f .value)) 2 (startOf p) f
 
--- The address; refusal 4, placed there, where it is not greater than the one before (S16, R12).
+-- The address; refusal 4, placed there, where it is not greater than the one before; the instruction that opens the sheet has none before it (S16, R12).
 unfoldable pub addressAt : Bool → ℕ → List ℕ → Place → Field
-addressAt first last s p =
+addressAt opens last s p =
     let f = fieldAt 8 s p in
-    checkField (first || ltb last (f .value)) 4 (startOf p) f
+    checkField (opens || ltb last (f .value)) 4 (startOf p) f
 
 -- The map, the address, the mnemonic's number, below 35, and with bit 0 the target, an address too (S6, S7, S22, S23, S24, R8).
 unfoldable pub headAt : Bool → ℕ → List ℕ → Place → Head
-headAt first last s p =
+headAt opens last s p =
     let map = mapAt s p in
-    let address = addressAt first last s (map .next) in
+    let address = addressAt opens last s (map .next) in
     let number = codeAt 35 s (address .next) in
     let target = optionalField (bitOf (map .value) 1) s (number .next) in
     record { map = map .value; address = address .value; mnemonic = named (number .value); target = target .value; next = target .next }
@@ -117,8 +117,8 @@ tailAt map s p =
 -- An instruction record. Bit 0 makes it a conditional branch, bit 1 call-like. Refusal 6, made at its last byte and placed at its first, where it is
 -- modelled and at fault (S6, S7, S8, R2, R4, R17).
 unfoldable pub instructionAt : Bool → ℕ → List ℕ → Place → InstructionReading
-instructionAt first last s p =
-    let head = headAt first last s p in
+instructionAt opens last s p =
+    let head = headAt opens last s p in
     let tail = tailAt (head .map) s (head .next) in
     let it : Instruction = record {
       address = head .address;

@@ -215,21 +215,21 @@ fn take_map(s: &[u8], p: Place) -> Field
     sheet_field::checked(f, ok, 2, sheet_field::start(p))
 }
 
-// An address above `last`, or any where it is the first.
-fn take_address(s: &[u8], p: Place, first: bool, last: u64) -> Field
-    ensures { λ r. ⌜ r ≡ addressAt first last (now (s .entry)) p ⌝ }
+// An address above `last`, or any where the instruction opens the sheet.
+fn take_address(s: &[u8], p: Place, opens: bool, last: u64) -> Field
+    ensures { λ r. ⌜ r ≡ addressAt opens last (now (s .entry)) p ⌝ }
 {
     let f = sheet_field::take_field(s, p, Width::Eight);
-    let ok = first | (last < f.value);
+    let ok = opens | (last < f.value);
     sheet_field::checked(f, ok, 4, sheet_field::start(p))
 }
 
-fn take_head(s: &[u8], p: Place, first: bool, last: u64) -> Head
-    ensures { λ r. ⌜ r ≡ headAt first last (now (s .entry)) p ⌝ }
+fn take_head(s: &[u8], p: Place, opens: bool, last: u64) -> Head
+    ensures { λ r. ⌜ r ≡ headAt opens last (now (s .entry)) p ⌝ }
 {
     let map = take_map(s, p);
     let after_map = map.next;
-    let address = take_address(s, after_map, first, last);
+    let address = take_address(s, after_map, opens, last);
     let after_address = address.next;
     let number = sheet_field::code(s, after_address, 35);
     let after_number = number.next;
@@ -269,11 +269,11 @@ fn take_tail(s: &[u8], p: Place, map: u64) -> Tail
     }
 }
 
-// The instruction record at a place; `first` where none stands before it, else `last` is the address before.
-pub fn take_instruction(s: &[u8], p: Place, first: bool, last: u64) -> InstructionReading
-    ensures { λ r. ⌜ r ≡ instructionAt first last (now (s .entry)) p ⌝ }
+// The instruction record at a place. It opens the sheet where none stands before it; else `last` is the address before.
+pub fn take_instruction(s: &[u8], p: Place, opens: bool, last: u64) -> InstructionReading
+    ensures { λ r. ⌜ r ≡ instructionAt opens last (now (s .entry)) p ⌝ }
 {
-    let head = take_head(s, p, first, last);
+    let head = take_head(s, p, opens, last);
     let after = head.next;
     let tail = take_tail(s, after, head.map);
     let one = tail.first;

@@ -1,4 +1,4 @@
-use Rattle.machine.specs.Rules.{finished}
+use Rattle.machine.specs.Finish.{finished}
 use borrow.Author.Needs.{needs}
 use Rattle.machine.proofs.finish.Statement.{statement}
 use Rattle.machine.proofs.finish.Tie as tie

@@ -18,8 +18,8 @@ enum-known-o-2 c = search needs
 width-of-requires : tie.Need-width-of-requires
 width-of-requires c κs = search needs
 
-cut-requires : tie.Need-cut-requires
-cut-requires c κs = search needs
+immediate-of-requires : tie.Need-immediate-of-requires
+immediate-of-requires c κs = search needs
 
 enum-told-2 : tie.Need-enum-told-2
 enum-told-2 c = search needs
@@ -34,7 +34,7 @@ returns-2 c = cc
 
 returns-3 : tie.Need-returns-3
 unfolding operandOf
-returns-3 c = cc
+returns-3 c = rw (c .immediate-of .ensures, c .before .width-of .ensures, c .before .before .before .o2 .given .1)
 
 returns-4 : tie.Need-returns-4
 unfolding operandOf
@@ -49,7 +49,7 @@ operand-spec =
     read-requires
     enum-known-o-2
     width-of-requires
-    cut-requires
+    immediate-of-requires
     enum-told-2
     returns
     returns-2

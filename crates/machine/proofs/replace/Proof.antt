@@ -1,4 +1,4 @@
-use Rattle.machine.specs.Registers.{replaced}
+use Rattle.machine.specs.States.{replaced}
 use borrow.Author.Tests.{lt-ltb, le-ltb}
 use borrow.Author.Needs.{needs}
 use Rattle.machine.proofs.replace.Statement.{statement}
