@@ -49,9 +49,9 @@ reading = format
 pub short-sheets : All (λ (x : Example). readingOf (x .bytes) ≡ x .answer) examples
 short-sheets = examples-hold
 
--- Whatever the bytes, and whatever block or node: a run of it that has an outcome does not go against the answer for it. Always, which is 1, means
--- that the branch jumps, or the condition holds; never, which is 0, that it does not. A run starts from any registers and flags, or any values of
--- the variables, and memory, calls, effects and what is not modelled do whatever they may.
+-- Whatever the bytes, and whatever block or node: a run of it that has an outcome does not go against the answer for it. The answer 1, always, says
+-- that the run jumps, or that the condition holds at its end; 0, never, says the opposite. A run starts from any registers and flags, or any values
+-- of the variables, and memory, calls, effects and what is not modelled do whatever they may.
 pub runs : (s : List Byte) (from : Source) (value reason : ℕ) → answerFor (numbers s) from ≡ decision value reason
     → (went : Bool) → Ends (numbers s) from went → value ≡ cond went 1 0
 runs = runs-right
