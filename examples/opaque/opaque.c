@@ -126,6 +126,12 @@ tested:
     return taken;
 }
 
+/* The same, and the address stands nowhere: the xor is 2 bytes long. */
+BRANCH(worked_out,
+       "leaq 3f(%%rip), %%rax\n\tmovl %1, %%ecx\n\tandl $1, %%ecx\n\t"
+       "leaq (%%rax,%%rcx,2), %%rax\n\tjmp *%%rax\n3:\txorl %%eax, %%eax\n\ttestl %%eax, %%eax",
+       "je")
+
 /* A jump into an instruction: what is shown as `test eax,0x9001e0c1` is also
    `shl eax,1; nop` from its second byte on. */
 BRANCH(inside,
@@ -142,7 +148,7 @@ static int (*const all[])(int) = {
     same_sign, same_no_sign, same_parity, same_no_parity, same_overflow, count_zero, count_one,
     low_count_zero, low_count_one, high_count, register_kept, flags_kept, register_lost,
     flags_lost, product_lost, byte_of_unknown, in_memory, across_a_call, loop_head, counted,
-    entered, inside,
+    entered, worked_out, inside,
 };
 
 int main(void)
