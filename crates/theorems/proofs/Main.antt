@@ -20,9 +20,10 @@ use Rattle.format.specs.Examples.{Example, examples}
 use Rattle.format.proofs.Unique.{all-bytes, format}
 use Rattle.format.proofs.Examples.{examples-hold}
 use Rattle.verdict.specs.declared.Verdict.the-variants as verdict
-use Rattle.verdict.specs.Numbers.Numbers.{decision}
+use Rattle.verdict.specs.Numbers.Numbers.{decision, undecided}
 use Rattle.parity.specs.LowBit.{lowBit, AlwaysDiffer, low, Has, sharedBits, ownBits}
 use Rattle.decide.specs.Decide.{decide}
+use Rattle.substitution.specs.Substitution.{into, withAssignments}
 use Rattle.decide.proofs.Complete.{decided}
 use Rattle.parity.proofs.Evaluation.{ev-low}
 use Rattle.evaluate_node.specs.Evaluate.{StartsFrom}
@@ -36,7 +37,7 @@ use Rattle.theorems.specs.Runs.{Source, answerFor, Ends, ForcedEnd}
 use Rattle.theorems.specs.Lines.{lineAt, Listed, Refuses, TrueOf}
 use Rattle.theorems.specs.Rows.{Yields, rows, probe, marked}
 use Rattle.theorems.proofs.Public.{answers-forced}
-use Rattle.theorems.proofs.Nodes.{evaluation-agrees, probe-run}
+use Rattle.theorems.proofs.Nodes.{node-decided, evaluation-agrees, probe-run}
 use Rattle.theorems.proofs.Outcomes.{answers-run, fourteen, refusal-number}
 use Rattle.theorems.proofs.Whole.{runs-right}
 use Rattle.theorems.proofs.Listing.{lines-true, lines-due, refused-for, list-kept}
@@ -86,6 +87,12 @@ forced-blocks = answers-forced
 -- No equality is left undecided whose sides' low bits differ for every choice of their atoms' bits.
 pub low-bits : (equal : Bool) (a b : Expr) → AlwaysDiffer a b → decide (binary (cond equal opEqual opNotEqual) a b) ≡ verdict.Undecided → ⊥
 low-bits = decided
+
+-- So a node whose condition, after substitution, is such an equality is not answered undecided.
+pub low-bit-nodes : (s : List ℕ) (number : ℕ) (equal : Bool) (a b : Expr)
+    → withAssignments (nodeNumbered s number .statements) (nodeNumbered s number .condition) ≡ into (binary (cond equal opEqual opNotEqual) a b)
+    → AlwaysDiffer a b → nodeAnswer s number ≡ undecided → ⊥
+low-bit-nodes = node-decided
 
 -- In every evaluation the low bit of a part that has a value is its low bit at the bits that its atoms' values have.
 pub low-bit-values : (types : List ℕ) (ρ σ : Values) (m : Contents) (f : Effects) (e : Expr) → Has (ev types ρ σ (shared m) f e)

@@ -10,6 +10,7 @@ use native.Mathlib.Decide.{decLt}
 use lib.ListN.{length, List·getD-eq-default}
 use Rattle.expr.specs.Admission.{Admitted, AdmittedAll, AdmittedNode}
 use Rattle.expr.proofs.Admission.{constant-fits}
+use Rattle.expr.specs.Codes.{opEqual, opNotEqual}
 use Rattle.expr.specs.Tree.{Expr, flat}
 use Rattle.expr.specs.Tree.Expr.{variable, constant, conditionTrue, conditionFalse, effect, load, cast, binary, ternary}
 use Rattle.expr.specs.Statement.{Statement}
@@ -30,13 +31,15 @@ use Rattle.substitution.proofs.Runs.{every-run}
 use Rattle.verdict.specs.declared.Verdict.{Verdict}
 use Rattle.verdict.specs.declared.Verdict.the-variants.{Always, Never, Undecided, NoBranch}
 use Rattle.verdict.specs.Numbers.{verdictNumbers, answerNumbers}
-use Rattle.verdict.specs.Numbers.Numbers.{decision}
+use Rattle.verdict.specs.Numbers.Numbers.{decision, undecided, refused}
 use Rattle.verdict.specs.declared.Answer.{Answer}
 use Rattle.verdict.specs.declared.Answer.the-variants.{Given, Refused}
 use Rattle.sheet_node.specs.Node.{Node}
 use Rattle.decide.specs.Decide.{decide, fits}
 use Rattle.parity.specs.LowBit.{Has}
 use Rattle.exact.proofs.ExactValue.{Fitting}
+use Rattle.parity.specs.LowBit.{AlwaysDiffer}
+use Rattle.decide.proofs.Complete.{decided}
 use Rattle.decide.proofs.Sound.{Meets, right}
 use Rattle.verdict_node.specs.NodeVerdict.{onSubstituted, nodeVerdict}
 use Rattle.sheet.specs.declared.Sheet.{Sheet}
@@ -236,6 +239,37 @@ node-runs s small number value reason e went r = go (readingOf s) refl e
             → value ≡ cond went 1 0
         on true e = given sheet q (nodeVerdict (nodeNumbered s number) (nodePlace s number)) refl e
         on false e = no-decision e
+
+-- A node whose substituted condition is an equality that `decide` decides is not answered undecided.
+pub node-decided : (s : List ℕ) (number : ℕ) (equal : Bool) (a b : Expr)
+    → withAssignments (nodeNumbered s number .statements) (nodeNumbered s number .condition) ≡ into (binary (cond equal opEqual opNotEqual) a b)
+    → AlwaysDiffer a b → nodeAnswer s number ≡ undecided → ⊥
+unfolding nodeAnswer nodeVerdict
+node-decided s number equal a b is differ e = go (readingOf s) e
+  where
+    c : Expr
+    c = binary (cond equal opEqual opNotEqual) a b
+
+    not-undecided : {k at : ℕ} → refused k at ≡ undecided → ⊥
+    not-undecided e = let z : _≡_ {A = ℕ} 0 1 = cc in omega arith
+
+    verdict-undecided : (v : Verdict) → verdictNumbers v ≡ undecided → v ≡ Undecided
+    verdict-undecided (Always r) e = let z : _≡_ {A = ℕ} 0 1 = cc in absurd (omega arith)
+    verdict-undecided (Never r) e = let z : _≡_ {A = ℕ} 0 1 = cc in absurd (omega arith)
+    verdict-undecided Undecided e = refl
+    verdict-undecided NoBranch e = let z : _≡_ {A = ℕ} 0 1 = cc in absurd (omega arith)
+
+    on : (t : Bool) → answerNumbers (cond t (Given (decide c)) (Refused 11 (nodePlace s number))) ≡ undecided → ⊥
+    on true e = decided equal a b differ (verdict-undecided (decide c) e)
+    on false e = not-undecided e
+
+    there : (t : Bool) → answerNumbers (cond t (nodeVerdict (nodeNumbered s number) (nodePlace s number)) (Refused 13 0)) ≡ undecided → ⊥
+    there true e = on (fits c) (rw is at e)
+    there false e = not-undecided e
+
+    go : (r : Reading) → answerNumbers (onNode r s number) ≡ undecided → ⊥
+    go (reading.Refused k at) e = not-undecided e
+    go (reading.Accepted sheet) e = there (ltb number (sheet .nodes .count)) e
 
 -- No evaluation of a node contradicts its verdict: it is a run of the node.
 pub evaluation-agrees : (s : List ℕ) → Bytes s → (number : ℕ) (values : List ℕ) (got value reason : ℕ)
