@@ -8,7 +8,7 @@ use std::panic::{self, AssertUnwindSafe};
 pub const PARITY: &str = "the low bits differ";
 
 /// Terms copied while products are formed.
-const MOST: usize = 2_000_000;
+const MOST: usize = 400_000;
 
 thread_local! {
     static LEFT: Cell<usize> = const { Cell::new(MOST) };

@@ -6,7 +6,7 @@ use crate::cases::limit_node::wide_node;
 use crate::cases::verdict_node;
 use crate::comparisons::frames::{ask_nodes, ask_reading, run};
 use crate::comparisons::nodes::sheet_of;
-use crate::comparisons::times::processor_time;
+use crate::comparisons::times::processor_times;
 use crate::comparisons::verdicts::ABSENT;
 use crate::judges::node_limits::{children, parity, refusal};
 use crate::sheets::from_text::write;
@@ -74,14 +74,15 @@ fn sheet_of_text(text: &str) -> Sheets {
     vec![write(text).unwrap_or_else(|error| panic!("{error}")).bytes]
 }
 
-/// Nanoseconds that a program takes for a sheet, of many rounds less one.
+/// Nanoseconds that a program takes for a sheet in its own code, of many rounds
+/// less one.
 fn each(program: &[String], sheets: &Sheets, ask: fn(&mut Vec<u8>, &[u8])) -> io::Result<f64> {
     let timed = |rounds: usize| {
         let mut input = Vec::new();
         for _ in 0..rounds {
             sheets.iter().for_each(|sheet| ask(&mut input, sheet));
         }
-        processor_time(program, input)
+        processor_times(program, input).map(|times| times.own)
     };
     let least = timed(1)?;
     let mut rounds = 1;

@@ -78,17 +78,30 @@ fn reader_time(sheet: &[u8]) -> f64 {
     (0..50).map(|_| round()).fold(f64::INFINITY, f64::min)
 }
 
-/// Hundredths of a second that an ended process ran, from its `stat` line: the
-/// fields behind its name, from `state` on.
-fn ticks(stat: &str) -> Option<(bool, u64)> {
-    let fields: Vec<&str> = stat.rsplit_once(')')?.1.split_whitespace().collect();
-    let time = |at: usize| fields.get(at)?.parse::<u64>().ok();
-    Some((fields.first() == Some(&"Z"), time(11)? + time(12)?))
+/// Seconds of processor time that a process took.
+pub struct Times {
+    /// In its own code.
+    pub own: f64,
+    /// In the system, for reading its input and writing its answers.
+    pub system: f64,
 }
 
-/// Seconds of processor time that a program takes for an input. It is read
-/// between the process's end and the wait for it.
-pub fn processor_time(program: &[String], input: Vec<u8>) -> io::Result<f64> {
+/// Whether a process has ended, and its times, from its `stat` line: the fields
+/// behind its name, from `state` on, times in hundredths of a second.
+fn times(stat: &str) -> Option<(bool, Times)> {
+    let fields: Vec<&str> = stat.rsplit_once(')')?.1.split_whitespace().collect();
+    let time = |at: usize| Some(fields.get(at)?.parse::<u32>().ok()? as f64 / 100.0);
+    Some((fields.first() == Some(&"Z"), Times { own: time(11)?, system: time(12)? }))
+}
+
+/// Seconds of processor time that a program takes for an input.
+fn processor_time(program: &[String], input: Vec<u8>) -> io::Result<f64> {
+    processor_times(program, input).map(|times| times.own + times.system)
+}
+
+/// The same, in its own code and in the system. They are read between the
+/// process's end and the wait for it.
+pub fn processor_times(program: &[String], input: Vec<u8>) -> io::Result<Times> {
     let mut command = Command::new(&program[0]);
     let mut child =
         command.args(&program[1..]).stdin(Stdio::piped()).stdout(Stdio::piped()).spawn()?;
@@ -99,7 +112,7 @@ pub fn processor_time(program: &[String], input: Vec<u8>) -> io::Result<f64> {
     feeder.join().expect("the feeding thread does not panic")?;
     let place = format!("/proc/{}/stat", child.id());
     let time = loop {
-        match ticks(&fs::read_to_string(&place)?) {
+        match times(&fs::read_to_string(&place)?) {
             Some((true, time)) => break time,
             Some((false, _)) => thread::sleep(Duration::from_millis(1)),
             None => return Err(io::Error::other("the process's times cannot be read")),
@@ -109,7 +122,7 @@ pub fn processor_time(program: &[String], input: Vec<u8>) -> io::Result<f64> {
     if !status.success() {
         return Err(io::Error::other(format!("the program ended with {status}")));
     }
-    Ok(time as f64 / 100.0)
+    Ok(time)
 }
 
 /// Nanoseconds a question: many of them, less one.
