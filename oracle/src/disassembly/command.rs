@@ -6,13 +6,14 @@ use crate::disassembly::control_flow::{self, ControlFlow, Outside};
 use crate::disassembly::elf::{self, File, Span};
 use crate::disassembly::judge::{Decided, Program};
 use crate::disassembly::operand::parts;
-use crate::disassembly::sheets::{self, Counts, Part};
+use crate::disassembly::sheets::{self, Counts, FunctionSheet};
 use crate::disassembly::text::{self, Disassembly, Label};
 use crate::disassembly::{pointers, steps, unwinding};
 use crate::sheets::encode::encode;
 use crate::sheets::syntax::Sheet;
 use std::collections::BTreeMap;
 use std::fs;
+use std::io::{self, Read, Write};
 use std::process::Command;
 
 /// What to list: a linked file, or the disassembly of one.
@@ -47,9 +48,9 @@ fn disassembled(path: &str) -> Result<String, String> {
     let output = output.map_err(|error| format!("{NO_OBJDUMP}: {error}"))?;
     if !output.status.success() {
         let words = String::from_utf8_lossy(&output.stderr);
-        return Err(format!("{path}: objdump: {}", words.trim()));
+        return Err(format!("objdump: {}", words.trim()));
     }
-    Ok(String::from_utf8_lossy(&output.stdout).to_string())
+    Ok(String::from_utf8_lossy(&output.stdout).into_owned())
 }
 
 /// What the file says about entries and functions.
@@ -79,48 +80,64 @@ fn add_tables(file: &File, control: &ControlFlow, outside: &mut Outside) {
     outside.possible.extend(targets);
 }
 
+const TEXT_ALONE: &str = "from the text alone: landing pads, tables and pointers to code, and \
+    whether the file is linked, are not known";
+
 /// Lists the source; true unless a program and the given source differ.
 pub fn list(job: &Job) -> Result<bool, String> {
     match job.source {
-        Source::Text(path) => {
-            let bytes = fs::read(path).map_err(|error| format!("{path}: {error}"))?;
-            let text = String::from_utf8_lossy(&bytes).to_string();
-            let text = text::read(&text).map_err(|message| format!("{path}: {message}"))?;
-            println!("{TEXT_ALONE}");
-            let outside = Outside::default();
-            let control = control_flow::read(&text, &outside);
-            judged(job, &text, &leaders(&text, &control, &outside))
-        }
-        Source::File(path) => {
-            let bytes = fs::read(path).map_err(|error| format!("{path}: {error}"))?;
-            let name = |message: String| format!("{path}: {message}");
-            let file = elf::read(&bytes).map_err(name)?;
-            let mut outside = outside(&file).map_err(name)?;
-            let text = disassembled(path)?;
-            let text = text::read(&text).map_err(name)?;
-            let control = control_flow::read(&text, &outside);
-            add_tables(&file, &control, &mut outside);
-            judged(job, &text, &leaders(&text, &control, &outside))
-        }
+        Source::Text(path) => list_text(job, path).map_err(|message| format!("{path}: {message}")),
+        Source::File(path) => list_file(job, path).map_err(|message| format!("{path}: {message}")),
     }
 }
 
-const TEXT_ALONE: &str = "from the text alone: landing pads, tables and pointers to code, and \
-    whether the file is linked, are not known";
+fn list_text(job: &Job, path: &str) -> Result<bool, String> {
+    let bytes = content(path)?;
+    let text = String::from_utf8_lossy(&bytes);
+    let text = text::read(&text)?;
+    say(TEXT_ALONE)?;
+    let outside = Outside::default();
+    let control = control_flow::read(&text, &outside);
+    judged(job, &text, &leaders(&text, &control, &outside))
+}
+
+fn list_file(job: &Job, path: &str) -> Result<bool, String> {
+    let bytes = content(path)?;
+    let file = elf::read(&bytes)?;
+    let mut outside = outside(&file)?;
+    let text = disassembled(path)?;
+    let text = text::read(&text)?;
+    let control = control_flow::read(&text, &outside);
+    add_tables(&file, &control, &mut outside);
+    judged(job, &text, &leaders(&text, &control, &outside))
+}
+
+fn content(path: &str) -> Result<Vec<u8>, String> {
+    let mut bytes = Vec::new();
+    let read = match path {
+        "-" => io::stdin().read_to_end(&mut bytes).map(|_| bytes),
+        _ => fs::read(path),
+    };
+    read.map_err(|error| error.to_string())
+}
+
+fn say(line: impl std::fmt::Display) -> Result<(), String> {
+    writeln!(io::stdout(), "{line}").map_err(|error| format!("standard output: {error}"))
+}
 
 fn judged(job: &Job, text: &Disassembly, leaders: &Leaders) -> Result<bool, String> {
     let functions = sheets::functions(text);
     let labels: Vec<Label> = functions.iter().map(|(label, _)| *label).collect();
     let mut report = Report::new(text, &labels);
-    let mut waiting: Vec<Part> = Vec::new();
+    let mut waiting: Vec<FunctionSheet> = Vec::new();
     for (number, (_, lines)) in functions.into_iter().enumerate() {
-        waiting.extend(sheets::parts(text, leaders, (number, lines), &mut report.counts));
+        waiting.extend(sheets::of_function(text, leaders, (number, lines), &mut report.counts));
         if waiting.len() >= BATCH {
             report.take(job, &std::mem::take(&mut waiting))?;
         }
     }
     report.take(job, &waiting)?;
-    report.print(job);
+    report.totals().into_iter().chain(report.comparison(job)).try_for_each(say)?;
     if let Some(path) = job.steps {
         let claims = steps::written(text, leaders, &report.verdicts);
         fs::write(path, claims).map_err(|error| format!("{path}: {error}"))?;
@@ -146,7 +163,7 @@ impl<'a> Report<'a> {
         Report { text, labels, counts, sheets: 0, verdicts, compared: true, differences: 0 }
     }
 
-    fn take(&mut self, job: &Job, parts: &[Part]) -> Result<(), String> {
+    fn take(&mut self, job: &Job, parts: &[FunctionSheet]) -> Result<(), String> {
         self.sheets += parts.len();
         if let Some(folder) = job.save {
             save(folder, parts)?;
@@ -154,24 +171,24 @@ impl<'a> Report<'a> {
         let Some(program) = &job.program else {
             return Ok(());
         };
-        let sheets: Vec<Sheet> = parts.iter().map(|part| part.sheet.clone()).collect();
-        let failed = |error: std::io::Error| format!("the program: {error}");
+        let sheets: Vec<&Sheet> = parts.iter().map(|part| &part.sheet).collect();
+        let failed = |error: io::Error| format!("the program: {error}");
         let lists = program.decided(&sheets).map_err(failed)?.ok_or(ABSENT)?;
         for (part, list) in parts.iter().zip(&lists) {
-            list.iter().for_each(|branch| self.decided(part, branch));
+            list.iter().try_for_each(|branch| self.decided(part, branch))?;
         }
         let Some(given) = job.given else {
             return Ok(());
         };
         match Program::Frames(given).decided(&sheets).map_err(failed)? {
             None => self.compared = false,
-            Some(due) => self.compare(parts, &due, &lists),
+            Some(due) => self.compare(parts, &due, &lists)?,
         }
         Ok(())
     }
 
     /// One branch as objdump shows it, and its verdict.
-    fn decided(&mut self, part: &Part, branch: &Decided) {
+    fn decided(&mut self, part: &FunctionSheet, branch: &Decided) -> Result<(), String> {
         let line = self.text.line_at(branch.site).expect("a branch stands in a line");
         let name = parts(self.text.lines[line].text).mnemonic;
         let verdict = if branch.always { "always" } else { "never" };
@@ -179,7 +196,7 @@ impl<'a> Report<'a> {
         let site = self.shown(part.function, branch.site);
         let target = self.labels.partition_point(|label| label.address <= branch.target);
         let target = self.shown(target.saturating_sub(1), branch.target);
-        println!("{site} {name} {target} {verdict}");
+        say(format!("{site} {name} {target} {verdict}"))
     }
 
     /// An address with its function, as objdump shows the target of a jump.
@@ -191,47 +208,63 @@ impl<'a> Report<'a> {
         }
     }
 
-    fn compare(&mut self, parts: &[Part], due: &[Vec<Decided>], found: &[Vec<Decided>]) {
+    fn compare(
+        &mut self,
+        parts: &[FunctionSheet],
+        due: &[Vec<Decided>],
+        found: &[Vec<Decided>],
+    ) -> Result<(), String> {
         for ((part, due), found) in parts.iter().zip(due).zip(found) {
             if due == found {
                 continue;
             }
             self.differences += 1;
             if self.differences <= SHOWN {
-                println!("difference in a sheet of <{}>", self.labels[part.function].name);
-                println!("  given:   {due:x?}");
-                println!("  program: {found:x?}");
+                let name = self.labels[part.function].name;
+                say(format!("difference in a sheet of <{name}>"))?;
+                say(format!("  given:   {due:x?}\n  program: {found:x?}"))?;
             }
         }
+        Ok(())
     }
 
-    fn print(&self, job: &Job) {
+    fn totals(&self) -> Vec<String> {
         let counts = &self.counts;
-        println!("functions {}, in {} sheets", counts.functions, self.sheets);
-        println!("  with no instruction: {}", counts.empty);
-        println!("  any instruction may be entered: {}", counts.open);
-        println!("instructions {}", counts.instructions);
-        println!("  calls, returns, system calls, traps: {}", counts.calls);
-        println!("  not known, listed as call-like: {}", counts.all_unknown());
-        println!("blocks cut because they are longer than a sheet: {}", counts.cut);
-        println!("conditional branches {}", counts.branches);
-        println!("  where any instruction may be entered: {}", counts.open_branches);
+        vec![
+            format!("functions {}, in {} sheets", counts.functions, self.sheets),
+            format!("  with no instruction: {}", counts.empty),
+            format!("  any instruction may be entered: {}", counts.open),
+            format!("instructions {}", counts.instructions),
+            format!("  calls, returns, system calls, traps: {}", counts.calls),
+            format!("  not known, listed as call-like: {}", counts.all_unknown()),
+            format!("blocks cut because they are longer than a sheet: {}", counts.cut),
+            format!("conditional branches {}", counts.branches),
+            format!("  where any instruction may be entered: {}", counts.open_branches),
+        ]
+    }
+
+    /// What a program says of the branches, what is not known, and whether the
+    /// given source says the same.
+    fn comparison(&self, job: &Job) -> Vec<String> {
+        let mut lines = Vec::new();
         if job.program.is_some() {
             let always = self.verdicts.values().filter(|always| **always).count();
             let never = self.verdicts.len() - always;
-            let undecided = counts.branches - self.verdicts.len();
-            println!("  always {always}, never {never}, undecided {undecided}");
+            let undecided = self.counts.branches - self.verdicts.len();
+            lines.push(format!("  always {always}, never {never}, undecided {undecided}"));
         }
-        if !counts.unknown.is_empty() {
-            println!("not known: {}", most_first(counts));
+        if !self.counts.unknown.is_empty() {
+            lines.push(format!("not known: {}", most_first(&self.counts)));
         }
         match job.given {
             Some(_) if self.compared => {
-                println!("compared {} sheets, differences {}", self.sheets, self.differences);
+                let (sheets, differences) = (self.sheets, self.differences);
+                lines.push(format!("compared {sheets} sheets, differences {differences}"));
             }
-            Some(_) => println!("{ABSENT}"),
+            Some(_) => lines.push(ABSENT.to_string()),
             None => {}
         }
+        lines
     }
 }
 
@@ -244,7 +277,7 @@ fn most_first(counts: &Counts) -> String {
 }
 
 /// Stores sheets, each under its first address.
-fn save(folder: &str, parts: &[Part]) -> Result<(), String> {
+fn save(folder: &str, parts: &[FunctionSheet]) -> Result<(), String> {
     for part in parts {
         let path = format!("{folder}/{:x}.sheet", part.sheet.instructions[0].address);
         fs::write(&path, encode(&part.sheet).bytes).map_err(|error| format!("{path}: {error}"))?;

@@ -2,8 +2,8 @@
 //! instruction may be entered.
 //!
 //! The code is cut at labels and at the ends of known functions. Two parts are
-//! joined where control can go from one into the other other than by a call or
-//! a jump to the start of a function. A part is open, and all that is joined
+//! joined where control can go from one into the other, but for calls and jumps
+//! to the start of a function. A part is open, and all that is joined
 //! with it, if it has a jump to an address that is not in the text, or is
 //! entered between two of the instructions that are shown.
 
@@ -14,17 +14,17 @@ use crate::disassembly::text::Disassembly;
 use std::collections::{HashMap, HashSet};
 
 /// Parts of the code, each with the one that stands for all it is joined with.
-struct Parts {
+struct CodeParts {
     starts: Vec<u64>,
     parent: Vec<usize>,
 }
 
-impl Parts {
-    fn new(mut starts: Vec<u64>) -> Parts {
+impl CodeParts {
+    fn new(mut starts: Vec<u64>) -> CodeParts {
         starts.sort_unstable();
         starts.dedup();
         let parent = (0..starts.len()).collect();
-        Parts { starts, parent }
+        CodeParts { starts, parent }
     }
 
     /// The part with this address; the first for what comes before it.
@@ -57,7 +57,7 @@ pub fn open_lines(text: &Disassembly, control: &ControlFlow, outside: &Outside) 
     let labels = text.labels.iter().map(|label| label.address);
     let ends = outside.functions.iter().flat_map(|span| [span.start, span.end]);
     let first = text.lines.first().map(|line| line.address);
-    let mut parts = Parts::new(labels.chain(ends).chain(first).collect());
+    let mut parts = CodeParts::new(labels.chain(ends).chain(first).collect());
     outside.functions.iter().for_each(|span| parts.join_span(*span));
     join_cold(text, &mut parts);
     join_following(text, &control.steps, outside, &mut parts);
@@ -72,7 +72,7 @@ pub fn open_lines(text: &Disassembly, control: &ControlFlow, outside: &Outside) 
 }
 
 /// Joins what the compiler has moved away from a function, by its name.
-fn join_cold(text: &Disassembly, parts: &mut Parts) {
+fn join_cold(text: &Disassembly, parts: &mut CodeParts) {
     let mut cold: HashMap<&str, Vec<u64>> = HashMap::new();
     for label in &text.labels {
         if let Some((name, _)) = label.name.split_once(".cold") {
@@ -87,7 +87,7 @@ fn join_cold(text: &Disassembly, parts: &mut Parts) {
 }
 
 /// Joins a part with the next where control goes on from one to the other.
-fn join_following(text: &Disassembly, steps: &[Step], outside: &Outside, parts: &mut Parts) {
+fn join_following(text: &Disassembly, steps: &[Step], outside: &Outside, parts: &mut CodeParts) {
     let ends: HashSet<u64> = outside.functions.iter().map(|span| span.end).collect();
     let mut last = None;
     for (number, line) in text.lines.iter().enumerate() {
@@ -119,7 +119,7 @@ fn goes_on(step: Step, function_ends: bool) -> bool {
 
 /// Joins two parts where one jumps into the other. A jump to the start of a
 /// known function, or to a linkage stub, is a call that does not come back.
-fn join_jumps(text: &Disassembly, steps: &[Step], outside: &Outside, parts: &mut Parts) {
+fn join_jumps(text: &Disassembly, steps: &[Step], outside: &Outside, parts: &mut CodeParts) {
     let starts: HashSet<u64> = outside.functions.iter().map(|span| span.start).collect();
     for (line, step) in text.lines.iter().zip(steps) {
         let target = match step.flow {
@@ -137,7 +137,7 @@ fn open_parts(
     text: &Disassembly,
     control: &ControlFlow,
     outside: &Outside,
-    parts: &Parts,
+    parts: &CodeParts,
 ) -> HashSet<usize> {
     let steps = text.lines.iter().zip(&control.steps);
     let indirect = steps.filter(|(_, step)| step.flow == Flow::IndirectJump);

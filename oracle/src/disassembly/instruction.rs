@@ -214,7 +214,7 @@ impl<'a> Reading<'a> {
             (mnemonic::STC..=mnemonic::CMC, []) => Instruction { mnemonic: number, ..self.plain() },
             (mnemonic::MOV, [first, second]) => self.mov(*first, *second)?,
             (mnemonic::ADD..=mnemonic::TEST, [first, second]) => {
-                self.binary(number, *first, *second)?
+                self.two(number, *first, *second, flag::ALL)?
             }
             (mnemonic::NOT, [first]) => self.unary(number, *first, 0)?,
             (mnemonic::INC | mnemonic::DEC, [first]) => {
@@ -243,10 +243,6 @@ impl<'a> Reading<'a> {
             instruction.flags = Some(flag::ALL);
         }
         Some(instruction)
-    }
-
-    fn binary(&self, number: u8, first: Operand, second: Operand) -> Option<Instruction> {
-        self.two(number, first, second, flag::ALL)
     }
 
     /// With memory first the instruction is not modelled, and its flags are

@@ -26,7 +26,7 @@ pub enum Program<'a> {
 impl Program<'_> {
     /// The decided branches of each sheet; nothing where the given source is
     /// absent.
-    pub fn decided(&self, sheets: &[Sheet]) -> io::Result<Option<Vec<Vec<Decided>>>> {
+    pub fn decided(&self, sheets: &[&Sheet]) -> io::Result<Option<Vec<Vec<Decided>>>> {
         match self {
             Program::Frames(path) => by_frames(path, sheets),
             Program::Listing(path) => {
@@ -37,7 +37,7 @@ impl Program<'_> {
     }
 }
 
-fn by_frames(path: &str, sheets: &[Sheet]) -> io::Result<Option<Vec<Vec<Decided>>>> {
+fn by_frames(path: &str, sheets: &[&Sheet]) -> io::Result<Option<Vec<Vec<Decided>>>> {
     let mut input = Vec::new();
     sheets.iter().for_each(|sheet| ask_blocks(&mut input, &encode(sheet).bytes));
     let lines = run(&[path.to_string()], input)?;
@@ -89,6 +89,9 @@ fn by_listing(path: &str, sheet: &Sheet) -> io::Result<Vec<Decided>> {
     stdin.write_all(&encode(sheet).bytes)?;
     drop(stdin);
     let output = child.wait_with_output()?;
+    if !output.status.success() {
+        return Err(io::Error::other(format!("the program ended with {}", output.status)));
+    }
     let text = String::from_utf8_lossy(&output.stdout).to_string();
     of_listing(&text).ok_or_else(|| io::Error::other(format!("the listing is: {text}")))
 }

@@ -20,7 +20,7 @@ const BLOCK: usize = 16;
 
 /// A sheet with the number of its function's label.
 #[derive(Debug)]
-pub struct Part {
+pub struct FunctionSheet {
     pub function: usize,
     pub sheet: Sheet,
 }
@@ -59,7 +59,7 @@ pub fn functions<'a>(text: &Disassembly<'a>) -> Vec<(Label<'a>, Range<usize>)> {
 /// The sheets of one function, being filled.
 struct Cutter<'a> {
     function: usize,
-    filled: &'a mut Vec<Part>,
+    filled: &'a mut Vec<FunctionSheet>,
     sheet: Sheet,
     bytes: usize,
 }
@@ -68,7 +68,7 @@ impl Cutter<'_> {
     fn finish(&mut self) {
         let sheet = std::mem::take(&mut self.sheet);
         if !sheet.instructions.is_empty() {
-            self.filled.push(Part { function: self.function, sheet });
+            self.filled.push(FunctionSheet { function: self.function, sheet });
         }
         self.bytes = EMPTY;
     }
@@ -111,12 +111,12 @@ fn pieces(instructions: Vec<Instruction>) -> Vec<(Vec<Instruction>, usize)> {
 }
 
 /// The sheets of one function.
-pub fn parts(
+pub fn of_function(
     text: &Disassembly,
     leaders: &Leaders,
     (function, lines): (usize, Range<usize>),
     counts: &mut Counts,
-) -> Vec<Part> {
+) -> Vec<FunctionSheet> {
     counts.functions += 1;
     counts.empty += usize::from(lines.is_empty());
     counts.open += usize::from(leaders.open[lines.clone()].contains(&true));

@@ -5,7 +5,7 @@ use crate::disassembly::control_flow::{self, Outside};
 use crate::disassembly::elf::{self, Span};
 use crate::disassembly::instruction::{listed, Flow, Standing};
 use crate::disassembly::judge::of_listing;
-use crate::disassembly::sheets::{self, Counts, Part};
+use crate::disassembly::sheets::{self, Counts, FunctionSheet};
 use crate::disassembly::steps::{changes, Changes};
 use crate::disassembly::text::{self, Disassembly, Line};
 use crate::disassembly::{pointers, table, unwinding};
@@ -305,12 +305,14 @@ fn jumps_of_stubs_and_through_slots_go_to_functions() {
     assert_eq!(leaders(&text, &control, &Outside::default()).open, [false; 2]);
 }
 
-fn all_parts(text: &Disassembly, counts: &mut Counts) -> Vec<Part> {
+fn all_parts(text: &Disassembly, counts: &mut Counts) -> Vec<FunctionSheet> {
     let control = control_flow::read(text, &Outside::default());
     let leaders = leaders(text, &control, &Outside::default());
     let functions = sheets::functions(text).into_iter().enumerate();
     functions
-        .flat_map(|(number, (_, lines))| sheets::parts(text, &leaders, (number, lines), counts))
+        .flat_map(|(number, (_, lines))| {
+            sheets::of_function(text, &leaders, (number, lines), counts)
+        })
         .collect()
 }
 
