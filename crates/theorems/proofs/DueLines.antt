@@ -1,7 +1,7 @@
 -- The lines of the listing are those due. In the instructions' order each branch that is decided has one, so they rise by site.
 use Prim.Native.Nat.{ℕ, zero, suc, _+_, _^_, _<_, _≤_}
 use mathlib.Core.Path.{_≡_, refl, ap, subst, _∙_}
-use mathlib.Core.Bool.{Bool, true, false, cond, _&&_, _||_}
+use mathlib.Core.Bool.{Bool, true, false, cond, _&&_}
 use mathlib.Core.List.{List, [], _∷_, _++_, map}
 use mathlib.Core.Option.{Option, none, some}
 use mathlib.Core.Logic.{_⊎_, inl, inr, ⊎-elim}
@@ -9,6 +9,7 @@ use native.Mathlib.Omega.{arith}
 use lib.Dec.{eqb, leb, ltb}
 use lib.ListN.{length, getD}
 use borrow.Author.Tests.{eqb-true, eqb-false, eq-eqb, ne-eqb}
+use Rattle.laws.proofs.Booleans.{byTest}
 use Rattle.isa.specs.declared.Instruction.{Instruction}
 use Rattle.sheet.specs.declared.Sheet.{Sheet}
 use Rattle.sheet.specs.declared.Reading.the-variants as reading
@@ -233,12 +234,8 @@ within-among from to (i ∷ l) a h = go (leb from (i .address) && ltb (i .addres
 branch-among : (code : List Instruction) (a : ℕ) → branchAt code a ≡ true → Among a code
 unfolding branchAt Among
 branch-among [] a e = let z : _≡_ {A = ℕ} 0 1 = cc in absurd (omega arith)
-branch-among (i ∷ code) a e = go (eqb (i .address) a) refl e (branch-among code a)
-  where
-    go : (t : Bool) → eqb (i .address) a ≡ t → ((t && i .branch) || branchAt code a) ≡ true → (branchAt code a ≡ true → Among a code)
-        → (i .address ≡ a) ⊎ Among a code
-    go true t e rest = inl (eqb-true (i .address) a t)
-    go false t e rest = inr (rest e)
+branch-among (i ∷ code) a e =
+    byTest (eqb (i .address) a) (λ t. inl (eqb-true (i .address) a t)) (λ t. inr (branch-among code a (rw t at e)))
 
 jump-among : (code : List Instruction) (l : List ℕ) (a : ℕ) → lastBranch code l ≡ some a → Among a code
 unfolding lastBranch
