@@ -11,7 +11,6 @@ use borrow.Author.Tests.{eqb-true, eqb-false}
 use Rattle.laws.proofs.Booleans.{or-left, or-right, byTest}
 use Rattle.expr.specs.Tree.{Expr, Wf, treeOf, tagOf}
 use Rattle.expr.specs.Tree.Expr.{variable, constant, conditionTrue, conditionFalse, effect, load, cast, binary, ternary}
-use Rattle.expr.specs.Scan.{hasOwnValue, sameTree}
 use Rattle.expr.proofs.Laws.{kind-of}
 use Rattle.expr.proofs.Parts.{root}
 use Rattle.expr.proofs.Children.{cast-child}
@@ -19,7 +18,7 @@ use Rattle.parity.specs.Parity.{parity, rightLow, difference, few}
 use Rattle.verdict.specs.declared.Reason.the-variants.{EqualSides, Truth, Parity}
 use Rattle.verdict.specs.declared.Verdict.{Verdict}
 use Rattle.verdict.specs.declared.Verdict.the-variants.{Always, Never, Undecided, NoBranch}
-use Rattle.exact.specs.Exact.{isConstant, exact, written, exactFits, compared, isOne}
+use Rattle.exact.specs.Exact.{sameSides, isConstant, exact, written, exactFits, compared, isOne}
 use Rattle.decide.specs.Decide.{said, saidIf, asked, orElse, ofEqual, equalSides, oddSides, onExact, equality, unsignedCast, aboveZero, mirrored, unsignedZero, both, either, byOperator, decide, equalityFits, fits}
 use Rattle.exact.specs.declared.Known.{Known}
 use Rattle.exact.specs.declared.Parted as Parted
@@ -39,13 +38,10 @@ buffers-kept b l k m = record {
 
 -- equal sides, by the operator
 module _ (o : ℕ) (a b : Expr) where
-  abbrev alike : Bool
-  alike = sameTree a b && not (hasOwnValue a)
-
-  pub sides-differ : alike ≡ false → Undecided ≡ equalSides o a b
+  pub sides-differ : sameSides a b ≡ false → Undecided ≡ equalSides o a b
   sides-differ h = rw h
 
-  pub sides-equal : {r : Verdict} → alike ≡ true → r ≡ saidIf EqualSides (ofEqual o) → r ≡ equalSides o a b
+  pub sides-equal : {r : Verdict} → sameSides a b ≡ true → r ≡ saidIf EqualSides (ofEqual o) → r ≡ equalSides o a b
   sides-equal h e = rw h e
 
 -- an equality's answer and limits from those of its steps
@@ -169,7 +165,7 @@ module _ (o : ℕ) (a b : Expr) where
   pub logic : (eqb o 16 || eqb o 17) ≡ true
       → answered (fits a && fits b) (cond (eqb o 16) (both (decide a) (decide b)) (either (decide a) (decide b))) ≡ answered (fits (binary o a b)) (decide (binary o a b))
   unfolding decide fits
-  logic h = byTest (eqb o 16) (λ t. rw (eqb-true o 16 t) (rw (either-way (alike o a b) Undecided))) (λ t. rw (eqb-true o 17 (rw t at h)) (rw (either-way (alike o a b) Undecided)))
+  logic h = byTest (eqb o 16) (λ t. rw (eqb-true o 16 t) (rw (either-way (sameSides a b) Undecided))) (λ t. rw (eqb-true o 17 (rw t at h)) (rw (either-way (sameSides a b) Undecided)))
 
   pub same-or-not : (eqb o 10 || eqb o 11) ≡ true
       → answered (equalityFits a b) (orElse (equalSides o a b) (equality (eqb o 10) a b)) ≡ answered (fits (binary o a b)) (decide (binary o a b))

@@ -15,7 +15,6 @@ use lib.Signed.{ltZ}
 use borrow.Author.Tests.{le-ltb, eq-eqb, ne-eqb, eqb-true, eqb-false}
 use Rattle.expr.specs.Tree.{Expr}
 use Rattle.expr.specs.Tree.Expr.{variable, constant, conditionTrue, conditionFalse, effect, load, cast, binary, ternary}
-use Rattle.expr.specs.Scan.{hasOwnValue, sameTree}
 use Rattle.expr.specs.Types.{bits, signed, typeOf, together}
 use Rattle.arith.specs.Numbers.{negative, number, convert, below, atMost}
 use Rattle.arith.proofs.Laws.{at-most, number-plain, some as some′}
@@ -31,7 +30,7 @@ use Rattle.verdict.specs.declared.Reason.{Reason}
 use Rattle.verdict.specs.declared.Reason.the-variants.{EqualSides, UnsignedZero, ExactSides, Parity}
 use Rattle.verdict.specs.declared.Verdict.{Verdict}
 use Rattle.verdict.specs.declared.Verdict.the-variants.{Always, Never, Undecided, NoBranch}
-use Rattle.exact.specs.Exact.{isOne, isConstant, exact, written, compared, exactSides}
+use Rattle.exact.specs.Exact.{sameSides, isOne, isConstant, exact, written, compared, exactSides}
 use Rattle.decide.specs.Decide.{said, saidIf, orElse, ofEqual, equalSides, asked, oddSides, onExact, equality, unsignedCast, unsignedZero, both, either, byOperator, decide}
 use Rattle.parity.specs.Parity.{parity, difference}
 use Rattle.parity.specs.LowBit.{bit, lowBit, low, Has, sharedBits, ownBits}
@@ -276,18 +275,17 @@ module _ (types : List ℕ) (ρ σ : Values) (m : Contents) where
     w = at (under 1 f) b
 
     fold-meets : (o : ℕ) → Has (operate o s t u w) → Meets (equalSides o a b) (truthOf (operate o s t u w))
-    fold-meets o h = go (sameTree a b) refl (hasOwnValue a) refl (ofEqual o) refl
+    fold-meets o h = go (sameSides a b) refl (ofEqual o) refl
       where
-        go : (same : Bool) → sameTree a b ≡ same → (own : Bool) → hasOwnValue a ≡ own → (k : Option Bool) → ofEqual o ≡ k
-            → Meets (cond (same && not own) (saidIf EqualSides k) Undecided) (truthOf (operate o s t u w))
-        go false is own plain k found = tt
-        go true is true plain k found = tt
-        go true is false plain none found = tt
-        go true is false plain (some c) found =
+        go : (same : Bool) → sameSides a b ≡ same → (k : Option Bool) → ofEqual o ≡ k
+            → Meets (cond same (saidIf EqualSides k) Undecided) (truthOf (operate o s t u w))
+        go false is k found = tt
+        go true is none found = tt
+        go true is (some c) found =
             let equal = equal-truths o c found in
             let z = value-of (operate o s t u w) h in
             let d = operands types ρ σ m o s t u w (z .pattern′) (equal .compares) (z .is) in
-            let one = one-value types ρ σ m f a b fit 0 is plain in
+            let one = one-value types ρ σ m f a b fit 0 is in
             let alike : w ≡ Of (d .x) = sym (one .1) ∙ d .left in
             meets-said EqualSides c (truthOf (operate o s t u w))
             (ap truthOf (ap₂ (operate o s t) (d .left) alike ∙ ap (λ (q : ℕ). operate o s q (Of (d .x)) (Of (d .x))) (sym (one .0))) ∙ equal .truth s (d .x))

@@ -8,13 +8,12 @@ use lib.Dec.{eqb}
 use Rattle.expr.specs.Codes.{opEqual, opGreater, opGreaterEqual, opLess, opLessEqual, opLogicalAnd, opLogicalOr, opNotEqual, pointer, unsigned16, unsigned32, unsigned64, unsigned8}
 use Rattle.expr.specs.Tree.{Expr}
 use Rattle.expr.specs.Tree.Expr.{variable, constant, conditionTrue, conditionFalse, effect, load, cast, binary, ternary}
-use Rattle.expr.specs.Scan.{hasOwnValue, sameTree}
 use Rattle.verdict.specs.declared.Reason.{Reason}
 use Rattle.verdict.specs.declared.Reason.the-variants.{EqualSides, Truth, UnsignedZero, ExactSides, Parity, Halves}
 use Rattle.verdict.specs.declared.Verdict.{Verdict}
 use Rattle.verdict.specs.declared.Verdict.the-variants.{Always, Never, Undecided, NoBranch}
 use Rattle.parity.specs.Parity.{parity, rightLow, difference, few}
-use Rattle.exact.specs.Exact.{isConstant, isOne, exactFits, exactSides}
+use Rattle.exact.specs.Exact.{sameSides, isConstant, isOne, exactFits, exactSides}
 
 -- always where it holds, never where it fails
 abbrev pub said : Reason → Bool → Verdict
@@ -40,7 +39,7 @@ ofEqual o =
 
 -- Equal sides without an effect decide a comparison (N3, N17).
 abbrev pub equalSides : ℕ → Expr → Expr → Verdict
-equalSides o a b = cond (sameTree a b && not (hasOwnValue a)) (saidIf EqualSides (ofEqual o)) Undecided
+equalSides o a b = cond (sameSides a b) (saidIf EqualSides (ofEqual o)) Undecided
 
 -- == where the first is true, else !=: from whether the sides are equal
 abbrev pub asked : Bool → Bool → Bool

@@ -12,7 +12,8 @@ use lib.Bits.{bitAnd, bitXor, and-comm, and-zero-l, and-zero-r, xor-self, and-ma
 use lib.Dec.{eqb, leb, ltb}
 use lib.IntN.{ℤ, pos, negsuc, negℤ, natAbs}
 use lib.Signed.{remZ}
-use borrow.Author.Tests.{ne-eqb, eqb-true, leb-true, lt-leb}
+use borrow.Author.Tests.{not-true, ne-eqb, eqb-true, leb-true, lt-leb}
+use Rattle.laws.proofs.Booleans.{and-left as left-holds, and-right as right-holds}
 use Rattle.expr.specs.Tree.{Expr}
 use Rattle.expr.specs.Tree.Expr.{variable, constant, conditionTrue, conditionFalse, effect, load, cast, binary, ternary}
 use Rattle.expr.specs.Scan.{hasOwnValue, sameTree}
@@ -26,7 +27,7 @@ use Rattle.value.specs.Evaluation.{Values, Contents, Effects, under, shared, ev
 use Rattle.poly.specs.Meaning.{value}
 use Rattle.poly.proofs.Values.{value-one}
 use Rattle.parity.specs.Parity.{parity}
-use Rattle.exact.specs.Exact.{Shape, isConstant, decidedBit, low as lowOf, shape, shapeValue, evenOnly, atMostOne, exact}
+use Rattle.exact.specs.Exact.{Shape, sameSides, isConstant, decidedBit, low as lowOf, shape, shapeValue, evenOnly, atMostOne, exact}
 use Rattle.exact.specs.Exact.Shape.{lowLeft, lowRight, even, vanishes, other}
 use Rattle.parity.specs.LowBit.{bit, lowBit, low, Has, sharedBits, ownBits}
 use Rattle.expr.proofs.Sameness.{sameTree-true}
@@ -74,7 +75,7 @@ data Shaped (o : ℕ) (a b : Expr) : Shape → Type 0 where
   low-left : o ≡ 5 → isConstant 1 b ≡ true → Shaped o a b lowLeft
   low-right : o ≡ 5 → isConstant 1 a ≡ true → Shaped o a b lowRight
   rem-two : o ≡ 4 → isConstant 2 b ≡ true → Shaped o a b even
-  same-sides : (o ≡ 1) ⊎ (o ≡ 7) → sameTree a b ≡ true → hasOwnValue a ≡ false → Shaped o a b vanishes
+  same-sides : (o ≡ 1) ⊎ (o ≡ 7) → sameSides a b ≡ true → Shaped o a b vanishes
   zero-left : (o ≡ 5) ⊎ (o ≡ 2) → isConstant 0 a ≡ true → Shaped o a b vanishes
   zero-right : (o ≡ 5) ⊎ (o ≡ 2) → isConstant 0 b ≡ true → Shaped o a b vanishes
   no-shape : Shaped o a b other
@@ -96,24 +97,22 @@ shaped o a b = first (eqb o 5) refl (isConstant 1 b) refl (isConstant 1 a) refl
     rest : Shaped o a b (cond ((eqb o 5 || eqb o 2) && (isConstant 0 a || isConstant 0 b)) vanishes other)
     rest = fourth (eqb o 5) refl (eqb o 2) refl (isConstant 0 a) refl (isConstant 0 b) refl
 
-    third : (x : Bool) → eqb o 1 ≡ x → (y : Bool) → eqb o 7 ≡ y → (s : Bool) → sameTree a b ≡ s → (n : Bool) → hasOwnValue a ≡ n
-        → Shaped o a b (cond ((x || y) && (s && not n)) vanishes (cond ((eqb o 5 || eqb o 2) && (isConstant 0 a || isConstant 0 b)) vanishes other))
-    third true e y g true same false plain = same-sides (inl (eqb-true o 1 e)) same plain
-    third true e y g true same true plain = rest
-    third true e y g false same n plain = rest
-    third false e true g true same false plain = same-sides (inr (eqb-true o 7 g)) same plain
-    third false e true g true same true plain = rest
-    third false e true g false same n plain = rest
-    third false e false g s same n plain = rest
+    third : (x : Bool) → eqb o 1 ≡ x → (y : Bool) → eqb o 7 ≡ y → (s : Bool) → sameSides a b ≡ s
+        → Shaped o a b (cond ((x || y) && s) vanishes (cond ((eqb o 5 || eqb o 2) && (isConstant 0 a || isConstant 0 b)) vanishes other))
+    third true e y g true same = same-sides (inl (eqb-true o 1 e)) same
+    third true e y g false same = rest
+    third false e true g true same = same-sides (inr (eqb-true o 7 g)) same
+    third false e true g false same = rest
+    third false e false g s same = rest
 
     second : (x : Bool) → eqb o 4 ≡ x → (y : Bool) → isConstant 2 b ≡ y
-        → Shaped o a b (cond (x && y) even (cond ((eqb o 1 || eqb o 7) && (sameTree a b && not (hasOwnValue a))) vanishes (cond ((eqb o 5 || eqb o 2) && (isConstant 0 a || isConstant 0 b)) vanishes other)))
+        → Shaped o a b (cond (x && y) even (cond ((eqb o 1 || eqb o 7) && sameSides a b) vanishes (cond ((eqb o 5 || eqb o 2) && (isConstant 0 a || isConstant 0 b)) vanishes other)))
     second true e true g = rem-two (eqb-true o 4 e) g
-    second true e false g = third (eqb o 1) refl (eqb o 7) refl (sameTree a b) refl (hasOwnValue a) refl
-    second false e y g = third (eqb o 1) refl (eqb o 7) refl (sameTree a b) refl (hasOwnValue a) refl
+    second true e false g = third (eqb o 1) refl (eqb o 7) refl (sameSides a b) refl
+    second false e y g = third (eqb o 1) refl (eqb o 7) refl (sameSides a b) refl
 
     first : (x : Bool) → eqb o 5 ≡ x → (y : Bool) → isConstant 1 b ≡ y → (z : Bool) → isConstant 1 a ≡ z
-        → Shaped o a b (cond (x && y) lowLeft (cond (x && z) lowRight (cond (eqb o 4 && isConstant 2 b) even (cond ((eqb o 1 || eqb o 7) && (sameTree a b && not (hasOwnValue a))) vanishes (cond ((eqb o 5 || eqb o 2) && (isConstant 0 a || isConstant 0 b)) vanishes other)))))
+        → Shaped o a b (cond (x && y) lowLeft (cond (x && z) lowRight (cond (eqb o 4 && isConstant 2 b) even (cond ((eqb o 1 || eqb o 7) && sameSides a b) vanishes (cond ((eqb o 5 || eqb o 2) && (isConstant 0 a || isConstant 0 b)) vanishes other)))))
     first true e true g z h = low-left (eqb-true o 5 e) g
     first true e false g true h = low-right (eqb-true o 5 e) h
     first true e false g false h = second (eqb o 4) refl (isConstant 2 b) refl
@@ -304,9 +303,10 @@ module _ (types : List ℕ) (ρ σ : Values) (m : Contents) where
     typed-right n e = rw e at (ev-typed types ρ σ (shared m) (under 1 f) b)
 
     -- equal sides without an effect have one value
-    pub one-value : sameTree a b ≡ true → hasOwnValue a ≡ false → (s ≡ t) × (u ≡ w)
-    one-value same plain =
-        let is = sameTree-true a b same in
+    pub one-value : sameSides a b ≡ true → (s ≡ t) × (u ≡ w)
+    one-value same =
+        let is = sameTree-true a b (left-holds _ _ same) in
+        let plain : hasOwnValue a ≡ false = not-true _ (right-holds (sameTree a b) _ same) in
         (ap (typeOf types) is, without-effect types ρ σ (shared m) (under 0 f) (under 1 f) a plain ∙ ap (at (under 1 f)) is)
 
     same-zero : (o n k : ℕ) → (o ≡ 1) ⊎ (o ≡ 7) → s ≡ t → u ≡ Of n → w ≡ Of k → n ≡ k → operate o s t u w ≡ Of x → x ≡ 0
@@ -341,9 +341,9 @@ module _ (types : List ℕ) (ρ σ : Values) (m : Contents) where
                 none-small x v e″
                 (rem-even s t (d .x) (d .y) x (typed-left (d .x) (d .left)) (typed-right (d .y) (d .right)) (c .1)
                 (low-value (under 0 f) a n (d .x) found′ (d .left) ∙ eqb-true n 0 test) e‴)
-    binary-exact o v k (same-sides is same plain) found e =
+    binary-exact o v k (same-sides is same) found e =
         let d = operands o s t u w x (below-16 is) e in
-        let one = one-value same plain in
+        let one = one-value same in
         none-small x v found (same-zero o (d .x) (d .y) is (one .0) (d .left) (d .right) (value-is (sym (d .left) ∙ one .1 ∙ d .right)) e)
     binary-exact o v k (zero-left is none′) found e = none-small x v found (go is)
       where

@@ -11,7 +11,6 @@ use lib.Seq.{take-length}
 use borrow.Author.Tests.{eq-eqb, ne-eqb}
 use Rattle.expr.specs.Tree.{Expr, Wf, treeOf, tagOf}
 use Rattle.expr.specs.Tree.Expr.{variable, constant, conditionTrue, conditionFalse, effect, load, cast, binary, ternary}
-use Rattle.expr.specs.Scan.{hasOwnValue, sameTree}
 use Rattle.expr.proofs.Laws.{kind-of}
 use Rattle.expr.proofs.Parts.{root}
 use Rattle.parity.specs.Parity.{Low, parity, difference}
@@ -23,7 +22,7 @@ use Rattle.parity.specs.declared.Size.the-variants as sizes
 use Rattle.parity.specs.Lent.{optionOf, pairOf, atomsAt, Parts, Lent, Given}
 use Rattle.parity.proofs.Steps.{Told, told, passed}
 use Rattle.exact.specs.Exact as Exact
-use Rattle.exact.specs.Exact.{valued, isConstant, decidedBit, low, shape, atMostOne, evenOnly, shapeValue, exact, shapeWritten, written, shapeFits, exactFits, isOne}
+use Rattle.exact.specs.Exact.{sameSides, valued, isConstant, decidedBit, low, shape, atMostOne, evenOnly, shapeValue, exact, shapeWritten, written, shapeFits, exactFits, isOne}
 use Rattle.exact.specs.Exact.Shape.{lowLeft, lowRight, even, vanishes, other}
 use Rattle.exact.specs.declared.Known.{Known}
 use Rattle.exact.specs.declared.Known.the-variants.{Value, Open, TooMany}
@@ -50,7 +49,7 @@ module _ (o : ℕ) (a b : Expr) where
   t3 = eqb o 4 && isConstant 2 b
 
   abbrev t4 : Bool
-  t4 = (eqb o 1 || eqb o 7) && (sameTree a b && not (hasOwnValue a))
+  t4 = (eqb o 1 || eqb o 7) && sameSides a b
 
   abbrev t5 : Bool
   t5 = (eqb o 5 || eqb o 2) && (isConstant 0 a || isConstant 0 b)

@@ -18,6 +18,10 @@ valued (some x) k = eqb x k
 abbrev pub isConstant : ℕ → Expr → Bool
 isConstant k e = valued (constantOf e) k
 
+-- Two sides are equal and have no effect in them (N3, N17).
+abbrev pub sameSides : Expr → Expr → Bool
+sameSides a b = sameTree a b && not (hasOwnValue a)
+
 -- a polynomial is the constant 1
 abbrev pub isOne : List ℕ → Bool
 isOne [] = false
@@ -45,7 +49,7 @@ shape o a b =
     cond (eqb o opAnd && isConstant 1 b) lowLeft
     (cond (eqb o opAnd && isConstant 1 a) lowRight
     (cond (eqb o opMod && isConstant 2 b) even
-    (cond ((eqb o opSub || eqb o opXor) && (sameTree a b && not (hasOwnValue a))) vanishes
+    (cond ((eqb o opSub || eqb o opXor) && sameSides a b) vanishes
     (cond ((eqb o opAnd || eqb o opMul) && (isConstant 0 a || isConstant 0 b)) vanishes other))))
 
 -- a value that a cast to any type keeps

@@ -4,15 +4,13 @@ use parity::Constant;
 use parity::Pair;
 use parity::Size;
 ghost use mathlib.Core.Path.{_≡_};
-ghost use mathlib.Core.Bool.{not, _&&_};
 ghost use mathlib.Core.List.{[]};
 ghost use Prim.Native.Nat.{_≤_};
 ghost use lib.ListN.{length};
 ghost use Rattle.expr.specs.Tree.{Wf, treeOf};
-ghost use Rattle.expr.specs.Scan.{hasOwnValue, sameTree};
 ghost use Rattle.parity.specs.Parity.{parity as parityOf, difference};
 ghost use Rattle.parity.specs.Lent.{LentTwo};
-ghost use Rattle.exact.specs.Exact.{isConstant, isOne, low, shape, exact as exactOf, written as writtenOf, exactFits};
+ghost use Rattle.exact.specs.Exact.{isConstant, sameSides, isOne, low, shape, exact as exactOf, written as writtenOf, exactFits};
 ghost use Rattle.exact.specs.Answers.{Buffers, shapeOf, known, castKnown, evenKnown, sumFits, parted};
 
 // A value that a side has, or that none is known, or that a part passes the limits.
@@ -53,7 +51,7 @@ pub fn is_constant(rs: &[u64], k: u64) -> bool
 pub fn same_sides(left: &[u64], right: &[u64]) -> bool
     requires { ⌜ Wf (now left) ⌝ }
     requires { ⌜ Wf (now right) ⌝ }
-    ensures { λ r. ⌜ r ≡ (sameTree (treeOf (now (left .entry))) (treeOf (now (right .entry))) && not (hasOwnValue (treeOf (now (left .entry))))) ⌝ }
+    ensures { λ r. ⌜ r ≡ sameSides (treeOf (now (left .entry))) (treeOf (now (right .entry))) ⌝ }
 {
     expr::same(left, right) & !expr::has_own_value(left)
 }
