@@ -32,7 +32,7 @@ use Rattle.verdict.specs.declared.Verdict.the-variants as answer
 use Rattle.verdict_block.specs.Verdict.{within, codeOf, Parts, preceded, apart, flagVerdict, judged, verdictAt, endAt, endFrom, endOn, verdictOn, jumpOf}
 use Rattle.verdict_block.specs.Verdict.Parts.{none, ending}
 use Rattle.verdict.specs.declared.Verdict.{Verdict}
-use Rattle.theorems.specs.Runs.{Outcome, runAt, runFrom, runOn}
+use Rattle.theorems.specs.Runs.{Outcome, runAt, runOn}
 use Rattle.theorems.specs.Runs.Outcome.{jumped, nothing}
 
 -- Always means that the branch jumps, never that it does not; the other verdicts say nothing.
@@ -123,7 +123,7 @@ end-right s p (ending before i) free last a agrees =
 -- The theorem: for every accepted sheet and every block of it, whatever the start state and whatever is free.
 pub blocks-right : (s : List ℕ) (sheet : Sheet) → readingOf s ≡ reading.Accepted sheet → (number : ℕ)
     → (start : Processor) (free : ℕ → Choice) (last : Bool) → NotAgainst (verdictOn s number) (runOn s number start free last)
-unfolding verdictOn endOn endFrom runOn runFrom
+unfolding verdictOn endOn endFrom runOn
 blocks-right s sheet read number start free last =
     end-right nothingKnown start (apart (codeOf s number)) free last
     (before-last (codeOf s number) (all-of-block s sheet read number)) (nothing-known start)

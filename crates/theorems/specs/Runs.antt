@@ -4,7 +4,6 @@ use mathlib.Core.Path.{_≡_}
 use mathlib.Core.List.{List}
 use mathlib.Core.Bool.{Bool, cond}
 use Rattle.isa.specs.declared.Mnemonic.{Mnemonic}
-use Rattle.isa.specs.declared.Instruction.{Instruction}
 use Rattle.concrete.specs.Concrete.{Processor, Choice, executedAll, outcome}
 use Rattle.concrete.specs.Agreement.{Agrees}
 use Rattle.machine.specs.declared.State.{State}
@@ -31,12 +30,9 @@ runAt start free last none = nothing
 runAt start free last (ending before i) =
     cond (i .branch) (jumped (outcome (i .mnemonic) (executedAll start before free) last)) nothing
 
-unfoldable pub runFrom : Processor → List Instruction → (ℕ → Choice) → Bool → Outcome
-runFrom start code free last = runAt start free last (apart code)
-
 -- the run of the block of that number
 unfoldable pub runOn : List ℕ → ℕ → Processor → (ℕ → Choice) → Bool → Outcome
-runOn s number start free last = runFrom start (codeOf s number) free last
+runOn s number start free last = runAt start free last (apart (codeOf s number))
 
 -- What a verdict is about, and a line comes from: a block or a node of a sheet, by its number from 0.
 pub data Source : Type 0 where
