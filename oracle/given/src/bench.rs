@@ -7,6 +7,7 @@ use crate::guard;
 use crate::product::Product;
 use oracle::cases::any_sheet::Generator;
 use oracle::cases::{block_sheet, verdict_node};
+use oracle::comparisons::node_times::slowest;
 use oracle::judges::reader::read;
 use oracle::sheets::encode::encode;
 use oracle::sheets::from_text::write;
@@ -166,7 +167,8 @@ fn bytes(sheet: &Sheet) -> Vec<u8> {
 /// The sheets that are timed, each with its name.
 fn sheets() -> Vec<(&'static str, Vec<u8>)> {
     let first = write("insn 0x10 xor eax eax\ninsn 0x12 je target 0x20\nblock 0x10 0x14\n");
-    let fitting = (65_536 - 6) / (bytes(&products(1)).len() - 6);
+    let fitting = |node: usize| (65_536 - 6) / (node - 6);
+    let fitting = [bytes(&products(1)), slowest(1)].map(|sheet| fitting(sheet.len()).min(1_024));
     vec![
         ("one block of two instructions", first.unwrap_or_else(|e| panic!("{e}")).bytes),
         ("one node", bytes(&mixed(0, 1))),
@@ -175,7 +177,8 @@ fn sheets() -> Vec<(&'static str, Vec<u8>)> {
         ("512 blocks, no nodes", bytes(&mixed(512, 0))),
         ("512 blocks, 512 nodes", bytes(&mixed(512, 512))),
         ("1,024 blocks that are the whole code", bytes(&overlapping())),
-        ("nodes of 64 × 64 terms, 64 KiB", bytes(&products(fitting.min(1_024)))),
+        ("nodes of 64 × 64 terms, 64 KiB", bytes(&products(fitting[0]))),
+        ("the slowest nodes known, 64 KiB", slowest(fitting[1])),
     ]
 }
 

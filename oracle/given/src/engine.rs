@@ -17,11 +17,14 @@ use oracle::judges::reader;
 use oracle::judges::substitution::{substitute, Rule};
 use oracle::sheets::syntax as sheet;
 use std::hint::black_box;
-use std::time::Instant;
+use std::time::{Duration, Instant};
 
 /// Records of a substituted expression beyond which a node is not judged:
 /// the given source has no limit, and expressions may double at each step.
 const MOST_RECORDS: usize = 2_000;
+
+/// A node is timed again until this has passed.
+const LONG_ENOUGH: Duration = Duration::from_millis(5);
 
 /// Which nodes are judged: those of the sheet, or ones for which the given
 /// source's own steps give what docs/DIFFERENCES.md says, with the refusals
@@ -181,12 +184,15 @@ pub fn time_line(bytes: &[u8]) -> String {
     };
     let time = |node: &sheet::Node| {
         let (statements, condition) = trees(node, Nodes::AsTheyAre)?;
-        let once = || {
+        let begin = Instant::now();
+        let once = |_| {
             let start = Instant::now();
             let found = guard::limited(|| opaque::node_verdict(&statements, &condition));
             black_box(found).map(|_| start.elapsed().as_nanos())
         };
-        (0..20).map(|_| once()).min().flatten()
+        let first = once(0)?;
+        let others = (1..20).take_while(|_| begin.elapsed() < LONG_ENOUGH).filter_map(once);
+        Some(others.fold(first, u128::min))
     };
     let word = |node| time(node).map_or("-".to_string(), |time| time.to_string());
     sheet.nodes.iter().fold("nodes".to_string(), |line, node| format!("{line} {}", word(node)))
