@@ -235,16 +235,16 @@ impl<'a> Report<'a> {
             format!("  with no instruction: {}", counts.empty),
             format!("  any instruction may be entered: {}", counts.open),
             format!("instructions {}", counts.instructions),
-            format!("  calls, returns, system calls, traps: {}", counts.calls),
-            format!("  not known, listed as call-like: {}", counts.all_unknown()),
+            format!("  calls, returns, indirect jumps, traps: {}", by_name(&counts.calls)),
+            format!("  not known, listed as call-like: {}", by_name(&counts.unknown)),
             format!("blocks cut because they are longer than a sheet: {}", counts.cut),
             format!("conditional branches {}", counts.branches),
             format!("  where any instruction may be entered: {}", counts.open_branches),
         ]
     }
 
-    /// What a program says of the branches, what is not known, and whether the
-    /// given source says the same.
+    /// What a program says of the branches, and whether the given source says the
+    /// same.
     fn comparison(&self, job: &Job) -> Vec<String> {
         let mut lines = Vec::new();
         if job.program.is_some() {
@@ -252,9 +252,6 @@ impl<'a> Report<'a> {
             let never = self.verdicts.len() - always;
             let undecided = self.counts.branches - self.verdicts.len();
             lines.push(format!("  always {always}, never {never}, undecided {undecided}"));
-        }
-        if !self.counts.unknown.is_empty() {
-            lines.push(format!("not known: {}", most_first(&self.counts)));
         }
         match job.given {
             Some(_) if self.compared => {
@@ -268,12 +265,16 @@ impl<'a> Report<'a> {
     }
 }
 
-/// The names of what is not known, the most frequent first.
-fn most_first(counts: &Counts) -> String {
-    let mut list: Vec<(&String, &usize)> = counts.unknown.iter().collect();
+/// How many there are, and how many of each name, the most frequent first.
+fn by_name(counts: &BTreeMap<String, usize>) -> String {
+    let mut list: Vec<(&String, &usize)> = counts.iter().collect();
     list.sort_by_key(|(_, count)| std::cmp::Reverse(**count));
     let words: Vec<String> = list.iter().map(|(name, count)| format!("{name} {count}")).collect();
-    words.join(", ")
+    let all: usize = counts.values().sum();
+    match words.as_slice() {
+        [] => format!("{all}"),
+        _ => format!("{all} ({})", words.join(", ")),
+    }
 }
 
 /// Stores sheets, each under its first address.

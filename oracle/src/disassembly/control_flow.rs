@@ -73,7 +73,7 @@ fn step(line: &Line, parts: &Parts) -> Step {
         ("xchg", [a, b]) => a == b,
         _ => false,
     };
-    Step { flow: listed.flow, padding, call: listed.standing == Standing::Call }
+    Step { flow: listed.flow, padding, call: matches!(listed.standing, Standing::Call(_)) }
 }
 
 /// A return right behind an instruction that puts an address where it is taken

@@ -28,9 +28,9 @@ pub enum Flow {
 pub enum Standing<'a> {
     /// Modelled, declared by the table, or a jump.
     Listed,
-    /// Call-like by its nature.
-    Call,
-    /// Call-like because it is not known; the name that objdump shows.
+    /// Call-like by its nature; the name that objdump shows.
+    Call(&'a str),
+    /// Call-like because it is not known; likewise.
     Unknown(&'a str),
 }
 
@@ -124,7 +124,7 @@ impl<'a> Reading<'a> {
 
     fn call(&self) -> Option<Listed<'a>> {
         let (_, flow) = CALLS.iter().find(|(name, _)| *name == self.parts.mnemonic)?;
-        Some(self.call_like(*flow, Standing::Call))
+        Some(self.call_like(*flow, Standing::Call(self.parts.mnemonic)))
     }
 
     fn jump(&self) -> Option<Listed<'a>> {
@@ -132,7 +132,9 @@ impl<'a> Reading<'a> {
         let name = self.parts.mnemonic.split(',').next().unwrap_or("");
         match (name, self.parts.target()) {
             ("jmp", Some(target)) => Some(self.direct(target)),
-            ("jmp", None) => Some(self.call_like(Flow::IndirectJump, Standing::Call)),
+            ("jmp", None) => {
+                Some(self.call_like(Flow::IndirectJump, Standing::Call(self.parts.mnemonic)))
+            }
             _ if !self.prefixed_by(ON_JUMPS) => None,
             ("loop" | "loope" | "loopne", Some(target)) => {
                 let count = Some(vec![whole(RCX)]);
@@ -148,10 +150,10 @@ impl<'a> Reading<'a> {
     fn direct(&self, target: u64) -> Listed<'a> {
         let name = self.parts.symbol.unwrap_or("");
         if THUNKS.iter().any(|thunk| name.starts_with(thunk)) {
-            return self.call_like(Flow::IndirectJump, Standing::Call);
+            return self.call_like(Flow::IndirectJump, Standing::Call(self.parts.mnemonic));
         }
         if name.starts_with(RETURN_THUNK) {
-            return self.call_like(Flow::Ends, Standing::Call);
+            return self.call_like(Flow::Ends, Standing::Call(self.parts.mnemonic));
         }
         let flow = Flow::Jump(target);
         Listed { instruction: self.plain(), flow, standing: Standing::Listed }

@@ -38,15 +38,10 @@ pub struct Counts {
     pub open_branches: usize,
     /// Blocks that are longer than a sheet, and cut.
     pub cut: usize,
-    pub calls: usize,
-    /// Instructions that are not known, by their names.
+    /// Instructions that are call-like by their nature, by their names.
+    pub calls: BTreeMap<String, usize>,
+    /// Those that are not known.
     pub unknown: BTreeMap<String, usize>,
-}
-
-impl Counts {
-    pub fn all_unknown(&self) -> usize {
-        self.unknown.values().sum()
-    }
 }
 
 /// The line numbers of each label's function: from it to the next label.
@@ -146,7 +141,7 @@ fn counted(text: &Disassembly, number: usize, open: bool, counts: &mut Counts) -
     counts.open_branches += if open { branches } else { 0 };
     match listed.standing {
         Standing::Listed => {}
-        Standing::Call => counts.calls += 1,
+        Standing::Call(name) => *counts.calls.entry(name.to_string()).or_default() += 1,
         Standing::Unknown(name) => *counts.unknown.entry(name.to_string()).or_default() += 1,
     }
     listed.instruction

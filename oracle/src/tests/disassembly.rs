@@ -351,8 +351,9 @@ fn a_sheet_has_the_blocks_of_its_function() {
                insn 0x1003 other call\ninsn 0x1004 other call\n\
                block 0x1000 0x1002\nblock 0x1002 0x1003\nblock 0x1003 0x1005\n";
     assert_eq!(to_text::text(&parts[0].sheet), due);
-    assert_eq!((counts.functions, counts.calls, counts.all_unknown()), (1, 2, 1));
-    assert_eq!(counts.unknown.get("frobnicate"), Some(&1));
+    assert_eq!(counts.functions, 1);
+    assert_eq!(counts.calls, [("ret".to_string(), 2)].into());
+    assert_eq!(counts.unknown, [("frobnicate".to_string(), 1)].into());
 }
 
 /// The program of these tests unwinds, so it has landing pads.
