@@ -138,7 +138,7 @@ pub fn read(text: &str) -> Result<Disassembly<'_>, String> {
             _ => {}
         }
         let section = sections.last_mut().ok_or_else(|| at("no section is named before it"))?;
-        section.take(kind).map_err(|message| at(message))?;
+        section.take(kind).map_err(at)?;
     }
     if !format {
         return Err("no disassembly: no line names a file format".to_string());
