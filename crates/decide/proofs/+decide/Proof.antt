@@ -1,15 +1,16 @@
 -- The proof of the cycle of calls {decide}: it calls itself on the halves of && and ||, so the measure is the words. Each case is a
 -- law of proofs/Judged.antt. Assumes nothing.
-use Prim.Native.Nat.{ℕ, _-_, _<_}
+use Prim.Native.Nat.{ℕ, _-_, _/_, _<_}
 use mathlib.Core.Path.{sym, _∙_}
 use native.Mathlib.Omega.{arith}
-use lib.ListN.{length, length-take}
+use lib.ListN.{length, getD, length-take}
 use borrow.Author.Needs.{needs}
 use borrow.Fn.Kinds.{In}
 use borrow.Fn.PlainCycle.{Measures, is, falls, and}
-use Rattle.expr.proofs.Children.{root-kind, binary-children, has-children}
+use Rattle.expr.proofs.Children.{TwoChildren, root-kind, binary-children, has-children}
 use Rattle.expr.proofs.Laws.{wf-two}
 use Rattle.expr.proofs.Parts.{root-place}
+use Rattle.expr.specs.Tree.Expr.{binary}
 use Rattle.expr.proofs.argument.Reads as argument-reads
 use Rattle.expr.proofs.kind.Reads as kind-reads
 use Rattle.expr.proofs.last_start.Reads as last-start-reads
@@ -36,6 +37,11 @@ decide-below t = and 4 decide-kinds.ps (falls 4 decide-kinds.ps _<_ μ-decide t)
 
 abbrev K-decide : ℕ → decide-lts.Claims
 K-decide t = (kind-reads.Asked, kind-reads.Learnt, last-start-reads.Asked, last-start-reads.Learnt, argument-reads.Asked, argument-reads.Learnt, decide-below t, decide.Post, halves-reads.Asked, halves-reads.Learnt, equality-reads.Asked, equality-reads.Learnt, relation-reads.Asked, relation-reads.Learnt)
+
+-- the two sides of the operator
+decide-two : (t : ℕ) (c : decide-lts.After-last-start (K-decide t) (decide-at t) decide.Post)
+    → let ws = c .before .before .before .before .before .before .before .before .before .before .before .args .rs .now in TwoChildren ws (length ws - 2) (c .last-start .result) (binary (getD ws (length ws - 2) 0 / 16))
+decide-two t c = binary-children (c .before .before .before .before .before .before .before .before .before .before .before .args .rs .now) (length (c .before .before .before .before .before .before .before .before .before .before .before .args .rs .now) - 2) (c .before .before .before .before .before .before .before .before .before .before .before .pre .1 .0) (root-place (c .before .before .before .before .before .before .before .before .before .before .before .args .rs .now) (c .before .before .before .before .before .before .before .before .before .before .before .pre .1 .0)) (c .last-start .result) (c .last-start .ensures) (sym (c .before .before .before .before .before .kind .ensures) ∙ c .before .before .if3 .left)
 
 decide-sub-n : (t : ℕ) → decide-lts.Need-sub-n (K-decide t) (decide-at t) decide.Post
 decide-sub-n t c = omega (arith, wf-two (c .before .before .before .before .args .rs .now) (c .before .before .before .before .pre .1 .0))
@@ -65,16 +71,16 @@ decide-last-start-requires : (t : ℕ) → decide-lts.Need-last-start-requires (
 decide-last-start-requires t c κs = has-children (c .before .before .before .before .before .before .before .before .before .before .args .rs .now) (length (c .before .before .before .before .before .before .before .before .before .before .args .rs .now) - 2) (c .before .before .before .before .before .before .before .before .before .before .pre .1 .0) (root-place (c .before .before .before .before .before .before .before .before .before .before .args .rs .now) (c .before .before .before .before .before .before .before .before .before .before .pre .1 .0)) (omega (arith, (sym (c .before .before .before .before .kind .ensures) ∙ c .before .if3 .left)))
 
 decide-slice-aggregate-left : (t : ℕ) → decide-lts.Need-slice-aggregate-left (K-decide t) (decide-at t) decide.Post
-decide-slice-aggregate-left t c = omega (arith, (binary-children (c .before .before .before .before .before .before .before .before .before .before .before .before .args .rs .now) (length (c .before .before .before .before .before .before .before .before .before .before .before .before .args .rs .now) - 2) (c .before .before .before .before .before .before .before .before .before .before .before .before .pre .1 .0) (root-place (c .before .before .before .before .before .before .before .before .before .before .before .before .args .rs .now) (c .before .before .before .before .before .before .before .before .before .before .before .before .pre .1 .0)) (c .before .last-start .result) (c .before .last-start .ensures) (sym (c .before .before .before .before .before .before .kind .ensures) ∙ c .before .before .before .if3 .left)) .within, length-take (c .before .last-start .result) (c .before .before .before .before .before .before .before .before .before .before .before .before .args .rs .now))
+decide-slice-aggregate-left t c = omega (arith, (decide-two t (c .before)) .within, length-take (c .before .last-start .result) (c .before .before .before .before .before .before .before .before .before .before .before .before .args .rs .now))
 
 decide-mul-right : (t : ℕ) → decide-lts.Need-mul-right (K-decide t) (decide-at t) decide.Post
-decide-mul-right t c = omega (arith, (binary-children (c .before .before .before .before .before .before .before .before .before .before .before .before .args .rs .now) (length (c .before .before .before .before .before .before .before .before .before .before .before .before .args .rs .now) - 2) (c .before .before .before .before .before .before .before .before .before .before .before .before .pre .1 .0) (root-place (c .before .before .before .before .before .before .before .before .before .before .before .before .args .rs .now) (c .before .before .before .before .before .before .before .before .before .before .before .before .pre .1 .0)) (c .before .last-start .result) (c .before .last-start .ensures) (sym (c .before .before .before .before .before .before .kind .ensures) ∙ c .before .before .before .if3 .left)) .within, c .before .before .before .before .before .before .before .before .before .before .before .before .pre .1 .1 .0)
+decide-mul-right t c = omega (arith, (decide-two t (c .before)) .within, c .before .before .before .before .before .before .before .before .before .before .before .before .pre .1 .1 .0)
 
 decide-sub-right : (t : ℕ) → decide-lts.Need-sub-right (K-decide t) (decide-at t) decide.Post
-decide-sub-right t c = (binary-children (c .before .before .before .before .before .before .before .before .before .before .before .before .args .rs .now) (length (c .before .before .before .before .before .before .before .before .before .before .before .before .args .rs .now) - 2) (c .before .before .before .before .before .before .before .before .before .before .before .before .pre .1 .0) (root-place (c .before .before .before .before .before .before .before .before .before .before .before .before .args .rs .now) (c .before .before .before .before .before .before .before .before .before .before .before .before .pre .1 .0)) (c .before .last-start .result) (c .before .last-start .ensures) (sym (c .before .before .before .before .before .before .kind .ensures) ∙ c .before .before .before .if3 .left)) .within
+decide-sub-right t c = (decide-two t (c .before)) .within
 
 decide-part-right-start : (t : ℕ) → decide-lts.Need-part-right-start (K-decide t) (decide-at t) decide.Post
-decide-part-right-start t c = (binary-children (c .before .before .before .before .before .before .before .before .before .before .before .before .args .rs .now) (length (c .before .before .before .before .before .before .before .before .before .before .before .before .args .rs .now) - 2) (c .before .before .before .before .before .before .before .before .before .before .before .before .pre .1 .0) (root-place (c .before .before .before .before .before .before .before .before .before .before .before .before .args .rs .now) (c .before .before .before .before .before .before .before .before .before .before .before .before .pre .1 .0)) (c .before .last-start .result) (c .before .last-start .ensures) (sym (c .before .before .before .before .before .before .kind .ensures) ∙ c .before .before .before .if3 .left)) .within
+decide-part-right-start t c = (decide-two t (c .before)) .within
 
 decide-part-right-end : (t : ℕ) → decide-lts.Need-part-right-end (K-decide t) (decide-at t) decide.Post
 decide-part-right-end t c = search needs
@@ -83,10 +89,10 @@ decide-argument-requires : (t : ℕ) → decide-lts.Need-argument-requires (K-de
 decide-argument-requires t c κs = search needs
 
 decide-decide-requires : (t : ℕ) → decide-lts.Need-decide-requires (K-decide t) (decide-at t) decide.Post
-decide-decide-requires t c κs = (omega (arith, c .before .before .before .before .before .before .before .before .before .before .before .before .before .before .before .before .before .before .pre .0, (binary-children (c .before .before .before .before .before .before .before .before .before .before .before .before .before .before .before .before .before .before .args .rs .now) (length (c .before .before .before .before .before .before .before .before .before .before .before .before .before .before .before .before .before .before .args .rs .now) - 2) (c .before .before .before .before .before .before .before .before .before .before .before .before .before .before .before .before .before .before .pre .1 .0) (root-place (c .before .before .before .before .before .before .before .before .before .before .before .before .before .before .before .before .before .before .args .rs .now) (c .before .before .before .before .before .before .before .before .before .before .before .before .before .before .before .before .before .before .pre .1 .0)) (c .before .before .before .before .before .before .before .last-start .result) (c .before .before .before .before .before .before .before .last-start .ensures) (sym (c .before .before .before .before .before .before .before .before .before .before .before .before .kind .ensures) ∙ c .before .before .before .before .before .before .before .before .before .if3 .left)) .leftShorter), ((binary-children (c .before .before .before .before .before .before .before .before .before .before .before .before .before .before .before .before .before .before .args .rs .now) (length (c .before .before .before .before .before .before .before .before .before .before .before .before .before .before .before .before .before .before .args .rs .now) - 2) (c .before .before .before .before .before .before .before .before .before .before .before .before .before .before .before .before .before .before .pre .1 .0) (root-place (c .before .before .before .before .before .before .before .before .before .before .before .before .before .before .before .before .before .before .args .rs .now) (c .before .before .before .before .before .before .before .before .before .before .before .before .before .before .before .before .before .before .pre .1 .0)) (c .before .before .before .before .before .before .before .last-start .result) (c .before .before .before .before .before .before .before .last-start .ensures) (sym (c .before .before .before .before .before .before .before .before .before .before .before .before .kind .ensures) ∙ c .before .before .before .before .before .before .before .before .before .if3 .left)) .leftWf, (omega (arith, c .before .before .before .before .before .before .before .before .before .before .before .before .before .before .before .before .before .before .pre .1 .1 .0, (binary-children (c .before .before .before .before .before .before .before .before .before .before .before .before .before .before .before .before .before .before .args .rs .now) (length (c .before .before .before .before .before .before .before .before .before .before .before .before .before .before .before .before .before .before .args .rs .now) - 2) (c .before .before .before .before .before .before .before .before .before .before .before .before .before .before .before .before .before .before .pre .1 .0) (root-place (c .before .before .before .before .before .before .before .before .before .before .before .before .before .before .before .before .before .before .args .rs .now) (c .before .before .before .before .before .before .before .before .before .before .before .before .before .before .before .before .before .before .pre .1 .0)) (c .before .before .before .before .before .before .before .last-start .result) (c .before .before .before .before .before .before .before .last-start .ensures) (sym (c .before .before .before .before .before .before .before .before .before .before .before .before .kind .ensures) ∙ c .before .before .before .before .before .before .before .before .before .if3 .left)) .leftShorter), c .before .before .before .before .before .before .before .before .before .before .before .before .before .before .before .before .before .before .pre .1 .1 .1)))
+decide-decide-requires t c κs = (omega (arith, c .before .before .before .before .before .before .before .before .before .before .before .before .before .before .before .before .before .before .pre .0, (decide-two t (c .before .before .before .before .before .before .before)) .leftShorter), ((decide-two t (c .before .before .before .before .before .before .before)) .leftWf, (omega (arith, c .before .before .before .before .before .before .before .before .before .before .before .before .before .before .before .before .before .before .pre .1 .1 .0, (decide-two t (c .before .before .before .before .before .before .before)) .leftShorter), c .before .before .before .before .before .before .before .before .before .before .before .before .before .before .before .before .before .before .pre .1 .1 .1)))
 
 decide-decide-requires-2 : (t : ℕ) → decide-lts.Need-decide-requires-2 (K-decide t) (decide-at t) decide.Post
-decide-decide-requires-2 t c κs = (omega (arith, c .before .before .before .before .before .before .before .before .before .before .before .before .before .before .before .before .before .before .before .before .before .before .before .before .before .before .before .before .pre .0, (binary-children (c .before .before .before .before .before .before .before .before .before .before .before .before .before .before .before .before .before .before .before .before .before .before .before .before .before .before .before .before .args .rs .now) (length (c .before .before .before .before .before .before .before .before .before .before .before .before .before .before .before .before .before .before .before .before .before .before .before .before .before .before .before .before .args .rs .now) - 2) (c .before .before .before .before .before .before .before .before .before .before .before .before .before .before .before .before .before .before .before .before .before .before .before .before .before .before .before .before .pre .1 .0) (root-place (c .before .before .before .before .before .before .before .before .before .before .before .before .before .before .before .before .before .before .before .before .before .before .before .before .before .before .before .before .args .rs .now) (c .before .before .before .before .before .before .before .before .before .before .before .before .before .before .before .before .before .before .before .before .before .before .before .before .before .before .before .before .pre .1 .0)) (c .before .before .before .before .before .before .before .before .before .before .before .before .before .before .before .before .before .last-start .result) (c .before .before .before .before .before .before .before .before .before .before .before .before .before .before .before .before .before .last-start .ensures) (sym (c .before .before .before .before .before .before .before .before .before .before .before .before .before .before .before .before .before .before .before .before .before .before .kind .ensures) ∙ c .before .before .before .before .before .before .before .before .before .before .before .before .before .before .before .before .before .before .before .if3 .left)) .rightShorter), ((binary-children (c .before .before .before .before .before .before .before .before .before .before .before .before .before .before .before .before .before .before .before .before .before .before .before .before .before .before .before .before .args .rs .now) (length (c .before .before .before .before .before .before .before .before .before .before .before .before .before .before .before .before .before .before .before .before .before .before .before .before .before .before .before .before .args .rs .now) - 2) (c .before .before .before .before .before .before .before .before .before .before .before .before .before .before .before .before .before .before .before .before .before .before .before .before .before .before .before .before .pre .1 .0) (root-place (c .before .before .before .before .before .before .before .before .before .before .before .before .before .before .before .before .before .before .before .before .before .before .before .before .before .before .before .before .args .rs .now) (c .before .before .before .before .before .before .before .before .before .before .before .before .before .before .before .before .before .before .before .before .before .before .before .before .before .before .before .before .pre .1 .0)) (c .before .before .before .before .before .before .before .before .before .before .before .before .before .before .before .before .before .last-start .result) (c .before .before .before .before .before .before .before .before .before .before .before .before .before .before .before .before .before .last-start .ensures) (sym (c .before .before .before .before .before .before .before .before .before .before .before .before .before .before .before .before .before .before .before .before .before .before .kind .ensures) ∙ c .before .before .before .before .before .before .before .before .before .before .before .before .before .before .before .before .before .before .before .if3 .left)) .rightWf, (omega (arith, c .before .before .before .before .before .before .before .before .before .before .before .before .before .before .before .before .before .before .before .before .before .before .before .before .before .before .before .before .pre .1 .1 .0, (binary-children (c .before .before .before .before .before .before .before .before .before .before .before .before .before .before .before .before .before .before .before .before .before .before .before .before .before .before .before .before .args .rs .now) (length (c .before .before .before .before .before .before .before .before .before .before .before .before .before .before .before .before .before .before .before .before .before .before .before .before .before .before .before .before .args .rs .now) - 2) (c .before .before .before .before .before .before .before .before .before .before .before .before .before .before .before .before .before .before .before .before .before .before .before .before .before .before .before .before .pre .1 .0) (root-place (c .before .before .before .before .before .before .before .before .before .before .before .before .before .before .before .before .before .before .before .before .before .before .before .before .before .before .before .before .args .rs .now) (c .before .before .before .before .before .before .before .before .before .before .before .before .before .before .before .before .before .before .before .before .before .before .before .before .before .before .before .before .pre .1 .0)) (c .before .before .before .before .before .before .before .before .before .before .before .before .before .before .before .before .before .last-start .result) (c .before .before .before .before .before .before .before .before .before .before .before .before .before .before .before .before .before .last-start .ensures) (sym (c .before .before .before .before .before .before .before .before .before .before .before .before .before .before .before .before .before .before .before .before .before .before .kind .ensures) ∙ c .before .before .before .before .before .before .before .before .before .before .before .before .before .before .before .before .before .before .before .if3 .left)) .rightShorter), buffers-kept (c .before .before .before .before .before .before .before .before .before .before .before .before .before .before .before .before .before .before .before .before .before .before .before .before .before .before .before .before .pre .1 .1 .1) (c .before .before .before .before .before .before .before .before .before .decide .kept .1 .0) (c .before .before .before .before .before .before .before .before .before .decide .kept .1 .1 .0) (c .before .before .before .before .before .before .before .before .before .decide .kept .1 .1 .1 .0))))
+decide-decide-requires-2 t c κs = (omega (arith, c .before .before .before .before .before .before .before .before .before .before .before .before .before .before .before .before .before .before .before .before .before .before .before .before .before .before .before .before .pre .0, (decide-two t (c .before .before .before .before .before .before .before .before .before .before .before .before .before .before .before .before .before)) .rightShorter), ((decide-two t (c .before .before .before .before .before .before .before .before .before .before .before .before .before .before .before .before .before)) .rightWf, (omega (arith, c .before .before .before .before .before .before .before .before .before .before .before .before .before .before .before .before .before .before .before .before .before .before .before .before .before .before .before .before .pre .1 .1 .0, (decide-two t (c .before .before .before .before .before .before .before .before .before .before .before .before .before .before .before .before .before)) .rightShorter), buffers-kept (c .before .before .before .before .before .before .before .before .before .before .before .before .before .before .before .before .before .before .before .before .before .before .before .before .before .before .before .before .pre .1 .1 .1) (c .before .before .before .before .before .before .before .before .before .decide .kept .1 .0) (c .before .before .before .before .before .before .before .before .before .decide .kept .1 .1 .0) (c .before .before .before .before .before .before .before .before .before .decide .kept .1 .1 .1 .0))))
 
 decide-halves-requires : (t : ℕ) → decide-lts.Need-halves-requires (K-decide t) (decide-at t) decide.Post
 decide-halves-requires t c κs = search needs
@@ -101,10 +107,10 @@ decide-same-length-3 : (t : ℕ) → decide-lts.Need-same-length-3 (K-decide t) 
 decide-same-length-3 t c = search needs
 
 decide-returns-4 : (t : ℕ) → decide-lts.Need-returns-4 (K-decide t) (decide-at t) decide.Post
-decide-returns-4 t c = decide-logic ((binary-children (c .before .before .before .before .before .before .before .before .before .before .before .before .before .before .before .before .before .before .before .before .before .before .before .before .before .before .before .before .before .before .before .before .before .before .before .before .args .rs .now) (length (c .before .before .before .before .before .before .before .before .before .before .before .before .before .before .before .before .before .before .before .before .before .before .before .before .before .before .before .before .before .before .before .before .before .before .before .before .args .rs .now) - 2) (c .before .before .before .before .before .before .before .before .before .before .before .before .before .before .before .before .before .before .before .before .before .before .before .before .before .before .before .before .before .before .before .before .before .before .before .before .pre .1 .0) (root-place (c .before .before .before .before .before .before .before .before .before .before .before .before .before .before .before .before .before .before .before .before .before .before .before .before .before .before .before .before .before .before .before .before .before .before .before .before .args .rs .now) (c .before .before .before .before .before .before .before .before .before .before .before .before .before .before .before .before .before .before .before .before .before .before .before .before .before .before .before .before .before .before .before .before .before .before .before .before .pre .1 .0)) (c .before .before .before .before .before .before .before .before .before .before .before .before .before .before .before .before .before .before .before .before .before .before .before .before .before .last-start .result) (c .before .before .before .before .before .before .before .before .before .before .before .before .before .before .before .before .before .before .before .before .before .before .before .before .before .last-start .ensures) (sym (c .before .before .before .before .before .before .before .before .before .before .before .before .before .before .before .before .before .before .before .before .before .before .before .before .before .before .before .before .before .before .kind .ensures) ∙ c .before .before .before .before .before .before .before .before .before .before .before .before .before .before .before .before .before .before .before .before .before .before .before .before .before .before .before .if3 .left)) .tree) (c .before .before .before .before .before .before .before .before .before .before .before .before .before .before .before .before .before .before .before .before .before .before .argument .ensures) (c .before .before .before .before .before .before .before .before .before .before .before .before .before .before .before .before .before .before .before .before .before .if4 .taken) (c .before .before .before .before .before .before .before .before .before .before .before .before .before .before .before .before .before .decide .ensures) (c .before .before .before .before .before .before .before .decide2 .ensures) (c .halves .ensures)
+decide-returns-4 t c = decide-logic ((decide-two t (c .before .before .before .before .before .before .before .before .before .before .before .before .before .before .before .before .before .before .before .before .before .before .before .before .before)) .tree) (c .before .before .before .before .before .before .before .before .before .before .before .before .before .before .before .before .before .before .before .before .before .before .argument .ensures) (c .before .before .before .before .before .before .before .before .before .before .before .before .before .before .before .before .before .before .before .before .before .if4 .taken) (c .before .before .before .before .before .before .before .before .before .before .before .before .before .before .before .before .before .decide .ensures) (c .before .before .before .before .before .before .before .decide2 .ensures) (c .halves .ensures)
 
 decide-equality-requires : (t : ℕ) → decide-lts.Need-equality-requires (K-decide t) (decide-at t) decide.Post
-decide-equality-requires t c κs = (lent-two (lent-whole (c .before .before .before .before .before .before .before .before .before .before .before .before .before .before .before .before .before .before .before .pre .1 .0) (c .before .before .before .before .before .before .before .before .before .before .before .before .before .before .before .before .before .before .before .pre .1 .1 .0) (c .before .before .before .before .before .before .before .before .before .before .before .before .before .before .before .before .before .before .before .pre .1 .1 .1)) (length (c .before .before .before .before .before .before .before .before .before .before .before .before .before .before .before .before .before .before .before .args .rs .now) - 2) (c .before .before .before .before .before .before .before .before .last-start .result) (root-place (c .before .before .before .before .before .before .before .before .before .before .before .before .before .before .before .before .before .before .before .args .rs .now) (c .before .before .before .before .before .before .before .before .before .before .before .before .before .before .before .before .before .before .before .pre .1 .0)) (binary-children (c .before .before .before .before .before .before .before .before .before .before .before .before .before .before .before .before .before .before .before .args .rs .now) (length (c .before .before .before .before .before .before .before .before .before .before .before .before .before .before .before .before .before .before .before .args .rs .now) - 2) (c .before .before .before .before .before .before .before .before .before .before .before .before .before .before .before .before .before .before .before .pre .1 .0) (root-place (c .before .before .before .before .before .before .before .before .before .before .before .before .before .before .before .before .before .before .before .args .rs .now) (c .before .before .before .before .before .before .before .before .before .before .before .before .before .before .before .before .before .before .before .pre .1 .0)) (c .before .before .before .before .before .before .before .before .last-start .result) (c .before .before .before .before .before .before .before .before .last-start .ensures) (sym (c .before .before .before .before .before .before .before .before .before .before .before .before .before .kind .ensures) ∙ c .before .before .before .before .before .before .before .before .before .before .if3 .left)), c .before .before .before .before .before .before .before .before .before .before .before .before .before .before .before .before .before .before .before .pre .1 .1 .1)
+decide-equality-requires t c κs = (lent-two (lent-whole (c .before .before .before .before .before .before .before .before .before .before .before .before .before .before .before .before .before .before .before .pre .1 .0) (c .before .before .before .before .before .before .before .before .before .before .before .before .before .before .before .before .before .before .before .pre .1 .1 .0) (c .before .before .before .before .before .before .before .before .before .before .before .before .before .before .before .before .before .before .before .pre .1 .1 .1)) (length (c .before .before .before .before .before .before .before .before .before .before .before .before .before .before .before .before .before .before .before .args .rs .now) - 2) (c .before .before .before .before .before .before .before .before .last-start .result) (root-place (c .before .before .before .before .before .before .before .before .before .before .before .before .before .before .before .before .before .before .before .args .rs .now) (c .before .before .before .before .before .before .before .before .before .before .before .before .before .before .before .before .before .before .before .pre .1 .0)) (decide-two t (c .before .before .before .before .before .before .before .before)), c .before .before .before .before .before .before .before .before .before .before .before .before .before .before .before .before .before .before .before .pre .1 .1 .1)
 
 decide-same-length-4 : (t : ℕ) → decide-lts.Need-same-length-4 (K-decide t) (decide-at t) decide.Post
 decide-same-length-4 t c = search needs
@@ -116,13 +122,13 @@ decide-same-length-6 : (t : ℕ) → decide-lts.Need-same-length-6 (K-decide t) 
 decide-same-length-6 t c = search needs
 
 decide-returns-5 : (t : ℕ) → decide-lts.Need-returns-5 (K-decide t) (decide-at t) decide.Post
-decide-returns-5 t c = decide-equality ((binary-children (c .before .before .before .before .before .before .before .before .before .before .before .before .before .before .before .before .before .before .before .before .before .before .before .before .before .before .args .rs .now) (length (c .before .before .before .before .before .before .before .before .before .before .before .before .before .before .before .before .before .before .before .before .before .before .before .before .before .before .args .rs .now) - 2) (c .before .before .before .before .before .before .before .before .before .before .before .before .before .before .before .before .before .before .before .before .before .before .before .before .before .before .pre .1 .0) (root-place (c .before .before .before .before .before .before .before .before .before .before .before .before .before .before .before .before .before .before .before .before .before .before .before .before .before .before .args .rs .now) (c .before .before .before .before .before .before .before .before .before .before .before .before .before .before .before .before .before .before .before .before .before .before .before .before .before .before .pre .1 .0)) (c .before .before .before .before .before .before .before .before .before .before .before .before .before .before .before .last-start .result) (c .before .before .before .before .before .before .before .before .before .before .before .before .before .before .before .last-start .ensures) (sym (c .before .before .before .before .before .before .before .before .before .before .before .before .before .before .before .before .before .before .before .before .kind .ensures) ∙ c .before .before .before .before .before .before .before .before .before .before .before .before .before .before .before .before .before .if3 .left)) .tree) (c .before .before .before .before .before .before .before .before .before .before .before .before .argument .ensures) (c .before .before .before .before .before .before .before .before .before .before .if5 .taken) (c .before .before .before .before .before .before .equality .ensures)
+decide-returns-5 t c = decide-equality ((decide-two t (c .before .before .before .before .before .before .before .before .before .before .before .before .before .before .before)) .tree) (c .before .before .before .before .before .before .before .before .before .before .before .before .argument .ensures) (c .before .before .before .before .before .before .before .before .before .before .if5 .taken) (c .before .before .before .before .before .before .equality .ensures)
 
 decide-relation-requires : (t : ℕ) → decide-lts.Need-relation-requires (K-decide t) (decide-at t) decide.Post
-decide-relation-requires t c κs = ((binary-children (c .before .before .before .before .before .before .before .before .before .before .before .before .before .before .before .before .args .rs .now) (length (c .before .before .before .before .before .before .before .before .before .before .before .before .before .before .before .before .args .rs .now) - 2) (c .before .before .before .before .before .before .before .before .before .before .before .before .before .before .before .before .pre .1 .0) (root-place (c .before .before .before .before .before .before .before .before .before .before .before .before .before .before .before .before .args .rs .now) (c .before .before .before .before .before .before .before .before .before .before .before .before .before .before .before .before .pre .1 .0)) (c .before .before .before .before .before .last-start .result) (c .before .before .before .before .before .last-start .ensures) (sym (c .before .before .before .before .before .before .before .before .before .before .kind .ensures) ∙ c .before .before .before .before .before .before .before .if3 .left)) .leftWf, (binary-children (c .before .before .before .before .before .before .before .before .before .before .before .before .before .before .before .before .args .rs .now) (length (c .before .before .before .before .before .before .before .before .before .before .before .before .before .before .before .before .args .rs .now) - 2) (c .before .before .before .before .before .before .before .before .before .before .before .before .before .before .before .before .pre .1 .0) (root-place (c .before .before .before .before .before .before .before .before .before .before .before .before .before .before .before .before .args .rs .now) (c .before .before .before .before .before .before .before .before .before .before .before .before .before .before .before .before .pre .1 .0)) (c .before .before .before .before .before .last-start .result) (c .before .before .before .before .before .last-start .ensures) (sym (c .before .before .before .before .before .before .before .before .before .before .kind .ensures) ∙ c .before .before .before .before .before .before .before .if3 .left)) .rightWf)
+decide-relation-requires t c κs = ((decide-two t (c .before .before .before .before .before)) .leftWf, (decide-two t (c .before .before .before .before .before)) .rightWf)
 
 decide-returns-6 : (t : ℕ) → decide-lts.Need-returns-6 (K-decide t) (decide-at t) decide.Post
-decide-returns-6 t c = decide-relation ((binary-children (c .before .before .before .before .before .before .before .before .before .before .before .before .before .before .before .before .before .args .rs .now) (length (c .before .before .before .before .before .before .before .before .before .before .before .before .before .before .before .before .before .args .rs .now) - 2) (c .before .before .before .before .before .before .before .before .before .before .before .before .before .before .before .before .before .pre .1 .0) (root-place (c .before .before .before .before .before .before .before .before .before .before .before .before .before .before .before .before .before .args .rs .now) (c .before .before .before .before .before .before .before .before .before .before .before .before .before .before .before .before .before .pre .1 .0)) (c .before .before .before .before .before .before .last-start .result) (c .before .before .before .before .before .before .last-start .ensures) (sym (c .before .before .before .before .before .before .before .before .before .before .before .kind .ensures) ∙ c .before .before .before .before .before .before .before .before .if3 .left)) .tree) (c .before .before .before .argument .ensures) (c .before .before .if4 .left) (c .before .if5 .left) (c .relation .ensures)
+decide-returns-6 t c = decide-relation ((decide-two t (c .before .before .before .before .before .before)) .tree) (c .before .before .before .argument .ensures) (c .before .before .if4 .left) (c .before .if5 .left) (c .relation .ensures)
 
 pub +decide-spec : {M : Type 1} → statement M
 +decide-spec = close μ-decide λ t. decide-lts.spec (K-decide t) (decide-at t) decide.Post

@@ -1,15 +1,16 @@
 -- The proof of the cycle of calls {exact}: it calls itself below a cast, so the measure is the words. Each case is a law of
 -- proofs/Steps.antt. Assumes nothing.
-use Prim.Native.Nat.{_+_, _-_, ℕ, _<_}
+use Prim.Native.Nat.{ℕ, _-_, _/_, _<_}
 use mathlib.Core.Path.{sym, _∙_}
 use native.Mathlib.Omega.{arith}
-use lib.ListN.{length, take, length-take}
+use lib.ListN.{length, getD, take, length-take}
 use borrow.Author.Needs.{needs}
 use borrow.Fn.Kinds.{In}
 use borrow.Fn.PlainCycle.{Measures, is, falls, and}
-use Rattle.expr.proofs.Children.{root-kind, cast-child, binary-children, has-children}
+use Rattle.expr.proofs.Children.{TwoChildren, root-kind, cast-child, binary-children, has-children}
 use Rattle.expr.proofs.Laws.{wf-two}
 use Rattle.expr.proofs.Parts.{root-place}
+use Rattle.expr.specs.Tree.Expr.{binary}
 use Rattle.expr.proofs.argument.Reads as argument-reads
 use Rattle.expr.proofs.kind.Reads as kind-reads
 use Rattle.expr.proofs.last_start.Reads as last-start-reads
@@ -36,6 +37,11 @@ exact-below t = and 4 exact-kinds.ps (falls 4 exact-kinds.ps _<_ μ-exact t) exa
 
 abbrev K-exact : ℕ → exact-lts.Claims
 K-exact t = (kind-reads.Asked, kind-reads.Learnt, exact-below t, exact.Post, cast-value-reads.Asked, cast-value-reads.Learnt, last-start-reads.Asked, last-start-reads.Learnt, argument-reads.Asked, argument-reads.Learnt, shape-of-reads.Asked, shape-of-reads.Learnt, low-bit-reads.Asked, low-bit-reads.Learnt, even-value-reads.Asked, even-value-reads.Learnt)
+
+-- the two sides of the operator
+exact-two : (t : ℕ) (c : exact-lts.After-last-start (K-exact t) (exact-at t) exact.Post)
+    → let ws = c .before .before .before .before .before .before .before .before .before .before .before .args .rs .now in TwoChildren ws (length ws - 2) (c .last-start .result) (binary (getD ws (length ws - 2) 0 / 16))
+exact-two t c = binary-children (c .before .before .before .before .before .before .before .before .before .before .before .args .rs .now) (length (c .before .before .before .before .before .before .before .before .before .before .before .args .rs .now) - 2) (c .before .before .before .before .before .before .before .before .before .before .before .pre .1 .0) (root-place (c .before .before .before .before .before .before .before .before .before .before .before .args .rs .now) (c .before .before .before .before .before .before .before .before .before .before .before .pre .1 .0)) (c .last-start .result) (c .last-start .ensures) (sym (c .before .before .before .before .before .kind .ensures) ∙ c .before .before .if3 .left)
 
 exact-sub-n : (t : ℕ) → exact-lts.Need-sub-n (K-exact t) (exact-at t) exact.Post
 exact-sub-n t c = omega (arith, wf-two (c .before .before .before .before .args .rs .now) (c .before .before .before .before .pre .1 .0))
@@ -92,16 +98,16 @@ exact-last-start-requires : (t : ℕ) → exact-lts.Need-last-start-requires (K-
 exact-last-start-requires t c κs = has-children (c .before .before .before .before .before .before .before .before .before .before .args .rs .now) (length (c .before .before .before .before .before .before .before .before .before .before .args .rs .now) - 2) (c .before .before .before .before .before .before .before .before .before .before .pre .1 .0) (root-place (c .before .before .before .before .before .before .before .before .before .before .args .rs .now) (c .before .before .before .before .before .before .before .before .before .before .pre .1 .0)) (omega (arith, (sym (c .before .before .before .before .kind .ensures) ∙ c .before .if3 .left)))
 
 exact-slice-aggregate-left : (t : ℕ) → exact-lts.Need-slice-aggregate-left (K-exact t) (exact-at t) exact.Post
-exact-slice-aggregate-left t c = omega (arith, (binary-children (c .before .before .before .before .before .before .before .before .before .before .before .before .args .rs .now) (length (c .before .before .before .before .before .before .before .before .before .before .before .before .args .rs .now) - 2) (c .before .before .before .before .before .before .before .before .before .before .before .before .pre .1 .0) (root-place (c .before .before .before .before .before .before .before .before .before .before .before .before .args .rs .now) (c .before .before .before .before .before .before .before .before .before .before .before .before .pre .1 .0)) (c .before .last-start .result) (c .before .last-start .ensures) (sym (c .before .before .before .before .before .before .kind .ensures) ∙ c .before .before .before .if3 .left)) .within, length-take (c .before .last-start .result) (c .before .before .before .before .before .before .before .before .before .before .before .before .args .rs .now))
+exact-slice-aggregate-left t c = omega (arith, (exact-two t (c .before)) .within, length-take (c .before .last-start .result) (c .before .before .before .before .before .before .before .before .before .before .before .before .args .rs .now))
 
 exact-mul-right : (t : ℕ) → exact-lts.Need-mul-right (K-exact t) (exact-at t) exact.Post
-exact-mul-right t c = omega (arith, (binary-children (c .before .before .before .before .before .before .before .before .before .before .before .before .args .rs .now) (length (c .before .before .before .before .before .before .before .before .before .before .before .before .args .rs .now) - 2) (c .before .before .before .before .before .before .before .before .before .before .before .before .pre .1 .0) (root-place (c .before .before .before .before .before .before .before .before .before .before .before .before .args .rs .now) (c .before .before .before .before .before .before .before .before .before .before .before .before .pre .1 .0)) (c .before .last-start .result) (c .before .last-start .ensures) (sym (c .before .before .before .before .before .before .kind .ensures) ∙ c .before .before .before .if3 .left)) .within, c .before .before .before .before .before .before .before .before .before .before .before .before .pre .1 .1 .0)
+exact-mul-right t c = omega (arith, (exact-two t (c .before)) .within, c .before .before .before .before .before .before .before .before .before .before .before .before .pre .1 .1 .0)
 
 exact-sub-right : (t : ℕ) → exact-lts.Need-sub-right (K-exact t) (exact-at t) exact.Post
-exact-sub-right t c = (binary-children (c .before .before .before .before .before .before .before .before .before .before .before .before .args .rs .now) (length (c .before .before .before .before .before .before .before .before .before .before .before .before .args .rs .now) - 2) (c .before .before .before .before .before .before .before .before .before .before .before .before .pre .1 .0) (root-place (c .before .before .before .before .before .before .before .before .before .before .before .before .args .rs .now) (c .before .before .before .before .before .before .before .before .before .before .before .before .pre .1 .0)) (c .before .last-start .result) (c .before .last-start .ensures) (sym (c .before .before .before .before .before .before .kind .ensures) ∙ c .before .before .before .if3 .left)) .within
+exact-sub-right t c = (exact-two t (c .before)) .within
 
 exact-part-right-start : (t : ℕ) → exact-lts.Need-part-right-start (K-exact t) (exact-at t) exact.Post
-exact-part-right-start t c = (binary-children (c .before .before .before .before .before .before .before .before .before .before .before .before .args .rs .now) (length (c .before .before .before .before .before .before .before .before .before .before .before .before .args .rs .now) - 2) (c .before .before .before .before .before .before .before .before .before .before .before .before .pre .1 .0) (root-place (c .before .before .before .before .before .before .before .before .before .before .before .before .args .rs .now) (c .before .before .before .before .before .before .before .before .before .before .before .before .pre .1 .0)) (c .before .last-start .result) (c .before .last-start .ensures) (sym (c .before .before .before .before .before .before .kind .ensures) ∙ c .before .before .before .if3 .left)) .within
+exact-part-right-start t c = (exact-two t (c .before)) .within
 
 exact-part-right-end : (t : ℕ) → exact-lts.Need-part-right-end (K-exact t) (exact-at t) exact.Post
 exact-part-right-end t c = search needs
@@ -110,25 +116,25 @@ exact-argument-requires : (t : ℕ) → exact-lts.Need-argument-requires (K-exac
 exact-argument-requires t c κs = search needs
 
 exact-shape-of-requires : (t : ℕ) → exact-lts.Need-shape-of-requires (K-exact t) (exact-at t) exact.Post
-exact-shape-of-requires t c κs = ((binary-children (c .before .before .before .before .before .before .before .before .before .before .before .before .before .before .args .rs .now) (length (c .before .before .before .before .before .before .before .before .before .before .before .before .before .before .args .rs .now) - 2) (c .before .before .before .before .before .before .before .before .before .before .before .before .before .before .pre .1 .0) (root-place (c .before .before .before .before .before .before .before .before .before .before .before .before .before .before .args .rs .now) (c .before .before .before .before .before .before .before .before .before .before .before .before .before .before .pre .1 .0)) (c .before .before .before .last-start .result) (c .before .before .before .last-start .ensures) (sym (c .before .before .before .before .before .before .before .before .kind .ensures) ∙ c .before .before .before .before .before .if3 .left)) .leftWf, (binary-children (c .before .before .before .before .before .before .before .before .before .before .before .before .before .before .args .rs .now) (length (c .before .before .before .before .before .before .before .before .before .before .before .before .before .before .args .rs .now) - 2) (c .before .before .before .before .before .before .before .before .before .before .before .before .before .before .pre .1 .0) (root-place (c .before .before .before .before .before .before .before .before .before .before .before .before .before .before .args .rs .now) (c .before .before .before .before .before .before .before .before .before .before .before .before .before .before .pre .1 .0)) (c .before .before .before .last-start .result) (c .before .before .before .last-start .ensures) (sym (c .before .before .before .before .before .before .before .before .kind .ensures) ∙ c .before .before .before .before .before .if3 .left)) .rightWf)
+exact-shape-of-requires t c κs = ((exact-two t (c .before .before .before)) .leftWf, (exact-two t (c .before .before .before)) .rightWf)
 
 exact-enum-told : (t : ℕ) → exact-lts.Need-enum-told (K-exact t) (exact-at t) exact.Post
 exact-enum-told t c = search needs
 
 exact-low-bit-requires : (t : ℕ) → exact-lts.Need-low-bit-requires (K-exact t) (exact-at t) exact.Post
-exact-low-bit-requires t c κs = ((binary-children (c .before .before .before .before .before .before .before .before .before .before .before .before .before .before .before .before .before .before .before .before .args .rs .now) (length (c .before .before .before .before .before .before .before .before .before .before .before .before .before .before .before .before .before .before .before .before .args .rs .now) - 2) (c .before .before .before .before .before .before .before .before .before .before .before .before .before .before .before .before .before .before .before .before .pre .1 .0) (root-place (c .before .before .before .before .before .before .before .before .before .before .before .before .before .before .before .before .before .before .before .before .args .rs .now) (c .before .before .before .before .before .before .before .before .before .before .before .before .before .before .before .before .before .before .before .before .pre .1 .0)) (c .before .before .before .before .before .before .before .before .before .last-start .result) (c .before .before .before .before .before .before .before .before .before .last-start .ensures) (sym (c .before .before .before .before .before .before .before .before .before .before .before .before .before .before .kind .ensures) ∙ c .before .before .before .before .before .before .before .before .before .before .before .if3 .left)) .leftWf, (omega (arith, c .before .before .before .before .before .before .before .before .before .before .before .before .before .before .before .before .before .before .before .before .pre .1 .1 .0, (binary-children (c .before .before .before .before .before .before .before .before .before .before .before .before .before .before .before .before .before .before .before .before .args .rs .now) (length (c .before .before .before .before .before .before .before .before .before .before .before .before .before .before .before .before .before .before .before .before .args .rs .now) - 2) (c .before .before .before .before .before .before .before .before .before .before .before .before .before .before .before .before .before .before .before .before .pre .1 .0) (root-place (c .before .before .before .before .before .before .before .before .before .before .before .before .before .before .before .before .before .before .before .before .args .rs .now) (c .before .before .before .before .before .before .before .before .before .before .before .before .before .before .before .before .before .before .before .before .pre .1 .0)) (c .before .before .before .before .before .before .before .before .before .last-start .result) (c .before .before .before .before .before .before .before .before .before .last-start .ensures) (sym (c .before .before .before .before .before .before .before .before .before .before .before .before .before .before .kind .ensures) ∙ c .before .before .before .before .before .before .before .before .before .before .before .if3 .left)) .leftShorter), c .before .before .before .before .before .before .before .before .before .before .before .before .before .before .before .before .before .before .before .before .pre .1 .1 .1))
+exact-low-bit-requires t c κs = ((exact-two t (c .before .before .before .before .before .before .before .before .before)) .leftWf, (omega (arith, c .before .before .before .before .before .before .before .before .before .before .before .before .before .before .before .before .before .before .before .before .pre .1 .1 .0, (exact-two t (c .before .before .before .before .before .before .before .before .before)) .leftShorter), c .before .before .before .before .before .before .before .before .before .before .before .before .before .before .before .before .before .before .before .before .pre .1 .1 .1))
 
 exact-enum-told-2 : (t : ℕ) → exact-lts.Need-enum-told-2 (K-exact t) (exact-at t) exact.Post
 exact-enum-told-2 t c = search needs
 
 exact-low-bit-requires-2 : (t : ℕ) → exact-lts.Need-low-bit-requires-2 (K-exact t) (exact-at t) exact.Post
-exact-low-bit-requires-2 t c κs = ((binary-children (c .before .before .before .before .before .before .before .before .before .before .before .before .before .before .before .before .before .before .before .before .args .rs .now) (length (c .before .before .before .before .before .before .before .before .before .before .before .before .before .before .before .before .before .before .before .before .args .rs .now) - 2) (c .before .before .before .before .before .before .before .before .before .before .before .before .before .before .before .before .before .before .before .before .pre .1 .0) (root-place (c .before .before .before .before .before .before .before .before .before .before .before .before .before .before .before .before .before .before .before .before .args .rs .now) (c .before .before .before .before .before .before .before .before .before .before .before .before .before .before .before .before .before .before .before .before .pre .1 .0)) (c .before .before .before .before .before .before .before .before .before .last-start .result) (c .before .before .before .before .before .before .before .before .before .last-start .ensures) (sym (c .before .before .before .before .before .before .before .before .before .before .before .before .before .before .kind .ensures) ∙ c .before .before .before .before .before .before .before .before .before .before .before .if3 .left)) .rightWf, (omega (arith, c .before .before .before .before .before .before .before .before .before .before .before .before .before .before .before .before .before .before .before .before .pre .1 .1 .0, (binary-children (c .before .before .before .before .before .before .before .before .before .before .before .before .before .before .before .before .before .before .before .before .args .rs .now) (length (c .before .before .before .before .before .before .before .before .before .before .before .before .before .before .before .before .before .before .before .before .args .rs .now) - 2) (c .before .before .before .before .before .before .before .before .before .before .before .before .before .before .before .before .before .before .before .before .pre .1 .0) (root-place (c .before .before .before .before .before .before .before .before .before .before .before .before .before .before .before .before .before .before .before .before .args .rs .now) (c .before .before .before .before .before .before .before .before .before .before .before .before .before .before .before .before .before .before .before .before .pre .1 .0)) (c .before .before .before .before .before .before .before .before .before .last-start .result) (c .before .before .before .before .before .before .before .before .before .last-start .ensures) (sym (c .before .before .before .before .before .before .before .before .before .before .before .before .before .before .kind .ensures) ∙ c .before .before .before .before .before .before .before .before .before .before .before .if3 .left)) .rightShorter), c .before .before .before .before .before .before .before .before .before .before .before .before .before .before .before .before .before .before .before .before .pre .1 .1 .1))
+exact-low-bit-requires-2 t c κs = ((exact-two t (c .before .before .before .before .before .before .before .before .before)) .rightWf, (omega (arith, c .before .before .before .before .before .before .before .before .before .before .before .before .before .before .before .before .before .before .before .before .pre .1 .1 .0, (exact-two t (c .before .before .before .before .before .before .before .before .before)) .rightShorter), c .before .before .before .before .before .before .before .before .before .before .before .before .before .before .before .before .before .before .before .before .pre .1 .1 .1))
 
 exact-enum-told-3 : (t : ℕ) → exact-lts.Need-enum-told-3 (K-exact t) (exact-at t) exact.Post
 exact-enum-told-3 t c = search needs
 
 exact-low-bit-requires-3 : (t : ℕ) → exact-lts.Need-low-bit-requires-3 (K-exact t) (exact-at t) exact.Post
-exact-low-bit-requires-3 t c κs = ((binary-children (c .before .before .before .before .before .before .before .before .before .before .before .before .before .before .before .before .before .before .before .before .args .rs .now) (length (c .before .before .before .before .before .before .before .before .before .before .before .before .before .before .before .before .before .before .before .before .args .rs .now) - 2) (c .before .before .before .before .before .before .before .before .before .before .before .before .before .before .before .before .before .before .before .before .pre .1 .0) (root-place (c .before .before .before .before .before .before .before .before .before .before .before .before .before .before .before .before .before .before .before .before .args .rs .now) (c .before .before .before .before .before .before .before .before .before .before .before .before .before .before .before .before .before .before .before .before .pre .1 .0)) (c .before .before .before .before .before .before .before .before .before .last-start .result) (c .before .before .before .before .before .before .before .before .before .last-start .ensures) (sym (c .before .before .before .before .before .before .before .before .before .before .before .before .before .before .kind .ensures) ∙ c .before .before .before .before .before .before .before .before .before .before .before .if3 .left)) .leftWf, (omega (arith, c .before .before .before .before .before .before .before .before .before .before .before .before .before .before .before .before .before .before .before .before .pre .1 .1 .0, (binary-children (c .before .before .before .before .before .before .before .before .before .before .before .before .before .before .before .before .before .before .before .before .args .rs .now) (length (c .before .before .before .before .before .before .before .before .before .before .before .before .before .before .before .before .before .before .before .before .args .rs .now) - 2) (c .before .before .before .before .before .before .before .before .before .before .before .before .before .before .before .before .before .before .before .before .pre .1 .0) (root-place (c .before .before .before .before .before .before .before .before .before .before .before .before .before .before .before .before .before .before .before .before .args .rs .now) (c .before .before .before .before .before .before .before .before .before .before .before .before .before .before .before .before .before .before .before .before .pre .1 .0)) (c .before .before .before .before .before .before .before .before .before .last-start .result) (c .before .before .before .before .before .before .before .before .before .last-start .ensures) (sym (c .before .before .before .before .before .before .before .before .before .before .before .before .before .before .kind .ensures) ∙ c .before .before .before .before .before .before .before .before .before .before .before .if3 .left)) .leftShorter), c .before .before .before .before .before .before .before .before .before .before .before .before .before .before .before .before .before .before .before .before .pre .1 .1 .1))
+exact-low-bit-requires-3 t c κs = ((exact-two t (c .before .before .before .before .before .before .before .before .before)) .leftWf, (omega (arith, c .before .before .before .before .before .before .before .before .before .before .before .before .before .before .before .before .before .before .before .before .pre .1 .1 .0, (exact-two t (c .before .before .before .before .before .before .before .before .before)) .leftShorter), c .before .before .before .before .before .before .before .before .before .before .before .before .before .before .before .before .before .before .before .before .pre .1 .1 .1))
 
 exact-even-value-requires : (t : ℕ) → exact-lts.Need-even-value-requires (K-exact t) (exact-at t) exact.Post
 exact-even-value-requires t c κs = search needs
@@ -149,7 +155,7 @@ exact-same-length-6 : (t : ℕ) → exact-lts.Need-same-length-6 (K-exact t) (ex
 exact-same-length-6 t c = search needs
 
 exact-returns-4 : (t : ℕ) → exact-lts.Need-returns-4 (K-exact t) (exact-at t) exact.Post
-exact-returns-4 t c = c .before .before .before .before .before .before .low-bit .ensures ∙ exact-shape ((binary-children (c .before .before .before .before .before .before .before .before .before .before .before .before .before .before .before .before .before .before .before .before .before .before .before .before .before .before .before .args .rs .now) (length (c .before .before .before .before .before .before .before .before .before .before .before .before .before .before .before .before .before .before .before .before .before .before .before .before .before .before .before .args .rs .now) - 2) (c .before .before .before .before .before .before .before .before .before .before .before .before .before .before .before .before .before .before .before .before .before .before .before .before .before .before .before .pre .1 .0) (root-place (c .before .before .before .before .before .before .before .before .before .before .before .before .before .before .before .before .before .before .before .before .before .before .before .before .before .before .before .args .rs .now) (c .before .before .before .before .before .before .before .before .before .before .before .before .before .before .before .before .before .before .before .before .before .before .before .before .before .before .before .pre .1 .0)) (c .before .before .before .before .before .before .before .before .before .before .before .before .before .before .before .before .last-start .result) (c .before .before .before .before .before .before .before .before .before .before .before .before .before .before .before .before .last-start .ensures) (sym (c .before .before .before .before .before .before .before .before .before .before .before .before .before .before .before .before .before .before .before .before .before .kind .ensures) ∙ c .before .before .before .before .before .before .before .before .before .before .before .before .before .before .before .before .before .before .if3 .left)) .tree) (c .before .before .before .before .before .before .before .before .before .before .before .before .shape-of .ensures) (c .before .before .before .before .before .before .before .before .before .before .before .before .before .argument .ensures) (c .before .before .before .before .before .before .before .before .before .before .enum-told .given .1)
+exact-returns-4 t c = c .before .before .before .before .before .before .low-bit .ensures ∙ exact-shape ((exact-two t (c .before .before .before .before .before .before .before .before .before .before .before .before .before .before .before .before)) .tree) (c .before .before .before .before .before .before .before .before .before .before .before .before .shape-of .ensures) (c .before .before .before .before .before .before .before .before .before .before .before .before .before .argument .ensures) (c .before .before .before .before .before .before .before .before .before .before .enum-told .given .1)
 
 exact-same-length-7 : (t : ℕ) → exact-lts.Need-same-length-7 (K-exact t) (exact-at t) exact.Post
 exact-same-length-7 t c = search needs
@@ -161,7 +167,7 @@ exact-same-length-9 : (t : ℕ) → exact-lts.Need-same-length-9 (K-exact t) (ex
 exact-same-length-9 t c = search needs
 
 exact-returns-5 : (t : ℕ) → exact-lts.Need-returns-5 (K-exact t) (exact-at t) exact.Post
-exact-returns-5 t c = c .before .before .before .before .before .before .low-bit2 .ensures ∙ exact-shape ((binary-children (c .before .before .before .before .before .before .before .before .before .before .before .before .before .before .before .before .before .before .before .before .before .before .before .before .before .before .before .args .rs .now) (length (c .before .before .before .before .before .before .before .before .before .before .before .before .before .before .before .before .before .before .before .before .before .before .before .before .before .before .before .args .rs .now) - 2) (c .before .before .before .before .before .before .before .before .before .before .before .before .before .before .before .before .before .before .before .before .before .before .before .before .before .before .before .pre .1 .0) (root-place (c .before .before .before .before .before .before .before .before .before .before .before .before .before .before .before .before .before .before .before .before .before .before .before .before .before .before .before .args .rs .now) (c .before .before .before .before .before .before .before .before .before .before .before .before .before .before .before .before .before .before .before .before .before .before .before .before .before .before .before .pre .1 .0)) (c .before .before .before .before .before .before .before .before .before .before .before .before .before .before .before .before .last-start .result) (c .before .before .before .before .before .before .before .before .before .before .before .before .before .before .before .before .last-start .ensures) (sym (c .before .before .before .before .before .before .before .before .before .before .before .before .before .before .before .before .before .before .before .before .before .kind .ensures) ∙ c .before .before .before .before .before .before .before .before .before .before .before .before .before .before .before .before .before .before .if3 .left)) .tree) (c .before .before .before .before .before .before .before .before .before .before .before .before .shape-of .ensures) (c .before .before .before .before .before .before .before .before .before .before .before .before .before .argument .ensures) (c .before .before .before .before .before .before .before .before .before .before .enum-told2 .given .1)
+exact-returns-5 t c = c .before .before .before .before .before .before .low-bit2 .ensures ∙ exact-shape ((exact-two t (c .before .before .before .before .before .before .before .before .before .before .before .before .before .before .before .before)) .tree) (c .before .before .before .before .before .before .before .before .before .before .before .before .shape-of .ensures) (c .before .before .before .before .before .before .before .before .before .before .before .before .before .argument .ensures) (c .before .before .before .before .before .before .before .before .before .before .enum-told2 .given .1)
 
 exact-same-length-10 : (t : ℕ) → exact-lts.Need-same-length-10 (K-exact t) (exact-at t) exact.Post
 exact-same-length-10 t c = search needs
@@ -173,13 +179,13 @@ exact-same-length-12 : (t : ℕ) → exact-lts.Need-same-length-12 (K-exact t) (
 exact-same-length-12 t c = search needs
 
 exact-returns-6 : (t : ℕ) → exact-lts.Need-returns-6 (K-exact t) (exact-at t) exact.Post
-exact-returns-6 t c = exact-even (treeOf (take (c .before .before .before .before .before .before .before .before .before .before .before .before .before .before .before .before .before .last-start .result) (c .before .before .before .before .before .before .before .before .before .before .before .before .before .before .before .before .before .before .before .before .before .before .before .before .before .before .before .before .args .rs .now))) (c .before .before .before .before .before .before .before .low-bit3 .ensures) (c .even-value .ensures) ∙ exact-shape ((binary-children (c .before .before .before .before .before .before .before .before .before .before .before .before .before .before .before .before .before .before .before .before .before .before .before .before .before .before .before .before .args .rs .now) (length (c .before .before .before .before .before .before .before .before .before .before .before .before .before .before .before .before .before .before .before .before .before .before .before .before .before .before .before .before .args .rs .now) - 2) (c .before .before .before .before .before .before .before .before .before .before .before .before .before .before .before .before .before .before .before .before .before .before .before .before .before .before .before .before .pre .1 .0) (root-place (c .before .before .before .before .before .before .before .before .before .before .before .before .before .before .before .before .before .before .before .before .before .before .before .before .before .before .before .before .args .rs .now) (c .before .before .before .before .before .before .before .before .before .before .before .before .before .before .before .before .before .before .before .before .before .before .before .before .before .before .before .before .pre .1 .0)) (c .before .before .before .before .before .before .before .before .before .before .before .before .before .before .before .before .before .last-start .result) (c .before .before .before .before .before .before .before .before .before .before .before .before .before .before .before .before .before .last-start .ensures) (sym (c .before .before .before .before .before .before .before .before .before .before .before .before .before .before .before .before .before .before .before .before .before .before .kind .ensures) ∙ c .before .before .before .before .before .before .before .before .before .before .before .before .before .before .before .before .before .before .before .if3 .left)) .tree) (c .before .before .before .before .before .before .before .before .before .before .before .before .before .shape-of .ensures) (c .before .before .before .before .before .before .before .before .before .before .before .before .before .before .argument .ensures) (c .before .before .before .before .before .before .before .before .before .before .before .enum-told3 .given .1)
+exact-returns-6 t c = exact-even (treeOf (take (c .before .before .before .before .before .before .before .before .before .before .before .before .before .before .before .before .before .last-start .result) (c .before .before .before .before .before .before .before .before .before .before .before .before .before .before .before .before .before .before .before .before .before .before .before .before .before .before .before .before .args .rs .now))) (c .before .before .before .before .before .before .before .low-bit3 .ensures) (c .even-value .ensures) ∙ exact-shape ((exact-two t (c .before .before .before .before .before .before .before .before .before .before .before .before .before .before .before .before .before)) .tree) (c .before .before .before .before .before .before .before .before .before .before .before .before .before .shape-of .ensures) (c .before .before .before .before .before .before .before .before .before .before .before .before .before .before .argument .ensures) (c .before .before .before .before .before .before .before .before .before .before .before .enum-told3 .given .1)
 
 exact-returns-7 : (t : ℕ) → exact-lts.Need-returns-7 (K-exact t) (exact-at t) exact.Post
-exact-returns-7 t c = exact-shape ((binary-children (c .before .before .before .before .before .before .before .before .before .before .before .before .before .before .before .before .before .args .rs .now) (length (c .before .before .before .before .before .before .before .before .before .before .before .before .before .before .before .before .before .args .rs .now) - 2) (c .before .before .before .before .before .before .before .before .before .before .before .before .before .before .before .before .before .pre .1 .0) (root-place (c .before .before .before .before .before .before .before .before .before .before .before .before .before .before .before .before .before .args .rs .now) (c .before .before .before .before .before .before .before .before .before .before .before .before .before .before .before .before .before .pre .1 .0)) (c .before .before .before .before .before .before .last-start .result) (c .before .before .before .before .before .before .last-start .ensures) (sym (c .before .before .before .before .before .before .before .before .before .before .before .kind .ensures) ∙ c .before .before .before .before .before .before .before .before .if3 .left)) .tree) (c .before .before .shape-of .ensures) (c .before .before .before .argument .ensures) (c .enum-told4 .given .1)
+exact-returns-7 t c = exact-shape ((exact-two t (c .before .before .before .before .before .before)) .tree) (c .before .before .shape-of .ensures) (c .before .before .before .argument .ensures) (c .enum-told4 .given .1)
 
 exact-returns-8 : (t : ℕ) → exact-lts.Need-returns-8 (K-exact t) (exact-at t) exact.Post
-exact-returns-8 t c = exact-shape ((binary-children (c .before .before .before .before .before .before .before .before .before .before .before .before .before .before .before .before .before .args .rs .now) (length (c .before .before .before .before .before .before .before .before .before .before .before .before .before .before .before .before .before .args .rs .now) - 2) (c .before .before .before .before .before .before .before .before .before .before .before .before .before .before .before .before .before .pre .1 .0) (root-place (c .before .before .before .before .before .before .before .before .before .before .before .before .before .before .before .before .before .args .rs .now) (c .before .before .before .before .before .before .before .before .before .before .before .before .before .before .before .before .before .pre .1 .0)) (c .before .before .before .before .before .before .last-start .result) (c .before .before .before .before .before .before .last-start .ensures) (sym (c .before .before .before .before .before .before .before .before .before .before .before .kind .ensures) ∙ c .before .before .before .before .before .before .before .before .if3 .left)) .tree) (c .before .before .shape-of .ensures) (c .before .before .before .argument .ensures) (c .enum-told5 .given .1)
+exact-returns-8 t c = exact-shape ((exact-two t (c .before .before .before .before .before .before)) .tree) (c .before .before .shape-of .ensures) (c .before .before .before .argument .ensures) (c .enum-told5 .given .1)
 
 pub +exact-spec : {M : Type 1} → statement M
 +exact-spec = close μ-exact λ t. exact-lts.spec (K-exact t) (exact-at t) exact.Post
