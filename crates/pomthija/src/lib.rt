@@ -76,10 +76,8 @@ fn judge_node(s: &[u8], sheet: Sheet, nodes: &[u64], number: u64) -> Answer
     let mut atoms = [0u64; 64];
     let mut terms = verdict_node::terms_room();
     let mut products = verdict_node::products_room();
-    let node = sheet::nth_node(s, sheet, places, at, &mut words);
-    verdict_node::verdict_of(
+    let judged = verdict_node::verdict_at(
         s,
-        node,
         places[at] as usize,
         &mut table,
         &mut lengths,
@@ -88,7 +86,8 @@ fn judge_node(s: &[u8], sheet: Sheet, nodes: &[u64], number: u64) -> Answer
         &mut atoms,
         &mut terms,
         &mut products,
-    )
+    );
+    judged.answer
 }
 
 // The verdict on the node of that number, from 0.

@@ -117,9 +117,12 @@ pub record WholeNode (s : List ℕ) (p : Place) (types : List ℕ) : Type 0 wher
   pub few : length types ≤ 32
   pub count : nodeAt s p .variables ≡ length types
   pub inside : startOf (nodeAt s p .types) + nodeAt s p .variables ≤ length s
+  pub start : WentOn (nodeAt s p .body)
   pub body : statementsFrom types s (nodeAt s p .body) (nodeAt s p .statements) .next ≡ nodeAt s p .condition
   pub statements : WentOn (statementsFrom types s (nodeAt s p .body) (nodeAt s p .statements) .next)
   pub condition : WentOn (expressionAt (length types) s (nodeAt s p .condition) .next)
+  pub addresses : countAt 0 16 s (expressionAt (length types) s (nodeAt s p .condition) .next) .value ≡ nodeAt s p .addresses
+  pub sites : countAt 0 16 s (expressionAt (length types) s (nodeAt s p .condition) .next) .next ≡ nodeAt s p .sites
 
 types-whole : {end : Place} {a : ℕ} (from n : ℕ) (s : List ℕ) → end ≡ At a → typesOf end from n s ≡ take n (drop from s)
 types-whole from n s e = rw e
@@ -146,9 +149,12 @@ whole-node s p e =
       few = omega (arith, size, count-most 0 32 s p);
       count = sym size;
       inside = room;
+      start = body;
       body = refl;
       statements = (one .from, one .there);
       condition = judged;
+      addresses = refl;
+      sites = refl;
     }
 
 -- what an operation on a node that was read whole asks of its parts
@@ -156,13 +162,27 @@ pub record Parts (s : List ℕ) (node : NodeReading) : Type 0 where
   pub few : length (typesIn s node) ≤ 32
   pub counted : node .variables ≡ length (typesIn s node)
   pub inside : startOf (node .types) + node .variables ≤ length s
+  pub start : WentOn (node .body)
+  pub body : statementsFrom (typesIn s node) s (node .body) (node .statements) .next ≡ node .condition
   pub statements : WentOn (statementsFrom (typesIn s node) s (node .body) (node .statements) .next)
   pub condition : WentOn (expressionAt (length (typesIn s node)) s (node .condition) .next)
+  pub addresses : countAt 0 16 s (expressionAt (length (typesIn s node)) s (node .condition) .next) .value ≡ node .addresses
+  pub sites : countAt 0 16 s (expressionAt (length (typesIn s node)) s (node .condition) .next) .next ≡ node .sites
 
 parts-at : (s : List ℕ) (p : Place) {a : ℕ} → nodeAt s p .next ≡ At a → Parts s (nodeAt s p)
 parts-at s p e =
     let w = whole-node s p e in
-    record { few = w .few; counted = w .count; inside = w .inside; statements = w .statements; condition = w .condition }
+    record {
+      few = w .few;
+      counted = w .count;
+      inside = w .inside;
+      start = w .start;
+      body = w .body;
+      statements = w .statements;
+      condition = w .condition;
+      addresses = w .addresses;
+      sites = w .sites;
+    }
 
 pub parts : (s : List ℕ) (node : NodeReading) → ReadNode s node → Parts s node
 parts s node read = rw (read .is) (parts-at s (read .at) {a = read .on .0} (ap (λ (n : NodeReading). n .next) (sym (read .is)) ∙ read .on .1))

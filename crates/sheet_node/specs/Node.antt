@@ -15,6 +15,7 @@ use Rattle.expr.specs.Statement.Statement.{assignment, other}
 use Rattle.expr.specs.Types.{typeOf, sameType}
 use Rattle.sheet_expression.specs.Expression.{expressionAt}
 use Rattle.sheet_node.specs.declared.NodeReading.{NodeReading}
+use Rattle.sheet_node.specs.declared.NodeFront.{NodeFront}
 
 -- what reading a statement gives: whether it is an assignment, its variable, its value's words, and the place after it
 pub record StatementRead : Type 0 where
@@ -105,6 +106,10 @@ nodeAt s p =
       sites = a .next;
       next = addressesFrom s (a .next) (a .value) .next;
     }
+
+-- what stands before its statements
+abbrev pub frontOf : NodeReading → NodeFront
+frontOf n = record { variables = n .variables; types = n .types; statements = n .statements; body = n .body }
 
 -- A node as syntax.
 pub record Node : Type 0 where

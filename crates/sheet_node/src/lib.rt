@@ -9,7 +9,7 @@ ghost use lib.ListN.{length};
 ghost use Rattle.sheet_field.specs.declared.Place.the-variants.{At};
 ghost use Rattle.expr.specs.Tree.{Wf, treeOf};
 ghost use Rattle.expr.specs.Types.{typeOf};
-ghost use Rattle.sheet_node.specs.Node.{mapAt, typedAt, assignmentAt, statementAt, statementsFrom, typesFrom, typesOf, addressesFrom, nodeAt, typesIn, ReadNode};
+ghost use Rattle.sheet_node.specs.Node.{mapAt, typedAt, assignmentAt, statementAt, statementsFrom, typesFrom, typesOf, addressesFrom, nodeAt, frontOf, typesIn, ReadNode};
 ghost use Rattle.sheet_node.specs.Contracts.{TookStatement};
 
 // A statement: whether it is an assignment, to which variable, how many records its value has, and the place after it.
@@ -32,6 +32,15 @@ pub struct NodeReading {
     pub addresses: u64,
     pub sites: Place,
     pub next: Place,
+}
+
+// The front of a node: its counts of variables and statements, and the places at which its types and its statements (body)
+// start.
+pub struct NodeFront {
+    pub variables: u64,
+    pub types: Place,
+    pub statements: u64,
+    pub body: Place,
 }
 
 // A statement's map byte: 0 or 3.
@@ -151,14 +160,31 @@ fn check_addresses(s: &[u8], p: Place, n: u64) -> Place
     next
 }
 
-// The types as a part of the sheet: n bytes from a place on, where they were read whole, else none.
-fn types_of(s: &[u8], end: Place, from: usize, n: usize) -> &[u8]
+// The types as a part of the sheet: n bytes from a place on, where reading went on after them, else none.
+pub fn types_of(s: &[u8], end: Place, from: usize, n: usize) -> &[u8]
     requires { ⌜ ((a : ℕ) → end ≡ At a → from + n ≤ length (now s)) ⌝ }
     ensures { λ r. ⌜ now r ≡ typesOf end from n (now (s .entry)) ⌝ }
 {
     match end {
         Place::Refused(_, _) => &s[..0],
         Place::At(_) => &s[from..from + n],
+    }
+}
+
+// The front of the node record at a place.
+pub fn take_front(s: &[u8], p: Place) -> NodeFront
+    ensures { λ r. ⌜ r ≡ frontOf (nodeAt (now (s .entry)) p) ⌝ }
+{
+    let v = sheet_field::count(s, p, 0, 32);
+    let types = v.next;
+    let end = check_types(s, types, v.value);
+    let k = sheet_field::count(s, end, 0, 64);
+    let body = k.next;
+    NodeFront {
+        variables: v.value,
+        types,
+        statements: k.value,
+        body,
     }
 }
 

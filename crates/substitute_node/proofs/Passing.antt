@@ -2,11 +2,11 @@
 -- statements make of any condition. A statement that was read whole is one of the list, and its words are one tree.
 use Prim.Native.Nat.{ℕ, suc, _+_, _*_, _-_, _≤_, _<_}
 use mathlib.Core.Path.{_≡_, refl, sym, ap, subst, _∙_}
-use mathlib.Core.Bool.{Bool, true, false, cond}
+use mathlib.Core.Bool.{Bool, true, false, cond, false≢true}
 use mathlib.Core.List.{List, [], _∷_, _++_}
 use native.Mathlib.Omega.{arith}
 use native.Mathlib.Numerals.{add-one}
-use lib.ListN.{length, getD, drop, replicate, drop-of-length-le}
+use lib.ListN.{length, getD, take, drop, replicate, drop-of-length-le}
 use lib.Seq.{drop-cons}
 use Rattle.sheet_field.specs.Field.{WentOn}
 use Rattle.sheet_field.specs.declared.Place.{Place}
@@ -15,7 +15,10 @@ use Rattle.expr.specs.Tree.{Expr, Wf, treeOf}
 use Rattle.expr.proofs.Laws.{wf-flat, treeOf-flat}
 use Rattle.expr.specs.Statement.{Statement}
 use Rattle.expr.specs.Statement.Statement.{assignment, other}
-use Rattle.sheet_node.specs.Node.{StatementRead, statementAt, statementOf, statementsFrom}
+use Rattle.sheet_expression.specs.Expression.{expressionAt}
+use Rattle.sheet_expression.specs.Contracts.{Took}
+use Rattle.sheet_expression.proofs.Lists.{took-front}
+use Rattle.sheet_node.specs.Node.{StatementRead, statementAt, statementOf, StatementsRead, statementsFrom}
 use Rattle.sheet_node.proofs.Nodes.{statements-more}
 use Rattle.sheet_node.proofs.Statements.{statement-whole}
 use Rattle.sheet_node.proofs.Accepted.{statements-nth, statements-length}
@@ -25,6 +28,7 @@ use Rattle.substitution.specs.declared.Written.{Written}
 use Rattle.substitution.specs.declared.Written.the-variants.{From, TooLong}
 use Rattle.substitution.specs.Words.{tableOf, Slots, Holds, Assigned, Made}
 use Rattle.substitution.proofs.Entries.{cleared}
+use Rattle.substitute_node.specs.declared.Step.{Step}
 use Rattle.substitute_node.specs.Node.{Room, Lent, Stepped, Passed, MadeNode}
 
 -- a statement that is no assignment
@@ -102,9 +106,10 @@ module _ {types s : List ℕ} {p : Place} {n : ℕ} {table lengths words out : L
 
   module _ (below : i < n) {fits : Bool} {table′ lengths′ : List ℕ}
       (t : Stepped fits table′ lengths′ (tableOf table lengths) (statementOf (statementAt types s next))) where
-    pub passing-stop : fits ≡ false → Passed false table′ lengths′ (statementsFrom types s p n .list)
-    passing-stop out-of = record {
+    pub passing-stop : fits ≡ false → (q : Place) → Passed (record { fits = false; next = q }) table′ lengths′ (statementsFrom types s p n)
+    passing-stop out-of q = record {
       slots = t .slots;
+      place = λ e. absurd (false≢true e);
       same = λ c. due-here below c ∙ t .same (drop (suc i) (statementsFrom types s p n .list)) c
           ∙ ap (λ (b : Bool). cond b (substituted (tableOf table′ lengths′) (drop (suc i) (statementsFrom types s p n .list)) c) tooLong) out-of;
     }
@@ -119,32 +124,53 @@ module _ {types s : List ℕ} {p : Place} {n : ℕ} {table lengths words out : L
           ∙ ap (λ (b : Bool). cond b (substituted (tableOf table′ lengths′) (drop (suc i) (statementsFrom types s p n .list)) c) tooLong) within-limit);
     }
 
-  pub passing-end : n ≤ i → Passed true table lengths (statementsFrom types s p n .list)
+  pub passing-end : n ≤ i → Passed (record { fits = true; next = next }) table lengths (statementsFrom types s p n)
   passing-end end =
       let past : length (statementsFrom types s p n .list) ≤ i = omega (arith, statements-length types s p n) in
       let all : drop i (statementsFrom types s p n .list) ≡ [] = drop-of-length-le (statementsFrom types s p n .list) past in
-      record { slots = g .lent .slots; same = λ c. g .due c ∙ ap (λ (l : List Statement). substituted (tableOf table lengths) l c) all }
+      let last : i ≡ n = omega (arith, g .within) in
+      record { slots = g .lent .slots; place = λ _. g .place ∙ ap (λ (k : ℕ). statementsFrom types s p k .next) last; same = λ c. g .due c ∙ ap (λ (l : List Statement). substituted (tableOf table lengths) l c) all }
 
 -- ---- the condition, after all statements
 
-pub passed-long : {fits : Bool} {table lengths : List ℕ} {statements : List Statement} → Passed fits table lengths statements → fits ≡ false → (c : Expr)
-    → withAssignments statements c ≡ tooLong
-passed-long {fits} {table} {lengths} {statements} g much c = g .same c ∙ ap (λ (b : Bool). cond b (substituted (tableOf table lengths) [] c) tooLong) much
+module _ {r : Step} {table lengths : List ℕ} {read : StatementsRead} (g : Passed r table lengths read) where
+  pub passed-long : r .fits ≡ false → (c : Expr) → withAssignments (read .list) c ≡ tooLong
+  passed-long much c = g .same c ∙ ap (λ (b : Bool). cond b (substituted (tableOf table lengths) [] c) tooLong) much
 
-pub passed-made : {fits : Bool} {table lengths : List ℕ} {statements : List Statement} (out ws : List ℕ) (w : Written) → Passed fits table lengths statements
-    → fits ≡ true → (c : Expr) → treeOf ws ≡ c → Made w out (substitute (tableOf table lengths) (treeOf ws)) → MadeNode w out (withAssignments statements c)
-unfolding substituted
-passed-made {fits} {table} {lengths} {statements} out ws w g short c is m = by w (rw is at m)
-  where
-    made : Expr
-    made = substitute (tableOf table lengths) c
+  -- the condition is read at the place after the statements
+  pub passed-here : r .fits ≡ true → (n : ℕ) (s : List ℕ) → WentOn (expressionAt n s (read .next) .next) → WentOn (expressionAt n s (r .next) .next)
+  passed-here short n s on = rw (g .place short) on
 
-    last : withAssignments statements c ≡ cond (long made) tooLong (into made)
-    last = g .same c ∙ ap (λ (b : Bool). cond b (substituted (tableOf table lengths) [] c) tooLong) short
+  module _ (short : r .fits ≡ true) (n : ℕ) (s : List ℕ) where
+    substituted-here : (out ws : List ℕ) (w : Written) (next : Place) → treeOf ws ≡ treeOf (expressionAt n s (read .next) .words)
+        → next ≡ expressionAt n s (read .next) .next → Made w out (substitute (tableOf table lengths) (treeOf ws))
+        → MadeNode w next out (read .list) (expressionAt n s (read .next))
+    unfolding substituted
+    substituted-here out ws w next is next-is m = by w (rw is at m)
+      where
+        c : Expr
+        c = treeOf (expressionAt n s (read .next) .words)
 
-    by : (w : Written) → Made w out made → MadeNode w out (withAssignments statements c)
-    by (From at) m = (
-      subst Wf (sym (m .0)) (wf-flat made),
-      last ∙ ap (λ (b : Bool). cond b tooLong (into made)) (m .1) ∙ ap into (sym (ap treeOf (m .0) ∙ treeOf-flat made)),
-    )
-    by TooLong m = last ∙ ap (λ (b : Bool). cond b tooLong (into made)) m
+        made : Expr
+        made = substitute (tableOf table lengths) c
+
+        last : withAssignments (read .list) c ≡ cond (long made) tooLong (into made)
+        last = g .same c ∙ ap (λ (b : Bool). cond b (substituted (tableOf table lengths) [] c) tooLong) short
+
+        by : (w : Written) → Made w out made → MadeNode w next out (read .list) (expressionAt n s (read .next))
+        by (From at) m = (
+          subst Wf (sym (m .0)) (wf-flat made),
+          last ∙ ap (λ (b : Bool). cond b tooLong (into made)) (m .1) ∙ ap into (sym (ap treeOf (m .0) ∙ treeOf-flat made)),
+          next-is,
+        )
+        by TooLong m = last ∙ ap (λ (b : Bool). cond b tooLong (into made)) m
+
+    pub passed-made : (out : List ℕ) (w : Written) {records : ℕ} {next : Place} {before after : List ℕ}
+        → Took records next before after (expressionAt n s (r .next)) → WentOn (expressionAt n s (read .next) .next)
+        → Made w out (substitute (tableOf table lengths) (treeOf (take (2 * records) after))) → MadeNode w next out (read .list) (expressionAt n s (read .next))
+    passed-made out w took on m =
+        let here : r .next ≡ read .next = g .place short in
+        substituted-here out _ w _
+        (ap treeOf (took-front took (rw here on)) ∙ ap (λ (q : Place). treeOf (expressionAt n s q .words)) here)
+        (took .place ∙ ap (λ (q : Place). expressionAt n s q .next) here)
+        m

@@ -6,10 +6,14 @@ use Prim.Native.Nat.{ℕ, _*_, _≤_}
 use lib.ListN.{length, drop}
 use Rattle.expr.specs.Tree.{Expr, Wf, treeOf}
 use Rattle.expr.specs.Statement.{Statement}
+use Rattle.sheet_field.specs.declared.Place.{Place}
+use Rattle.sheet_expression.specs.Expression.{Taken}
+use Rattle.sheet_node.specs.Node.{StatementsRead}
 use Rattle.substitution.specs.declared.Written.{Written}
 use Rattle.substitution.specs.declared.Written.the-variants.{From, TooLong}
-use Rattle.substitution.specs.Substitution.{Table, tooLong, into, Substituted, substituted, withAssignments}
+use Rattle.substitution.specs.Substitution.{Table, tooLong, into, substituted, withAssignments}
 use Rattle.substitution.specs.Words.{tableOf, Slots}
+use Rattle.substitute_node.specs.declared.Step.{Step}
 
 -- room for the held table, and for 256 words each of the records that are read and of those that are written; what stands there is of no account
 pub record Room (types table lengths words out : List ℕ) : Type 0 where
@@ -32,12 +36,14 @@ pub record Stepped (fits : Bool) (table lengths : List ℕ) (h : Table) (x : Sta
   pub slots : Slots table lengths
   pub same : (rest : List Statement) (c : Expr) → substituted h (x ∷ rest) c ≡ cond fits (substituted (tableOf table lengths) rest c) tooLong
 
--- What a node's statements leave, from a table in which nothing is held. (N1, N2, N26)
-pub record Passed (fits : Bool) (table lengths : List ℕ) (statements : List Statement) : Type 0 where
+-- What a node's statements leave, from a table in which nothing is held: the table after them, and the place, or that all is too long. (N1, N2, N26)
+pub record Passed (r : Step) (table lengths : List ℕ) (read : StatementsRead) : Type 0 where
   pub slots : Slots table lengths
-  pub same : (c : Expr) → withAssignments statements c ≡ cond fits (substituted (tableOf table lengths) [] c) tooLong
+  pub place : r .fits ≡ true → r .next ≡ read .next
+  pub same : (c : Expr) → withAssignments (read .list) c ≡ cond (r .fits) (substituted (tableOf table lengths) [] c) tooLong
 
--- The words of a node's substituted condition fill the end of a lent list, or refusal 10 is due. (N26)
-abbrev pub MadeNode : Written → List ℕ → Substituted → Type 0
-MadeNode (From at) out t = Wf (drop at out) × (t ≡ into (treeOf (drop at out)))
-MadeNode TooLong out t = t ≡ tooLong
+-- The words of a node's substituted condition fill the end of a lent list, and the place after the condition is known; or refusal 10 is due. (N26)
+abbrev pub MadeNode : Written → Place → List ℕ → List Statement → Taken → Type 0
+MadeNode (From at) next out statements condition =
+    Wf (drop at out) × (withAssignments statements (treeOf (condition .words)) ≡ into (treeOf (drop at out))) × (next ≡ condition .next)
+MadeNode TooLong next out statements condition = withAssignments statements (treeOf (condition .words)) ≡ tooLong

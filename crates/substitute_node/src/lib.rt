@@ -5,16 +5,20 @@ ghost use mathlib.Core.Path.{_≡_};
 ghost use Prim.Native.Nat.{ℕ, _≤_};
 ghost use lib.ListN.{length};
 ghost use Rattle.sheet_field.specs.Field.{WentOn};
-ghost use Rattle.expr.specs.Tree.{treeOf};
 ghost use Rattle.sheet_expression.specs.Expression.{expressionAt};
 ghost use Rattle.sheet_node.specs.Node.{statementAt, statementOf, statementsFrom};
-ghost use Rattle.substitution.specs.Substitution.{withAssignments};
 ghost use Rattle.substitution.specs.Words.{tableOf};
 ghost use Rattle.substitute_node.specs.Node.{Room, Lent, Stepped, Passed, MadeNode};
 
 // What one statement leaves: whether its substituted value is within its limit, and the place after the statement.
 pub struct Step {
     pub fits: bool,
+    pub next: Place,
+}
+
+// Where the words of a node's substituted condition start, or that they are too many; and the place after the condition, where they are not.
+pub struct SubstitutedNode {
+    pub written: Written,
     pub next: Place,
 }
 
@@ -43,7 +47,8 @@ fn take_statement(
     Step { fits, next }
 }
 
-// The n statements from a place on, which were read whole, with nothing held before them; false where a substituted value is too long.
+// The n statements from a place on, which were read whole, with nothing held before them, and the place after them; no fit where a substituted value is
+// too long.
 fn take_statements(
     s: &[u8],
     p: Place,
@@ -53,10 +58,10 @@ fn take_statements(
     lengths: &mut [usize],
     words: &mut [u64],
     out: &mut [u64],
-) -> bool
+) -> Step
     requires { ⌜ Room (now types) (now table) (now lengths) (now words) (now out) ⌝ }
     requires { ⌜ WentOn (statementsFrom (now types) (now s) p n .next) ⌝ }
-    ensures { λ r. ⌜ Passed r (now (table .exit)) (now (lengths .exit)) (statementsFrom (now (types .entry)) (now (s .entry)) p n .list) ⌝ }
+    ensures { λ r. ⌜ Passed r (now (table .exit)) (now (lengths .exit)) (statementsFrom (now (types .entry)) (now (s .entry)) p n) ⌝ }
 {
     substitution::clear(lengths);
     let mut next = p;
@@ -64,35 +69,42 @@ fn take_statements(
     while i < n {
         let r = take_statement(s, next, types, table, lengths, words, out);
         if !r.fits {
-            return false;
+            return Step { fits: false, next };
         }
         next = r.next;
         i += 1;
     }
-    true
+    Step { fits: true, next }
 }
 
-// A node's condition with its n statements substituted, at the end of 256 lent words. The statements from `body` on and the condition were read whole.
+// A node's condition with its n statements substituted, at the end of 256 lent words. The statements from `body` on and the condition after them were
+// read whole, and are read once more.
 pub fn substitute_node(
     s: &[u8],
     types: &[u8],
     body: Place,
     n: u64,
-    condition: Place,
     table: &mut [u64],
     lengths: &mut [usize],
     words: &mut [u64],
     out: &mut [u64],
-) -> Written
+) -> SubstitutedNode
     requires { ⌜ Room (now types) (now table) (now lengths) (now words) (now out) ⌝ }
     requires { ⌜ WentOn (statementsFrom (now types) (now s) body n .next) ⌝ }
-    requires { ⌜ WentOn (expressionAt (length (now types)) (now s) condition .next) ⌝ }
-    ensures { λ r. ⌜ MadeNode r (now (out .exit)) (withAssignments (statementsFrom (now (types .entry)) (now (s .entry)) body n .list) (treeOf (expressionAt (length (now (types .entry))) (now (s .entry)) condition .words))) ⌝ }
+    requires { ⌜ WentOn (expressionAt (length (now types)) (now s) (statementsFrom (now types) (now s) body n .next) .next) ⌝ }
+    ensures { λ r. ⌜ MadeNode (r .written) (r .next) (now (out .exit)) (statementsFrom (now (types .entry)) (now (s .entry)) body n .list) (expressionAt (length (now (types .entry))) (now (s .entry)) (statementsFrom (now (types .entry)) (now (s .entry)) body n .next)) ⌝ }
 {
-    if !take_statements(s, body, types, n, table, lengths, words, out) {
-        return Written::TooLong;
+    let passed = take_statements(s, body, types, n, table, lengths, words, out);
+    let condition = passed.next;
+    if !passed.fits {
+        return SubstitutedNode {
+            written: Written::TooLong,
+            next: condition,
+        };
     }
     let e = sheet_expression::take_expression(s, condition, types.len() as u64, words);
+    let next = e.next;
     let k = 2 * (e.records as usize);
-    substitution::substitute(&words[..k], table, lengths, out)
+    let written = substitution::substitute(&words[..k], table, lengths, out);
+    SubstitutedNode { written, next }
 }

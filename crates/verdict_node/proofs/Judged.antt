@@ -1,21 +1,25 @@
 -- The answer for a node that was read whole, from its substituted condition in lent words.
-use Prim.Native.Nat.{ℕ, _-_, _≤_, _<_}
+use Prim.Native.Nat.{ℕ, _+_, _-_, _≤_, _<_}
 use mathlib.Core.Path.{_≡_, refl, sym, ap, subst, _∙_}
 use mathlib.Core.Bool.{Bool, true, false, cond}
 use mathlib.Core.List.{List}
 use native.Mathlib.Omega.{arith}
 use lib.ListN.{length, take, drop, length-drop}
 use lib.Seq.{take-all}
-use Rattle.sheet_field.specs.Field.{WentOn}
+use Rattle.sheet_field.specs.declared.Place.{Place}
+use Rattle.sheet_field.specs.declared.Place.the-variants.{At}
+use Rattle.sheet_field.specs.declared.Field.{Field}
+use Rattle.sheet_field.specs.Field.{startOf, countAt, WentOn}
 use Rattle.expr.specs.Tree.{Expr, Wf, treeOf}
 use Rattle.expr.proofs.Laws.{wf-two}
-use Rattle.sheet_expression.specs.Expression.{expressionAt}
+use Rattle.sheet_expression.specs.Expression.{Taken, expressionAt}
 use Rattle.sheet_node.specs.declared.NodeReading.{NodeReading}
-use Rattle.sheet_node.specs.Node.{statementsFrom, typesIn, nodeOf, ReadNode}
+use Rattle.sheet_node.specs.declared.NodeFront.{NodeFront}
+use Rattle.sheet_node.specs.Node.{StatementsRead, statementsFrom, typesOf, nodeAt, frontOf, typesIn, nodeOf, ReadNode}
 use Rattle.sheet_node.proofs.Accepted.{parts}
 use Rattle.substitution.specs.declared.Written.{Written}
 use Rattle.substitution.specs.declared.Written.the-variants.{From, TooLong}
-use Rattle.substitution.specs.Substitution.{Substituted, into, tooLong, withAssignments}
+use Rattle.substitution.specs.Substitution.{withAssignments}
 use Rattle.substitute_node.specs.Node.{Room, MadeNode}
 use Rattle.decide.specs.Decide.{decide, fits}
 use Rattle.decide.specs.Answers.{answered}
@@ -24,67 +28,110 @@ use Rattle.verdict.specs.declared.Verdict.{Verdict}
 use Rattle.verdict.specs.declared.Answer.{Answer}
 use Rattle.verdict.specs.declared.Answer.the-variants.{Given, Refused}
 use Rattle.verdict_node.specs.NodeVerdict.{onSubstituted, nodeVerdict}
-use Rattle.verdict_node.specs.Contracts.{LentNode, onDecision}
+use Rattle.verdict_node.specs.Contracts.{LentNode, onDecision, WholeWords, substitutedOf, JudgedIs}
 
 -- the words of a condition that was written, as the code takes them
-module _ {w : Written} (out : List ℕ) (t : Substituted) {at : ℕ} (m : MadeNode w out t) (is : w ≡ From at) where
-  made : Wf (drop at out) × (t ≡ into (treeOf (drop at out)))
-  made = rw is at m
+module _ {w : Written} (out : List ℕ) {at : ℕ} (whole : WholeWords w out) (is : w ≡ From at) where
+  tree : Wf (drop at out)
+  tree = rw is at whole
 
-  pub made-place : at < length out
-  made-place = omega (arith, length-drop at out, wf-two (drop at out) (made .0))
+  pub words-place : at < length out
+  words-place = omega (arith, length-drop at out, wf-two (drop at out) tree)
 
   words-are : take (length out - at) (drop at out) ≡ drop at out
   words-are = take-all (length out - at) (drop at out) (omega (arith, length-drop at out))
 
-  pub made-tree : Wf (take (length out - at) (drop at out))
-  made-tree = subst Wf (sym words-are) (made .0)
+  pub words-tree : Wf (take (length out - at) (drop at out))
+  words-tree = subst Wf (sym words-are) tree
 
-  pub made-few : length out ≡ 256 → length (take (length out - at) (drop at out)) ≤ 256
-  made-few full = omega (arith, ap length words-are, length-drop at out)
+  pub words-few : length out ≡ 256 → length (take (length out - at) (drop at out)) ≤ 256
+  words-few full = omega (arith, ap length words-are, length-drop at out)
 
-  pub made-into : t ≡ into (treeOf (take (length out - at) (drop at out)))
-  made-into = made .1 ∙ ap (λ (ws : List ℕ). into (treeOf ws)) (sym words-are)
+  pub decided : (place : ℕ) {d : Decision} {r : Answer}
+      → d ≡ answered (fits (treeOf (take (length out - at) (drop at out)))) (decide (treeOf (take (length out - at) (drop at out))))
+      → r ≡ onDecision place d → r ≡ onSubstituted place (substitutedOf w out)
+  decided place {d} {r} d-is r-is =
+      let e : Expr = treeOf (drop at out) in
+      let d-here : d ≡ answered (fits e) (decide e) = d-is ∙ ap (λ (ws : List ℕ). answered (fits (treeOf ws)) (decide (treeOf ws))) words-are in
+      r-is ∙ ap (onDecision place) d-here ∙ by (fits e) ∙ ap (λ (x : Written). onSubstituted place (substitutedOf x out)) (sym is)
+    where
+      by : (b : Bool) → onDecision place (answered b (decide (treeOf (drop at out)))) ≡ cond b (Given (decide (treeOf (drop at out)))) (Refused 11 place)
+      by true = refl
+      by false = refl
 
--- a decision with its limits, as an answer
-decision-answer : (place : ℕ) (b : Bool) (v : Verdict) → onDecision place (answered b v) ≡ cond b (Given v) (Refused 11 place)
-decision-answer place true v = refl
-decision-answer place false v = refl
+-- a node that was read whole where it stands
+pub whole-at : (s : List ℕ) (p : Place) → WentOn (nodeAt s p .next) → ReadNode s (nodeAt s p)
+whole-at s p on = record { at = p; is = refl; on = on }
 
--- for a list of types that is known to be the node's
-module _ (s : List ℕ) (node : NodeReading) (read : ReadNode s node) {types : List ℕ} (these : types ≡ typesIn s node) where
-  pub room : {table lengths words out atoms terms products : List ℕ} → LentNode table lengths words out atoms terms products → Room types table lengths words out
-  room lent = record {
-    few = rw these (parts s node read .few);
-    tableRoom = lent .tableRoom;
-    lengthsRoom = lent .lengthsRoom;
-    wordsRoom = lent .wordsRoom;
-    outRoom = lent .outRoom;
-  }
+-- for the front of a node that was read whole
+module _ (s : List ℕ) (node : NodeReading) (read : ReadNode s node) {front : NodeFront} (front-is : front ≡ frontOf node) where
+  -- its types
+  pub types-fit : {from : ℕ} → from ≡ startOf (front .types) → (a : ℕ) → front .body ≡ At a → from + front .variables ≤ length s
+  types-fit from-is a e = rw (from-is, front-is) (parts s node read .inside)
 
-  pub these-statements : WentOn (statementsFrom types s (node .body) (node .statements) .next)
-  these-statements = rw these (parts s node read .statements)
+  pub types-are : {from : ℕ} {types : List ℕ} → from ≡ startOf (front .types) → types ≡ typesOf (front .body) from (front .variables) s
+      → types ≡ typesIn s node
+  types-are from-is types-is = rw (types-is, from-is, front-is, parts s node read .start .1)
 
-  pub this-condition : WentOn (expressionAt (length types) s (node .condition) .next)
-  this-condition = rw these (parts s node read .condition)
+  module _ {types : List ℕ} (these : types ≡ typesIn s node) where
+    pub room : {table lengths words out atoms terms products : List ℕ} → LentNode table lengths words out atoms terms products
+        → Room types table lengths words out
+    room lent = record {
+      few = rw these (parts s node read .few);
+      tableRoom = lent .tableRoom;
+      lengthsRoom = lent .lengthsRoom;
+      wordsRoom = lent .wordsRoom;
+      outRoom = lent .outRoom;
+    }
 
-  abbrev substitutedHere : Substituted
-  substitutedHere = withAssignments (statementsFrom types s (node .body) (node .statements) .list) (treeOf (expressionAt (length types) s (node .condition) .words))
+    abbrev passed : StatementsRead
+    passed = statementsFrom types s (front .body) (front .statements)
 
-  verdict-here : (place : ℕ) → nodeVerdict (nodeOf s node) place ≡ onSubstituted place substitutedHere
-  unfolding nodeVerdict nodeOf
-  verdict-here place = rw (these, ← parts s node read .counted)
+    abbrev condition : Taken
+    condition = expressionAt (length types) s (passed .next)
 
-  module _ {w : Written} (out : List ℕ) (m : MadeNode w out substitutedHere) (place : ℕ) where
-    pub refused-10 : w ≡ TooLong → Refused 10 place ≡ nodeVerdict (nodeOf s node) place
-    refused-10 is =
-        let long : substitutedHere ≡ tooLong = rw is at m in
-        sym (verdict-here place ∙ ap (onSubstituted place) long)
+    pub these-statements : WentOn (passed .next)
+    these-statements = rw (these, front-is) (parts s node read .statements)
 
-    pub judged : {at : ℕ} → w ≡ From at → {d : Decision} {r : Answer}
-        → d ≡ answered (fits (treeOf (take (length out - at) (drop at out)))) (decide (treeOf (take (length out - at) (drop at out))))
-        → r ≡ onDecision place d → r ≡ nodeVerdict (nodeOf s node) place
-    judged {at} is {d} {r} d-is r-is =
-        let e : Expr = treeOf (take (length out - at) (drop at out)) in
-        r-is ∙ ap (onDecision place) d-is ∙ decision-answer place (fits e) (decide e)
-        ∙ sym (verdict-here place ∙ ap (onSubstituted place) (made-into out substitutedHere m is))
+    pub this-condition : WentOn (condition .next)
+    this-condition = rw (these, front-is, parts s node read .body) (parts s node read .condition)
+
+    verdict-here : (place : ℕ) → nodeVerdict (nodeOf s node) place ≡ onSubstituted place (withAssignments (passed .list) (treeOf (condition .words)))
+    unfolding nodeVerdict nodeOf
+    verdict-here place = rw (these, front-is, parts s node read .body, ← parts s node read .counted)
+
+    module _ (w : Written) (next : Place) (out : List ℕ) (m : MadeNode w next out (passed .list) condition) where
+      pub made-whole : WholeWords w out
+      made-whole = by w m
+        where
+          by : (w : Written) → MadeNode w next out (passed .list) condition → WholeWords w out
+          by (From at) m = m .0
+          by TooLong m = tt
+
+      made-into : withAssignments (passed .list) (treeOf (condition .words)) ≡ substitutedOf w out
+      made-into = by w m
+        where
+          by : (w : Written) → MadeNode w next out (passed .list) condition
+              → withAssignments (passed .list) (treeOf (condition .words)) ≡ substitutedOf w out
+          by (From at) m = m .1
+          by TooLong m = m
+
+      module _ (place : ℕ) {r : Answer} (r-is : r ≡ onSubstituted place (substitutedOf w out)) where
+        pub answer-is : r ≡ nodeVerdict (nodeOf s node) place
+        answer-is = r-is ∙ ap (onSubstituted place) (sym made-into) ∙ sym (verdict-here place)
+
+        -- where it is a verdict, the condition was passed
+        after-condition : (v : Verdict) → r ≡ Given v → next ≡ condition .next
+        after-condition v given = by w m r-is
+          where
+            by : (w : Written) → MadeNode w next out (passed .list) condition → r ≡ onSubstituted place (substitutedOf w out) → next ≡ condition .next
+            by (From at) m is = m .2
+            by TooLong m is = let z : _≡_ {A = ℕ} 0 1 = cc in absurd (omega arith)
+
+        pub judged-node : {a : Field} → a ≡ countAt 0 16 s next
+            → JudgedIs (record { answer = r; addresses = a .value; sites = a .next }) s node place
+        judged-node a-is = record {
+          answer = answer-is;
+          addresses = λ v given. rw (a-is, after-condition v given, these, front-is, parts s node read .body) (parts s node read .addresses);
+          sites = λ v given. rw (a-is, after-condition v given, these, front-is, parts s node read .body) (parts s node read .sites);
+        }

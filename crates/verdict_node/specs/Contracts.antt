@@ -2,12 +2,21 @@
 use Prim.Native.Nat.{ℕ, _*_}
 use mathlib.Core.Path.{_≡_}
 use mathlib.Core.List.{List}
-use lib.ListN.{length}
+use lib.ListN.{length, drop}
+use Rattle.expr.specs.Tree.{Wf, treeOf}
+use Rattle.sheet_node.specs.declared.NodeReading.{NodeReading}
+use Rattle.sheet_node.specs.Node.{nodeOf}
+use Rattle.substitution.specs.declared.Written.{Written}
+use Rattle.substitution.specs.declared.Written.the-variants.{From, TooLong}
+use Rattle.substitution.specs.Substitution.{Substituted, into, tooLong}
+use Rattle.verdict.specs.declared.Verdict.{Verdict}
 use Rattle.verdict.specs.declared.Answer.{Answer}
 use Rattle.verdict.specs.declared.Answer.the-variants.{Given, Refused}
 use Rattle.exact.specs.Answers.{Buffers}
 use Rattle.decide.specs.declared.Decision.{Decision}
 use Rattle.decide.specs.declared.Decision.the-variants.{Of, TooMany}
+use Rattle.verdict_node.specs.declared.JudgedNode.{JudgedNode}
+use Rattle.verdict_node.specs.NodeVerdict.{nodeVerdict}
 
 -- room for the held table (32 places of 256 words, and their lengths), for 256 words each of the records that are read and of those that are
 -- written, and for `decide`; what stands there is of no account
@@ -22,3 +31,19 @@ pub record LentNode (table lengths words out atoms terms products : List ℕ) : 
 abbrev pub onDecision : ℕ → Decision → Answer
 onDecision place (Of v) = Given v
 onDecision place TooMany = Refused 11 place
+
+-- what substitution has written to the end of a lent list is one tree
+abbrev pub WholeWords : Written → List ℕ → Type 0
+WholeWords (From at) out = Wf (drop at out)
+WholeWords TooLong out = Unit {0}
+
+-- the substituted condition that it is
+abbrev pub substitutedOf : Written → List ℕ → Substituted
+substitutedOf (From at) out = into (treeOf (drop at out))
+substitutedOf TooLong out = tooLong
+
+-- what is given for a node whose record starts at a place
+pub record JudgedIs (r : JudgedNode) (s : List ℕ) (node : NodeReading) (place : ℕ) : Type 0 where
+  pub answer : r .answer ≡ nodeVerdict (nodeOf s node) place
+  pub addresses : (v : Verdict) → r .answer ≡ Given v → r .addresses ≡ node .addresses
+  pub sites : (v : Verdict) → r .answer ≡ Given v → r .sites ≡ node .sites

@@ -1,13 +1,24 @@
 // The answer for a node of an accepted sheet: its statements are substituted into its condition, and that is decided.
 use decide::Decision;
+use sheet_field::Place;
 use sheet_node::NodeReading;
 use substitution::Written;
 use verdict::Answer;
 ghost use mathlib.Core.Path.{_≡_};
 ghost use lib.ListN.{length};
-ghost use Rattle.sheet_node.specs.Node.{nodeOf, ReadNode};
-ghost use Rattle.verdict_node.specs.NodeVerdict.{nodeVerdict};
-ghost use Rattle.verdict_node.specs.Contracts.{LentNode, onDecision};
+ghost use Rattle.sheet_field.specs.declared.Place.the-variants.{At};
+ghost use Rattle.sheet_field.specs.Field.{WentOn};
+ghost use Rattle.sheet_node.specs.Node.{nodeAt, nodeOf, ReadNode};
+ghost use Rattle.exact.specs.Answers.{Buffers};
+ghost use Rattle.verdict_node.specs.NodeVerdict.{onSubstituted, nodeVerdict};
+ghost use Rattle.verdict_node.specs.Contracts.{LentNode, onDecision, WholeWords, substitutedOf, JudgedIs};
+
+// The answer for a node; where it is a verdict, also how many addresses the node has, and the place of the first.
+pub struct JudgedNode {
+    pub answer: Answer,
+    pub addresses: u64,
+    pub sites: Place,
+}
 
 // Room for the held table.
 pub fn table_room() -> [u64; 8192]
@@ -40,6 +51,26 @@ fn answer_at(d: Decision, place: usize) -> Answer
     }
 }
 
+// The answer from what substitution has written: refusal 10, or that of the decision on the condition.
+fn answer_for(
+    written: Written,
+    out: &[u64],
+    place: usize,
+    atoms: &mut [u64],
+    terms: &mut [u64],
+    products: &mut [u64],
+) -> Answer
+    requires { ⌜ WholeWords written (now out) ⌝ }
+    requires { ⌜ length (now out) ≡ 256 ⌝ }
+    requires { ⌜ Buffers (now atoms) (now terms) (now products) ⌝ }
+    ensures { λ r. ⌜ r ≡ onSubstituted place (substitutedOf written (now (out .entry))) ⌝ }
+{
+    match written {
+        Written::TooLong => Answer::Refused(10, place),
+        Written::From(at) => answer_at(decide::decide(&out[at..], atoms, terms, products), place),
+    }
+}
+
 // The answer for the node, read whole, that stands at a place. All that is lent is written over.
 pub fn verdict_of(
     s: &[u8],
@@ -59,20 +90,44 @@ pub fn verdict_of(
 {
     let types = sheet_node::node_types(s, node);
     let body = node.body;
-    let condition = node.condition;
-    let written = substitute_node::substitute_node(
-        s,
-        types,
-        body,
-        node.statements,
-        condition,
-        table,
-        lengths,
-        words,
-        out,
-    );
-    match written {
-        Written::TooLong => Answer::Refused(10, place),
-        Written::From(at) => answer_at(decide::decide(&out[at..], atoms, terms, products), place),
+    let n = node.statements;
+    let made = substitute_node::substitute_node(s, types, body, n, table, lengths, words, out);
+    let written = made.written;
+    answer_for(written, out, place, atoms, terms, products)
+}
+
+// The answer for the node that starts at a byte, in a sheet where it was read whole; its bytes are gone over once. All that
+// is lent is written over.
+pub fn verdict_at(
+    s: &[u8],
+    at: usize,
+    table: &mut [u64],
+    lengths: &mut [usize],
+    words: &mut [u64],
+    out: &mut [u64],
+    atoms: &mut [u64],
+    terms: &mut [u64],
+    products: &mut [u64],
+) -> JudgedNode
+    requires { ⌜ WentOn (nodeAt (now s) (At at) .next) ⌝ }
+    requires { ⌜ LentNode (now table) (now lengths) (now words) (now out) (now atoms) (now terms) (now products) ⌝ }
+    ensures { λ r. ⌜ JudgedIs r (now (s .entry)) (nodeAt (now (s .entry)) (At at)) at ⌝ }
+{
+    let front = sheet_node::take_front(s, Place::At(at));
+    let types_at = front.types;
+    let body = front.body;
+    let from = sheet_field::start(types_at);
+    let types = sheet_node::types_of(s, body, from, front.variables as usize);
+    let n = front.statements;
+    let made = substitute_node::substitute_node(s, types, body, n, table, lengths, words, out);
+    let written = made.written;
+    let after = made.next;
+    let a = sheet_field::count(s, after, 0, 16);
+    let sites = a.next;
+    let answer = answer_for(written, out, at, atoms, terms, products);
+    JudgedNode {
+        answer,
+        addresses: a.value,
+        sites,
     }
 }

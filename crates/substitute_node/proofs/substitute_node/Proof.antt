@@ -1,11 +1,9 @@
-use Rattle.substitute_node.proofs.Passing.{passed-long, passed-made}
-use Rattle.sheet_expression.proofs.Lists.{took-front}
-use Rattle.sheet_expression.proofs.Accepted.{took-tree}
-use Rattle.expr.specs.Tree.{treeOf}
-use borrow.Author.Tests.{not-true, not-false}
-use lib.Seq.{length-take-le}
+use mathlib.Core.Path.{sym}
 use native.Mathlib.Omega.{arith}
-use mathlib.Core.Path.{sym, ap}
+use lib.Seq.{length-take-le}
+use borrow.Author.Tests.{not-true, not-false}
+use Rattle.sheet_expression.proofs.Accepted.{took-tree}
+use Rattle.substitute_node.proofs.Passing.{passed-long, passed-here, passed-made}
 use borrow.Author.Needs.{needs}
 use Rattle.substitute_node.proofs.substitute_node.Statement.{statement}
 use Rattle.substitute_node.proofs.substitute_node.Tie as tie
@@ -26,41 +24,22 @@ same-length-4 : tie.Need-same-length-4
 same-length-4 c = search needs
 
 returns : tie.Need-returns
-returns c =
-    let passed = c .before .before .before .before .before .before .before .before .before .take-statements in
-    passed-long (passed .ensures) (not-true _ (c .if1 .taken)) _
+returns c = passed-long (c .before .before .before .before .before .before .before .before .before .before .take-statements .ensures) (not-true _ (c .if1 .taken)) _
 
 take-expression-requires : tie.Need-take-expression-requires
 take-expression-requires c κs = search needs
 
 mul-k : tie.Need-mul-k
-mul-k c =
-    let passed = c .before .before .before .before .before .before .before .before .before .before .before .before .before .take-statements in
-    let read = c .before .before .take-expression in
-    let start = c .before .before .before .before .before .before .before .before .before .before .before .before .before .before .before .before .before .before .before .before .before .before .before .before in
-    omega (arith, read .ensures .few, passed .kept .1 .1 .1 .1 .1 .1 .0, start .pre .0 .wordsRoom)
+mul-k c = search needs
 
 slice-reshare-prefix-substitute : tie.Need-slice-reshare-prefix-substitute
-slice-reshare-prefix-substitute c =
-    let passed = c .before .before .before .before .before .before .before .before .before .before .before .before .before .take-statements in
-    let read = c .before .before .take-expression in
-    let start = c .before .before .before .before .before .before .before .before .before .before .before .before .before .before .before .before .before .before .before .before .before .before .before .before in
-    omega (arith, read .ensures .few, read .kept .1 .1 .1 .0, passed .kept .1 .1 .1 .1 .1 .1 .0, start .pre .0 .wordsRoom)
+slice-reshare-prefix-substitute c = search needs
 
 slice-aggregate-substitute : tie.Need-slice-aggregate-substitute
-slice-aggregate-substitute c =
-    let passed = c .before .before .before .before .before .before .before .before .before .before .before .before .before .before .take-statements in
-    let read = c .before .before .before .take-expression in
-    let start = c .before .before .before .before .before .before .before .before .before .before .before .before .before .before .before .before .before .before .before .before .before .before .before .before .before in
-    sym (length-take-le _ _ (omega (arith, read .ensures .few, read .kept .1 .1 .1 .0, passed .kept .1 .1 .1 .1 .1 .1 .0, start .pre .0 .wordsRoom)))
+slice-aggregate-substitute c = sym (length-take-le _ _ (omega (arith, c .before .before .before .take-expression .ensures .few, c .before .before .before .take-expression .kept .1 .1 .1 .0, c .before .before .before .before .before .before .before .before .before .before .before .before .before .before .before .take-statements .kept .1 .1 .1 .1 .1 .1 .0, c .before .before .before .before .before .before .before .before .before .before .before .before .before .before .before .before .before .before .before .before .before .before .before .before .before .before .pre .0 .wordsRoom)))
 
 substitute-requires : tie.Need-substitute-requires
-substitute-requires c κs =
-    let passed = c .before .before .before .before .before .before .before .before .before .before .before .before .before .before .before .before .before .take-statements in
-    let read = c .before .before .before .before .before .before .take-expression in
-    let start = c .before .before .before .before .before .before .before .before .before .before .before .before .before .before .before .before .before .before .before .before .before .before .before .before .before .before .before .before in
-    let words = took-tree _ _ _ (read .ensures) (start .pre .1 .1) in
-    (words .0, words .1, passed .ensures .slots, omega arith)
+substitute-requires c κs = let words = took-tree _ _ _ (c .before .before .before .before .before .before .take-expression .ensures) (passed-here (c .before .before .before .before .before .before .before .before .before .before .before .before .before .before .before .before .before .before .take-statements .ensures) (not-false _ (c .before .before .before .before .before .before .before .before .if1 .left)) _ _ (c .before .before .before .before .before .before .before .before .before .before .before .before .before .before .before .before .before .before .before .before .before .before .before .before .before .before .before .before .before .pre .1 .1)) in (words .0, words .1, c .before .before .before .before .before .before .before .before .before .before .before .before .before .before .before .before .before .before .take-statements .ensures .slots, omega (arith, c .before .before .before .before .before .before .before .before .before .before .before .before .before .before .before .before .before .before .take-statements .kept .1 .1 .1 .1 .1 .1 .1 .0, c .before .before .before .before .before .before .before .before .before .before .before .before .before .before .before .before .before .before .before .before .before .before .before .before .before .before .before .before .before .pre .0 .outRoom))
 
 same-length-5 : tie.Need-same-length-5
 same-length-5 c = search needs
@@ -75,11 +54,7 @@ same-length-8 : tie.Need-same-length-8
 same-length-8 c = search needs
 
 returns-2 : tie.Need-returns-2
-returns-2 c =
-    let passed = c .before .before .before .before .before .before .before .before .before .before .before .before .before .before .before .before .before .before .before .before .take-statements in
-    let read = c .before .before .before .before .before .before .before .before .before .take-expression in
-    let start = c .before .before .before .before .before .before .before .before .before .before .before .before .before .before .before .before .before .before .before .before .before .before .before .before .before .before .before .before .before .before .before in
-    passed-made (c .before .before .substitute .last .1 .1 .1 .0) _ (c .before .before .substitute .result) (passed .ensures) (not-false _ (c .before .before .before .before .before .before .before .before .before .before .before .if1 .left)) _ (ap treeOf (took-front (read .ensures) (start .pre .1 .1))) (c .before .before .substitute .ensures)
+returns-2 c = passed-made (c .before .before .before .before .before .before .before .before .before .before .before .before .before .before .before .before .before .before .before .before .before .take-statements .ensures) (not-false _ (c .before .before .before .before .before .before .before .before .before .before .before .if1 .left)) _ _ (c .before .before .substitute .last .1 .1 .1 .0) (c .before .before .substitute .result) (c .before .before .before .before .before .before .before .before .before .take-expression .ensures) (c .before .before .before .before .before .before .before .before .before .before .before .before .before .before .before .before .before .before .before .before .before .before .before .before .before .before .before .before .before .before .before .before .pre .1 .1) (c .before .before .substitute .ensures)
 
 pub substitute-node-spec : {M : Type 1} → statement M
 substitute-node-spec =

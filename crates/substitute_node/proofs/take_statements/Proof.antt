@@ -55,7 +55,7 @@ returns : tie.Need-returns Inv-loop μ-loop
 returns c =
     let took = c .before .before .before .before .before .before .before .before .before .before .take-statement in
     let loop = c .before .before .before .before .before .before .before .before .before .before .before .before .before .before .before .before .loop in
-    passing-stop (loop .inv) (omega arith) (took .ensures .1) (not-true _ (c .if1 .taken))
+    passing-stop (loop .inv) (omega arith) (took .ensures .1) (not-true _ (c .if1 .taken)) _
 
 add-i : tie.Need-add-i Inv-loop μ-loop
 add-i c = omega arith
