@@ -1,0 +1,4 @@
+-- laws of the definitions, which other proofs cite
+pub mod Decided
+pub mod Puts
+pub mod Written
