@@ -13,7 +13,7 @@ use Rattle.verdict_block.specs.declared.End.{End}
 use Rattle.verdict_block.specs.declared.Jump.{Jump}
 use Rattle.verdict_block.specs.declared.Jump.the-variants.{Nothing}
 use Rattle.verdict_block.specs.Verdict.{preceded, apart, jumpOf, endFrom}
-use Rattle.verdict_block.specs.Verdict.Parts.{ending}
+use Rattle.verdict_block.specs.Verdict.Parts.{none, ending}
 
 -- a list with one instruction more ends in it
 apart-last : (l : List Instruction) (x : Instruction) → apart (l ++ (x ∷ [])) ≡ ending l x
@@ -40,14 +40,23 @@ module _ (l : List Instruction) where
   unfolding steppedAll
   between-done i end state out = rw (none-left i end out)
 
+  pub apart-none : (i end : ℕ) → end ≤ i → apart (slice i end l) ≡ none
+  unfolding apart
+  apart-none i end out = rw (none-left i end out)
+
   pub end-none : (i end : ℕ) (start : State) → end ≤ i → record { known = start; jump = Nothing } ≡ endFrom start (slice i end l)
-  unfolding endFrom apart
-  end-none i end start out = rw (none-left i end out)
+  unfolding endFrom
+  end-none i end start out = rw (apart-none i end out)
 
   snoc-at : (first last : ℕ) (d : Instruction) → first ≤ last → last < length l → slice first (last + 1) l ≡ slice first last l ++ (getD l last d ∷ [])
   snoc-at first last d order fits =
       let within : first ≤ length (take last l) = rw (length-take-le last l (omega arith)) order in
       rw (add-one last, take-suc l last d fits) (drop-append-le first (take last l) (getD l last d ∷ []) within)
+
+  pub apart-between : (first last end : ℕ) (d : Instruction) → first < end → last + 1 ≡ end → end ≤ length l
+      → apart (slice first end l) ≡ ending (slice first last l) (getD l last d)
+  apart-between first last end d below last-is fits =
+      rw (← last-is, snoc-at first last d (omega arith) (omega arith)) (apart-last (slice first last l) (getD l last d))
 
   -- the last one
   pub end-last : (first last end : ℕ) {x : Instruction} (start : State) {state : State} {jump : Jump} → first < end → last + 1 ≡ end
@@ -55,4 +64,4 @@ module _ (l : List Instruction) where
       → jump ≡ jumpOf x → record { known = state; jump = jump } ≡ endFrom start (slice first end l)
   unfolding endFrom
   end-last first last end {x} start below last-is fits state-is x-is jump-is =
-      rw (← last-is, snoc-at first last x (omega arith) (omega arith), apart-last (slice first last l) (getD l last x), ← x-is x, state-is, jump-is)
+      rw (apart-between first last end x below last-is fits, ← x-is x, state-is, jump-is)

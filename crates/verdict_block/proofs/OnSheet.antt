@@ -23,14 +23,22 @@ module _ (s : List ℕ) (sheet : Sheet) (read : readingOf s ≡ Accepted sheet) 
       → end ≤ length (sheetAt s .instructions .list)
   inside places-are fits = rw (instructions-count s sheet read, ← places-count s sheet read, ← places-are) fits
 
+  -- a block's instructions from the parts
+  pub code-is : (number : ℕ) {addresses : List ℕ} {block : Block} {first end : ℕ}
+      → addresses ≡ addressesOf (sheetAt s .instructions .list) → block ≡ getD (sheetAt s .blocks .list) number noBlock
+      → first ≡ countBelow addresses (block .from) → end ≡ countBelow addresses (block .to)
+      → codeOf s number ≡ slice first end (sheetAt s .instructions .list)
+  unfolding codeOf
+  code-is number addresses-are block-is first-is to-is =
+      rw (← block-is, range-is _ _ _ (addresses-rise s sheet read), ← addresses-are, ← first-is, ← to-is)
+
   -- the end of a block from the parts
   pub end-is : (number : ℕ) {addresses : List ℕ} {block : Block} {first end : ℕ} (start : State) {r : End}
       → addresses ≡ addressesOf (sheetAt s .instructions .list) → block ≡ getD (sheetAt s .blocks .list) number noBlock
       → first ≡ countBelow addresses (block .from) → end ≡ countBelow addresses (block .to)
       → r ≡ endFrom start (slice first end (sheetAt s .instructions .list)) → r ≡ endOn s number start
-  unfolding endOn codeOf
-  end-is number start addresses-are block-is first-is to-is r-is =
-      rw (← block-is, range-is _ _ _ (addresses-rise s sheet read), ← addresses-are, ← first-is, ← to-is) r-is
+  unfolding endOn
+  end-is number start addresses-are block-is first-is to-is r-is = rw (code-is number addresses-are block-is first-is to-is) r-is
 
   -- where the index ends a range is within the list of places
   pub end-inside : (x : ℕ) {addresses places : List ℕ} {end : ℕ}

@@ -1,2 +1,3 @@
 pub mod Sites
 pub mod Said
+pub mod Kept

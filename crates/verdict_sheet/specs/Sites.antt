@@ -1,7 +1,7 @@
 -- The branch that a record is about.
 use Prim.Native.Nat.{ℕ}
 use mathlib.Core.List.{List, [], _∷_}
-use mathlib.Core.Bool.{Bool, false, cond, _&&_, _||_}
+use mathlib.Core.Bool.{Bool, false, cond}
 use mathlib.Core.Option.{Option, none, some}
 use lib.Dec.{eqb}
 use Rattle.isa.specs.declared.Instruction.{Instruction}
@@ -9,10 +9,10 @@ use Rattle.sheet.specs.Sheet.{sheetAt, nodeNumbered}
 use Rattle.verdict_block.specs.Verdict.{Parts, apart, codeOf}
 use Rattle.verdict_block.specs.Verdict.Parts.{none as noInstruction, ending}
 
--- whether a conditional branch stands at an address
+-- whether the instruction at an address is a conditional branch
 unfoldable pub branchAt : List Instruction → ℕ → Bool
 branchAt [] address = false
-branchAt (i ∷ code) address = (eqb (i .address) address && i .branch) || branchAt code address
+branchAt (i ∷ code) address = cond (eqb (i .address) address) (i .branch) (branchAt code address)
 
 -- an address, unless a later one is taken
 abbrev pub unlessLater : Option ℕ → Option ℕ → Option ℕ

@@ -1,2 +1,279 @@
-// The verdicts on all records of an accepted sheet: blocks in order, then nodes in order; of each branch the first decided
-// verdict is kept.
+// The verdicts on all records of an accepted sheet: blocks in order, then nodes in order. Each is about one branch at most,
+// and in the slot of each branch the first decided verdict is kept. A node that is refused ends it.
+use search::Found;
+use sheet::Sheet;
+use sheet_field::Width;
+use sheet_node::NodeReading;
+use verdict::Answer;
+use verdict::Verdict;
+ghost use mathlib.Core.Path.{_≡_};
+ghost use mathlib.Core.List.{List, [], _++_};
+ghost use Prim.Native.Nat.{_<_};
+ghost use lib.ListN.{length};
+ghost use Rattle.search.specs.Ascending.{Ascending, placeOf};
+ghost use Rattle.sheet.specs.declared.Reading.the-variants.{Accepted};
+ghost use Rattle.sheet.specs.Sheet.{sheetAt, readingOf, nodeNumbered, nodePlace};
+ghost use Rattle.sheet_node.specs.Node.{nodeOf};
+ghost use Rattle.verdict_block.specs.Verdict.{verdictOn};
+ghost use Rattle.verdict_node.specs.NodeVerdict.{nodeVerdict};
+ghost use Rattle.verdict_node.specs.Contracts.{LentNode};
+ghost use Rattle.verdict_sheet.specs.Sites.{lastBranch, nodeSite, blockSite};
+ghost use Rattle.verdict_sheet.specs.Said.{Said, saying, blocksSay, nodeToo, judgedUpTo};
+ghost use Rattle.verdict_sheet.specs.Said.Judged.{all};
+ghost use Rattle.verdict_sheet.specs.Kept.{BranchIndex, ifBranch, SiteIs, keptAt, HasSlot, slotsOf, Reached, JudgingNode};
+
+// How far judging came: through all records, or to a node that is refused, by a number and at a place.
+pub enum Progress {
+    Through,
+    Refused(u64, usize),
+}
+
+// The number of the conditional branch at an address, or else another.
+fn branch_or(addresses: &[u64], branches: &[bool], address: u64, otherwise: Found) -> Found
+    requires { ⌜ Ascending (now addresses) ⌝ }
+    requires { ⌜ length (now branches) ≡ length (now addresses) ⌝ }
+    ensures { λ r. ⌜ r ≡ ifBranch (now (branches .entry)) (placeOf (now (addresses .entry)) address) otherwise ⌝ }
+{
+    let found = search::find(addresses, address);
+    match found {
+        Found::At(k) => { if branches[k] { found } else { otherwise } }
+        Found::Nothing => otherwise,
+    }
+}
+
+// The number of a node's jump.
+fn node_jump(s: &[u8], node: NodeReading, addresses: &[u64], branches: &[bool]) -> Found
+    requires { ⌜ BranchIndex (now s) (now addresses) (now branches) ⌝ }
+    ensures { λ r. ⌜ SiteIs (sheetAt (now (s .entry)) .instructions .list) r (lastBranch (sheetAt (now (s .entry)) .instructions .list) (nodeOf (now (s .entry)) node .addresses)) ⌝ }
+{
+    let n = node.addresses;
+    let mut next = node.sites;
+    let mut jump = Found::Nothing;
+    let mut i: u64 = 0;
+    while i < n {
+        let f = sheet_field::take_field(s, next, Width::Eight);
+        jump = branch_or(addresses, branches, f.value, jump);
+        next = f.next;
+        i += 1;
+    }
+    jump
+}
+
+// The number of the branch of the block of that number.
+fn block_branch(s: &[u8], sheet: Sheet, addresses: &[u64], branches: &[bool], number: u64) -> Found
+    requires { ⌜ readingOf (now s) ≡ Accepted sheet ⌝ }
+    requires { ⌜ number < sheet .blocks .count ⌝ }
+    requires { ⌜ BranchIndex (now s) (now addresses) (now branches) ⌝ }
+    ensures { λ r. ⌜ SiteIs (sheetAt (now (s .entry)) .instructions .list) r (blockSite (now (s .entry)) number) ⌝ }
+{
+    let block = sheet::nth_block(s, sheet, number);
+    let first = search::first_at_or_above(addresses, block.from);
+    let end = search::first_at_or_above(addresses, block.to);
+    if end <= first {
+        return Found::Nothing;
+    }
+    let last = end - 1;
+    if branches[last] {
+        return Found::At(last);
+    }
+    Found::Nothing
+}
+
+// Keeps a verdict in the slot of that number, if there is one.
+fn keep_at(slots: &mut [u8], at: Found, v: Verdict)
+    requires { ⌜ HasSlot (now slots) at ⌝ }
+    ensures { λ _. ⌜ now (slots .exit) ≡ keptAt (now (slots .entry)) at v ⌝ }
+{
+    match at {
+        Found::At(k) => verdict_lines::keep(slots, k, v),
+        Found::Nothing => {}
+    }
+}
+
+// The block of that number, where it has a branch.
+fn judge_block(
+    s: &[u8],
+    sheet: Sheet,
+    addresses: &[u64],
+    places: &[u64],
+    branches: &[bool],
+    number: u64,
+    slots: &mut [u8],
+)
+    requires { ⌜ readingOf (now s) ≡ Accepted sheet ⌝ }
+    requires { ⌜ number < sheet .blocks .count ⌝ }
+    requires { ⌜ BranchIndex (now s) (now addresses) (now branches) ⌝ }
+    requires { ⌜ now places ≡ sheetAt (now s) .instructions .places ⌝ }
+    requires { ⌜ length (now slots) ≡ length (now addresses) ⌝ }
+    ensures { λ _. ⌜ ((said : List Said) → now (slots .entry) ≡ slotsOf (sheetAt (now (s .entry)) .instructions .list) said → now (slots .exit) ≡ slotsOf (sheetAt (now (s .entry)) .instructions .list) (said ++ saying (blockSite (now (s .entry)) number) (verdictOn (now (s .entry)) number))) ⌝ }
+{
+    let at = block_branch(s, sheet, addresses, branches, number);
+    match at {
+        Found::At(k) => {
+            let v = verdict_block::verdict_on(s, sheet, addresses, places, number);
+            verdict_lines::keep(slots, k, v)
+        }
+        Found::Nothing => {}
+    }
+}
+
+// All blocks, in order.
+fn judge_blocks(
+    s: &[u8],
+    sheet: Sheet,
+    addresses: &[u64],
+    places: &[u64],
+    branches: &[bool],
+    slots: &mut [u8],
+)
+    requires { ⌜ readingOf (now s) ≡ Accepted sheet ⌝ }
+    requires { ⌜ BranchIndex (now s) (now addresses) (now branches) ⌝ }
+    requires { ⌜ now places ≡ sheetAt (now s) .instructions .places ⌝ }
+    requires { ⌜ now slots ≡ slotsOf (sheetAt (now s) .instructions .list) [] ⌝ }
+    ensures { λ _. ⌜ now (slots .exit) ≡ slotsOf (sheetAt (now (s .entry)) .instructions .list) (blocksSay (now (s .entry)) (sheet .blocks .count)) ⌝ }
+{
+    let section = sheet.blocks;
+    let n = section.count;
+    let mut i: u64 = 0;
+    while i < n {
+        judge_block(s, sheet, addresses, places, branches, i, slots);
+        i += 1;
+    }
+}
+
+// The node of that number.
+fn judge_node(
+    s: &[u8],
+    sheet: Sheet,
+    addresses: &[u64],
+    branches: &[bool],
+    nodes: &[u64],
+    number: usize,
+    slots: &mut [u8],
+    table: &mut [u64],
+    lengths: &mut [usize],
+    words: &mut [u64],
+    out: &mut [u64],
+    atoms: &mut [u64],
+    terms: &mut [u64],
+    products: &mut [u64],
+) -> Progress
+    requires { ⌜ readingOf (now s) ≡ Accepted sheet ⌝ }
+    requires { ⌜ BranchIndex (now s) (now addresses) (now branches) ⌝ }
+    requires { ⌜ JudgingNode (now s) (now nodes) number (now addresses) (now slots) ⌝ }
+    requires { ⌜ LentNode (now table) (now lengths) (now words) (now out) (now atoms) (now terms) (now products) ⌝ }
+    ensures { λ r. ⌜ ((said : List Said) → now (slots .entry) ≡ slotsOf (sheetAt (now (s .entry)) .instructions .list) said → Reached (sheetAt (now (s .entry)) .instructions .list) r (now (slots .exit)) (nodeToo (all said) (nodeSite (now (s .entry)) number) (nodeVerdict (nodeNumbered (now (s .entry)) number) (nodePlace (now (s .entry)) number)))) ⌝ }
+{
+    let node = sheet::nth_node(s, sheet, nodes, number, words);
+    let place = nodes[number] as usize;
+    let answer = verdict_node::verdict_of(
+        s,
+        node,
+        place,
+        table,
+        lengths,
+        words,
+        out,
+        atoms,
+        terms,
+        products,
+    );
+    match answer {
+        Answer::Given(v) => {
+            keep_at(slots, node_jump(s, node, addresses, branches), v);
+            Progress::Through
+        }
+        Answer::Refused(k, at) => Progress::Refused(k, at),
+    }
+}
+
+// All nodes, in order, up to the first that is refused.
+fn judge_nodes(
+    s: &[u8],
+    sheet: Sheet,
+    addresses: &[u64],
+    branches: &[bool],
+    nodes: &[u64],
+    slots: &mut [u8],
+    table: &mut [u64],
+    lengths: &mut [usize],
+    words: &mut [u64],
+    out: &mut [u64],
+    atoms: &mut [u64],
+    terms: &mut [u64],
+    products: &mut [u64],
+) -> Progress
+    requires { ⌜ readingOf (now s) ≡ Accepted sheet ⌝ }
+    requires { ⌜ BranchIndex (now s) (now addresses) (now branches) ⌝ }
+    requires { ⌜ now nodes ≡ sheetAt (now s) .nodes .places ⌝ }
+    requires { ⌜ now slots ≡ slotsOf (sheetAt (now s) .instructions .list) (blocksSay (now s) (sheet .blocks .count)) ⌝ }
+    requires { ⌜ LentNode (now table) (now lengths) (now words) (now out) (now atoms) (now terms) (now products) ⌝ }
+    ensures { λ r. ⌜ Reached (sheetAt (now (s .entry)) .instructions .list) r (now (slots .exit)) (judgedUpTo (now (s .entry)) (sheet .blocks .count) (sheet .nodes .count)) ⌝ }
+{
+    let mut i = 0;
+    while i < nodes.len() {
+        let r = judge_node(
+            s,
+            sheet,
+            addresses,
+            branches,
+            nodes,
+            i,
+            slots,
+            table,
+            lengths,
+            words,
+            out,
+            atoms,
+            terms,
+            products,
+        );
+        if let Progress::Refused(k, at) = r {
+            return Progress::Refused(k, at);
+        }
+        i += 1;
+    }
+    Progress::Through
+}
+
+// All records of an accepted sheet with its index, on slots that hold nothing. What is lent besides is written over.
+pub fn judge(
+    s: &[u8],
+    sheet: Sheet,
+    addresses: &[u64],
+    places: &[u64],
+    branches: &[bool],
+    nodes: &[u64],
+    slots: &mut [u8],
+    table: &mut [u64],
+    lengths: &mut [usize],
+    words: &mut [u64],
+    out: &mut [u64],
+    atoms: &mut [u64],
+    terms: &mut [u64],
+    products: &mut [u64],
+) -> Progress
+    requires { ⌜ readingOf (now s) ≡ Accepted sheet ⌝ }
+    requires { ⌜ BranchIndex (now s) (now addresses) (now branches) ⌝ }
+    requires { ⌜ (now places ≡ sheetAt (now s) .instructions .places) × (now nodes ≡ sheetAt (now s) .nodes .places) ⌝ }
+    requires { ⌜ now slots ≡ slotsOf (sheetAt (now s) .instructions .list) [] ⌝ }
+    requires { ⌜ LentNode (now table) (now lengths) (now words) (now out) (now atoms) (now terms) (now products) ⌝ }
+    ensures { λ r. ⌜ Reached (sheetAt (now (s .entry)) .instructions .list) r (now (slots .exit)) (judgedUpTo (now (s .entry)) (sheet .blocks .count) (sheet .nodes .count)) ⌝ }
+{
+    judge_blocks(s, sheet, addresses, places, branches, slots);
+    judge_nodes(
+        s,
+        sheet,
+        addresses,
+        branches,
+        nodes,
+        slots,
+        table,
+        lengths,
+        words,
+        out,
+        atoms,
+        terms,
+        products,
+    )
+}

@@ -1,0 +1,4 @@
+-- laws of the definitions, which other proofs cite
+pub mod Branches
+pub mod Keeping
+pub mod Order

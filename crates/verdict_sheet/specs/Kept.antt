@@ -1,0 +1,62 @@
+-- What the contracts here ask and give: the index, a branch by the number of its instruction, the slots.
+use Prim.Native.Nat.{ℕ, _<_}
+use mathlib.Core.Path.{_≡_}
+use mathlib.Core.List.{List, map}
+use mathlib.Core.Bool.{Bool, false, cond}
+use mathlib.Core.Option.{Option, none, some}
+use lib.ListN.{length, getD}
+use Rattle.isa.specs.declared.Instruction.{Instruction}
+use Rattle.verdict.specs.declared.Verdict.{Verdict}
+use Rattle.search.specs.declared.Found.{Found}
+use Rattle.search.specs.declared.Found.the-variants.{At, Nothing}
+use Rattle.search.specs.Ascending.{Ascending, placeOf}
+use Rattle.sheet.specs.Sheet.{sheetAt}
+use Rattle.sheet.specs.Index.{addressesOf, branchesOf}
+use Rattle.verdict_lines.specs.Slots.{slotOf, kept}
+use Rattle.verdict_sheet.specs.declared.Progress.{Progress}
+use Rattle.verdict_sheet.specs.declared.Progress.the-variants as progress
+use Rattle.verdict_sheet.specs.Said.{Said, firstDecided, Judged}
+use Rattle.verdict_sheet.specs.Said.Judged.{all, refused}
+
+-- addresses and marks of conditional branches are those of a sheet's instructions, and the addresses rise
+pub record BranchIndex (s a : List ℕ) (b : List Bool) : Type 0 where
+  pub addresses : a ≡ addressesOf (sheetAt s .instructions .list)
+  pub branches : b ≡ branchesOf (sheetAt s .instructions .list)
+  pub rising : Ascending a
+
+-- a place, where a conditional branch stands there, or else another
+abbrev pub ifBranch : List Bool → Found → Found → Found
+ifBranch branches (At k) otherwise = cond (getD branches k false) (At k) otherwise
+ifBranch branches Nothing otherwise = otherwise
+
+-- the instruction of that number is the one at that address
+abbrev pub SiteIs : List Instruction → Found → Option ℕ → Type 0
+SiteIs code (At k) site = (k < length code) × (site ≡ some (getD (addressesOf code) k 0))
+SiteIs code Nothing site = site ≡ none
+
+-- slots with a verdict kept at a number, if there is one
+abbrev pub keptAt : List ℕ → Found → Verdict → List ℕ
+keptAt slots (At k) v = kept slots k v
+keptAt slots Nothing v = slots
+
+-- that number has a slot
+abbrev pub HasSlot : List ℕ → Found → Type 0
+HasSlot slots (At k) = k < length slots
+HasSlot slots Nothing = Unit {0}
+
+-- the slots after some verdicts
+unfoldable pub slotsOf : List Instruction → List Said → List ℕ
+slotsOf code said = map (λ (i : Instruction). slotOf (firstDecided (i .address) said)) code
+
+-- what judging came to: the slots after all that was said, or the refusal
+abbrev pub Reached : List Instruction → Progress → List ℕ → Judged → Type 0
+Reached code progress.Through slots (all said) = slots ≡ slotsOf code said
+Reached code progress.Through slots (refused number place) = ⊥
+Reached code (progress.Refused number place) slots (all said) = ⊥
+Reached code (progress.Refused number place) slots (refused n p) = (number ≡ n) × (place ≡ p)
+
+-- there is a node of that number, with its place in a list, and a slot for each address
+pub record JudgingNode (s nodes : List ℕ) (number : ℕ) (a slots : List ℕ) : Type 0 where
+  pub places : nodes ≡ sheetAt s .nodes .places
+  pub there : number < length nodes
+  pub eachSlot : length slots ≡ length a
