@@ -60,3 +60,7 @@ listingOf s list = listingOn (readingOf s) s list
 abbrev pub ReturnedListing : ℕ → ℕ → ListedNumbers → Type 0
 ReturnedListing r out (lines count) = (r ≡ 0) × (out ≡ count)
 ReturnedListing r out (refused number place) = (r ≡ number) × (out ≡ place)
+
+-- what the code gives of it: the answer, and the list as it leaves it
+abbrev pub Gives : Listed → List ℕ → Listing → Type 0
+Gives r list listing = (listedNumbers r ≡ listing .answer) × (list ≡ listing .list)

@@ -3,11 +3,18 @@
 use verdict::Verdict;
 ghost use mathlib.Core.Path.{_≡_};
 ghost use Prim.Native.Nat.{_+_, _*_, _≤_, _<_};
-ghost use lib.ListN.{length};
+ghost use lib.ListN.{length, replicate};
 ghost use Rattle.sheet.specs.Index.{over};
 ghost use Rattle.format.specs.Write.{bytes, records};
 ghost use Rattle.verdict_lines.specs.Lines.{lineBytes};
 ghost use Rattle.verdict_lines.specs.Slots.{slotOf, kept, decidedOf, decidedIn, slotLine, linesIn, putAt, RoomFor};
+
+// Slots that hold nothing, for as many instructions as a sheet can have.
+pub fn empty_slots() -> [u8; 2048]
+    ensures { λ r. ⌜ r ≡ replicate 2048 0 ⌝ }
+{
+    [0; 2048]
+}
 
 // What a slot holds of a verdict: 0 where it decides nothing, else twice the reason's number, and one more for always.
 fn slot_of(v: Verdict) -> u8

@@ -2,3 +2,4 @@
 pub mod Branches
 pub mod Keeping
 pub mod Order
+pub mod Due

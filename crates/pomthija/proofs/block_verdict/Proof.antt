@@ -4,10 +4,6 @@ use mathlib.Core.Path.{sym, _∙_}
 use borrow.Author.Needs.{needs}
 use Rattle.pomthija.proofs.block_verdict.Statement.{statement}
 use Rattle.pomthija.proofs.block_verdict.Tie as tie
-use Rattle.pomthija.proofs.block_verdict.Reads as reads
-use Rattle.pomthija.proofs.block_verdict.Lts as lts
-use Rattle.pomthija.proofs.judge_block.Reads as judge-block-reads
-use Rattle.sheet.proofs.read_index.Reads as read-index-reads
 
 slice-aggregate-read-index : tie.Need-slice-aggregate-read-index
 slice-aggregate-read-index c = search needs

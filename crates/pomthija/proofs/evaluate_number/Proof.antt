@@ -4,10 +4,6 @@ use mathlib.Core.Path.{refl, sym}
 use borrow.Author.Needs.{needs}
 use Rattle.pomthija.proofs.evaluate_number.Statement.{statement}
 use Rattle.pomthija.proofs.evaluate_number.Tie as tie
-use Rattle.pomthija.proofs.evaluate_number.Reads as reads
-use Rattle.pomthija.proofs.evaluate_number.Lts as lts
-use Rattle.evaluate_node.proofs.evaluate_node.Reads as evaluate-node-reads
-use Rattle.sheet.proofs.nth_node.Reads as nth-node-reads
 
 returns : tie.Need-returns
 returns c = evaluation-missing (c .before .before .before .before .before .before .args .s .now) (c .before .before .before .before .before .before .args .number) (c .before .before .before .before .before .before .args .values .now) refl (c .before .before .before .before .before .before .pre .0) (c .if1 .taken)

@@ -4,10 +4,6 @@ use mathlib.Core.Path.{sym, _∙_}
 use borrow.Author.Needs.{needs}
 use Rattle.pomthija.proofs.evaluation.Statement.{statement}
 use Rattle.pomthija.proofs.evaluation.Tie as tie
-use Rattle.pomthija.proofs.evaluation.Reads as reads
-use Rattle.pomthija.proofs.evaluation.Lts as lts
-use Rattle.pomthija.proofs.evaluate_number.Reads as evaluate-number-reads
-use Rattle.sheet.proofs.read_index.Reads as read-index-reads
 
 slice-aggregate-read-index : tie.Need-slice-aggregate-read-index
 slice-aggregate-read-index c = search needs

@@ -4,9 +4,6 @@ use mathlib.Core.Path.{refl, sym}
 use borrow.Author.Needs.{needs}
 use Rattle.pomthija.proofs.judge_block.Statement.{statement}
 use Rattle.pomthija.proofs.judge_block.Tie as tie
-use Rattle.pomthija.proofs.judge_block.Reads as reads
-use Rattle.pomthija.proofs.judge_block.Lts as lts
-use Rattle.verdict_block.proofs.verdict_on.Reads as verdict-on-reads
 
 returns : tie.Need-returns
 returns c = block-missing (c .before .before .before .before .before .before .args .s .now) (c .before .before .before .before .before .before .args .number) refl (c .before .before .before .before .before .before .pre .0) (c .if1 .taken)

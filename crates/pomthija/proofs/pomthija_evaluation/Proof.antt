@@ -2,9 +2,6 @@ use mathlib.Core.Path.{refl}
 use borrow.Author.Needs.{needs}
 use Rattle.pomthija.proofs.pomthija_evaluation.Statement.{statement}
 use Rattle.pomthija.proofs.pomthija_evaluation.Tie as tie
-use Rattle.pomthija.proofs.pomthija_evaluation.Reads as reads
-use Rattle.pomthija.proofs.pomthija_evaluation.Lts as lts
-use Rattle.pomthija.proofs.evaluation.Reads as evaluation-reads
 
 evaluation-requires : tie.Need-evaluation-requires
 evaluation-requires c κs = search needs
