@@ -25,8 +25,8 @@ const USAGE: &str = "usage:
                                    the stored cases, and the lines due
   oracle verdicts --program PATH --given PATH [--sheets N] [--seed S]
   oracle verdicts --stub --given PATH [--sheets N] [--seed S]
-  oracle nodes --program PATH --given PATH [--nodes N] [--seed S] [--smallest]
-  oracle nodes --stub --given PATH [--nodes N] [--seed S] [--smallest]
+  oracle nodes --program PATH [--given PATH] [--nodes N] [--seed S] [--smallest]
+  oracle nodes --stub [--given PATH] [--nodes N] [--seed S] [--smallest]
   oracle runs --program PATH [--runs N] [--seed S]
   oracle runs --stub [--runs N] [--seed S]
   oracle runs --given PATH [--runs N] [--seed S]
@@ -230,18 +230,17 @@ fn compare_verdicts(options: &Options) -> Outcome {
 }
 
 fn compare_nodes(options: &Options) -> Outcome {
-    let (Some(given), Some(program)) = (&options.given, options.command()?) else {
-        return Err(format!("nodes needs --given, and --program or --stub\n{USAGE}"));
+    let Some(program) = options.command()? else {
+        return Err(format!("nodes needs --program or --stub\n{USAGE}"));
     };
     let job = nodes::Job {
         program: &program,
-        given: std::slice::from_ref(given),
+        given: options.given.as_ref().map(std::slice::from_ref),
         nodes: options.nodes.unwrap_or(20_000),
         seed: options.seed.unwrap_or(1),
         smallest: options.smallest,
     };
-    let programs = format!("{} or {given}", program[0]);
-    nodes::compare(&job).map_err(|error| format!("{programs}: {error}"))
+    nodes::compare(&job).map_err(|error| format!("{}: {error}", program[0]))
 }
 
 /// The given source's verdicts are judged as they are: what docs/DIFFERENCES.md

@@ -111,9 +111,9 @@ fn judging(given: &[String], sheets: &Sheets) -> io::Result<Option<(f64, usize)>
     Ok(Some((times.iter().sum::<f64>() / times.len().max(1) as f64, open)))
 }
 
-/// Prints the times. A program reads the sheet of a frame once, and again for
-/// each number that it judges, the one past the last too; what a verdict takes
-/// is the rest with one reading.
+/// Prints the times for a frame with one node. A program reads its sheet three
+/// times: for the count of nodes, for the verdict, and for the number past the
+/// last; the given source's driver reads it once and builds trees.
 pub fn bench(program: &[String], given: &[String]) -> io::Result<()> {
     let sets: [(&str, fn() -> Sheets); 5] = [
         ("plain conditions", plain),
@@ -126,13 +126,10 @@ pub fn bench(program: &[String], given: &[String]) -> io::Result<()> {
         let sheets = sheets();
         let reading = each(program, &sheets, ask_reading)?;
         let all = each(program, &sheets, ask_nodes)?;
-        print!(
-            "{name}: reading {reading:.0} ns, verdict with reading {:.0} ns",
-            all - 2.0 * reading
-        );
+        print!("{name}: program {all:.0} ns, a frame of reading {reading:.0} ns");
         if let Some((alone, open)) = judging(given, &sheets)? {
             let whole = each(given, &sheets, ask_nodes)?;
-            print!("; given source {whole:.0} ns with reading and trees, {alone:.0} ns without");
+            print!("; given source {whole:.0} ns, judging alone {alone:.0} ns");
             if open > 0 {
                 print!(", {open} of {} not to the end", sheets.len());
             }

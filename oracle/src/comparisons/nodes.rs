@@ -29,7 +29,8 @@ const SHOWN: u64 = 10;
 
 pub struct Job<'a> {
     pub program: &'a [String],
-    pub given: &'a [String],
+    /// Without it the judge alone says what is due.
+    pub given: Option<&'a [String]>,
     pub nodes: u64,
     pub seed: u64,
     /// For each class of differences from the given source a smallest node.
@@ -99,8 +100,8 @@ struct Tally {
     answers: BTreeMap<String, u64>,
     classes: BTreeMap<Class, (u64, Node)>,
     compared: u64,
-    /// Nodes on which the given source was not run to its end, so that the
-    /// other judge alone says what is due.
+    /// Nodes on which the given source was not run to its end, or not asked, so
+    /// that the other judge alone says what is due.
     open: u64,
     differences: u64,
 }
@@ -136,7 +137,7 @@ impl Tally {
         for (Class { entry, given, due }, (count, _)) in &self.classes {
             println!("{}, {given} becomes {due}: {count}", entry.name());
         }
-        println!("not run to its end by the given source: {}", self.open);
+        println!("judged by the description alone: {}", self.open);
         println!("compared {} nodes, differences {}", self.compared, self.differences);
     }
 }
@@ -209,15 +210,17 @@ pub fn compare(job: &Job) -> io::Result<bool> {
         first = end;
     }
     tally.print();
-    if job.smallest {
-        print_smallest(job.given, &tally)?;
+    if let (true, Some(given)) = (job.smallest, job.given) {
+        print_smallest(given, &tally)?;
     }
     Ok(tally.differences == 0)
 }
 
 /// False if the source is absent.
 fn batch(job: &Job, nodes: &[Node], tally: &mut Tally) -> io::Result<bool> {
-    let Some([given, due]) = both(job.given, nodes)? else {
+    let nothing = || [(); 2].map(|()| vec![OPEN.to_string(); nodes.len()]);
+    let judged = job.given.map_or_else(|| Ok(Some(nothing())), |given| both(given, nodes))?;
+    let Some([given, due]) = judged else {
         return Ok(false);
     };
     let found = answers(job.program, nodes)?.unwrap_or_default();
