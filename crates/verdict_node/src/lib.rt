@@ -1,16 +1,15 @@
 // The answer for a node of an accepted sheet: its statements are substituted into its condition, and that is decided.
 use decide::Decision;
 use sheet_field::Place;
-use sheet_node::NodeReading;
 use substitution::Written;
 use verdict::Answer;
 ghost use mathlib.Core.Path.{_≡_};
 ghost use lib.ListN.{length};
 ghost use Rattle.sheet_field.specs.declared.Place.the-variants.{At};
 ghost use Rattle.sheet_field.specs.Field.{WentOn};
-ghost use Rattle.sheet_node.specs.Node.{nodeAt, nodeOf, ReadNode};
+ghost use Rattle.sheet_node.specs.Node.{nodeAt};
 ghost use Rattle.exact.specs.Answers.{Buffers};
-ghost use Rattle.verdict_node.specs.NodeVerdict.{onSubstituted, nodeVerdict};
+ghost use Rattle.verdict_node.specs.NodeVerdict.{onSubstituted};
 ghost use Rattle.verdict_node.specs.Contracts.{LentNode, onDecision, WholeWords, substitutedOf, JudgedIs};
 
 // The answer for a node; where it is a verdict, also how many addresses the node has, and the place of the first.
@@ -69,31 +68,6 @@ fn answer_for(
         Written::TooLong => Answer::Refused(10, place),
         Written::From(at) => answer_at(decide::decide(&out[at..], atoms, terms, products), place),
     }
-}
-
-// The answer for the node, read whole, that stands at a place. All that is lent is written over.
-pub fn verdict_of(
-    s: &[u8],
-    node: NodeReading,
-    place: usize,
-    table: &mut [u64],
-    lengths: &mut [usize],
-    words: &mut [u64],
-    out: &mut [u64],
-    atoms: &mut [u64],
-    terms: &mut [u64],
-    products: &mut [u64],
-) -> Answer
-    requires { ⌜ ReadNode (now s) node ⌝ }
-    requires { ⌜ LentNode (now table) (now lengths) (now words) (now out) (now atoms) (now terms) (now products) ⌝ }
-    ensures { λ r. ⌜ r ≡ nodeVerdict (nodeOf (now (s .entry)) node) place ⌝ }
-{
-    let types = sheet_node::node_types(s, node);
-    let body = node.body;
-    let n = node.statements;
-    let made = substitute_node::substitute_node(s, types, body, n, table, lengths, words, out);
-    let written = made.written;
-    answer_for(written, out, place, atoms, terms, products)
 }
 
 // The answer for the node that starts at a byte, in a sheet where it was read whole; its bytes are gone over once. All that

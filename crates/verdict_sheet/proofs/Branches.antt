@@ -123,10 +123,15 @@ jump-again s sites k code {f = f} jump {r} addresses-are branches-are before f-i
     rw (add-one k, ← now)
     (refl, jump-more code (addressesFrom s sites k .list) (f .value) jump (before .1) {r = r} (rw (← addresses-are, ← branches-are) r-is))
 
-pub jump-done : (s : List ℕ) (node : NodeReading) (code : List Instruction) (jump : Found) {k : ℕ} → k ≡ node .addresses
-    → SiteIs code jump (lastBranch code (addressesFrom s (node .sites) k .list)) → SiteIs code jump (lastBranch code (nodeOf s node .addresses))
+pub jump-done : (s : List ℕ) (sites : Place) (code : List Instruction) (jump : Found) {k n : ℕ} → k ≡ n
+    → SiteIs code jump (lastBranch code (addressesFrom s sites k .list)) → SiteIs code jump (lastBranch code (addressesFrom s sites n .list))
+jump-done s sites code jump all is = rw (← all) is
+
+-- a node's jump, from its addresses
+pub jump-of : (s : List ℕ) (node : NodeReading) (code : List Instruction) (jump : Found) {sites : Place} {n : ℕ} → sites ≡ node .sites → n ≡ node .addresses
+    → SiteIs code jump (lastBranch code (addressesFrom s sites n .list)) → SiteIs code jump (lastBranch code (nodeOf s node .addresses))
 unfolding nodeOf
-jump-done s node code jump all is = rw (← all) is
+jump-of s node code jump sites-are n-is is = rw (← sites-are, ← n-is) is
 
 -- some instruction of a list that has one
 one : (l : List Instruction) (k : ℕ) → k < length l → Instruction

@@ -6,7 +6,12 @@ use mathlib.Core.Bool.{Bool}
 use mathlib.Core.Option.{Option}
 use native.Mathlib.Omega.{arith}
 use native.Mathlib.Numerals.{add-one}
-use lib.ListN.{length}
+use lib.ListN.{length, getD}
+use Rattle.sheet_field.specs.declared.Place.the-variants.{At}
+use Rattle.sheet_field.specs.Field.{WentOn}
+use Rattle.sheet.specs.declared.Sheet.{Sheet}
+use Rattle.sheet.specs.declared.Reading.the-variants as reading
+use Rattle.sheet.proofs.ByNumber.{nth-node-read, nth-node-is}
 use Rattle.isa.specs.declared.Instruction.{Instruction}
 use Rattle.verdict.specs.declared.Verdict.{Verdict}
 use Rattle.verdict.specs.declared.Answer.{Answer}
@@ -14,8 +19,8 @@ use Rattle.verdict.specs.declared.Answer.the-variants as answer
 use Rattle.search.specs.declared.Found.{Found}
 use Rattle.search.specs.Ascending.{Ascending}
 use Rattle.sheet_node.specs.declared.NodeReading.{NodeReading}
-use Rattle.sheet_node.specs.Node.{nodeOf}
-use Rattle.sheet.specs.Sheet.{sheetAt, nodeNumbered, nodePlace}
+use Rattle.sheet_node.specs.Node.{nodeAt, nodeOf}
+use Rattle.sheet.specs.Sheet.{sheetAt, readingOf, noNode, nodeNumbered, nodePlace}
 use Rattle.sheet.specs.Index.{addressesOf}
 use Rattle.verdict_block.specs.Verdict.{verdictOn}
 use Rattle.verdict_node.specs.NodeVerdict.{nodeVerdict}
@@ -41,6 +46,15 @@ module _ (s : List ℕ) (code : List Instruction) where
 
   pub blocks-done : {k n : ℕ} {slots : List ℕ} → k ≡ n → slots ≡ slotsOf code (blocksSay s k) → slots ≡ slotsOf code (blocksSay s n)
   blocks-done whole is = rw (← whole) is
+
+-- the node of that number, where it stands
+module _ (s : List ℕ) (sheet : Sheet) (read : readingOf s ≡ reading.Accepted sheet) (number : ℕ) {nodes : List ℕ} (places : nodes ≡ sheetAt s .nodes .places)
+    (there : number < length nodes) where
+  pub stands-whole : WentOn (nodeAt s (At (getD nodes number 0)) .next)
+  stands-whole = nth-node-read s sheet read number {places = nodes} {r = nodeAt s (At (getD nodes number 0))} places there refl .on
+
+  pub stands : nodeOf s (nodeAt s (At (getD nodes number 0))) ≡ nodeNumbered s number
+  stands = nth-node-is s sheet read number {places = nodes} {r = nodeAt s (At (getD nodes number 0))} places there refl noNode
 
 -- one node
 module _ (s : List ℕ) {a : List ℕ} {b : List Bool} (index : BranchIndex s a b) (number : ℕ) (node : NodeReading) (node-is : nodeOf s node ≡ nodeNumbered s number)

@@ -2,8 +2,8 @@
 // and in the slot of each branch the first decided verdict is kept. A node that is refused ends it.
 use search::Found;
 use sheet::Sheet;
+use sheet_field::Place;
 use sheet_field::Width;
-use sheet_node::NodeReading;
 use verdict::Answer;
 use verdict::Verdict;
 ghost use mathlib.Core.Path.{_≡_};
@@ -13,7 +13,7 @@ ghost use lib.ListN.{length};
 ghost use Rattle.search.specs.Ascending.{Ascending, placeOf};
 ghost use Rattle.sheet.specs.declared.Reading.the-variants.{Accepted};
 ghost use Rattle.sheet.specs.Sheet.{sheetAt, readingOf, nodeNumbered, nodePlace};
-ghost use Rattle.sheet_node.specs.Node.{nodeOf};
+ghost use Rattle.sheet_node.specs.Node.{addressesFrom};
 ghost use Rattle.verdict_block.specs.Verdict.{verdictOn};
 ghost use Rattle.verdict_node.specs.NodeVerdict.{nodeVerdict};
 ghost use Rattle.verdict_node.specs.Contracts.{LentNode};
@@ -41,13 +41,12 @@ fn branch_or(addresses: &[u64], branches: &[bool], address: u64, otherwise: Foun
     }
 }
 
-// The number of a node's jump.
-fn node_jump(s: &[u8], node: NodeReading, addresses: &[u64], branches: &[bool]) -> Found
+// The number of a node's jump, from its n addresses, which start at a place.
+fn node_jump(s: &[u8], sites: Place, n: u64, addresses: &[u64], branches: &[bool]) -> Found
     requires { ⌜ BranchIndex (now s) (now addresses) (now branches) ⌝ }
-    ensures { λ r. ⌜ SiteIs (sheetAt (now (s .entry)) .instructions .list) r (lastBranch (sheetAt (now (s .entry)) .instructions .list) (nodeOf (now (s .entry)) node .addresses)) ⌝ }
+    ensures { λ r. ⌜ SiteIs (sheetAt (now (s .entry)) .instructions .list) r (lastBranch (sheetAt (now (s .entry)) .instructions .list) (addressesFrom (now (s .entry)) sites n .list)) ⌝ }
 {
-    let n = node.addresses;
-    let mut next = node.sites;
+    let mut next = sites;
     let mut jump = Found::Nothing;
     let mut i: u64 = 0;
     while i < n {
@@ -164,12 +163,9 @@ fn judge_node(
     requires { ⌜ LentNode (now table) (now lengths) (now words) (now out) (now atoms) (now terms) (now products) ⌝ }
     ensures { λ r. ⌜ ((said : List Said) → now (slots .entry) ≡ slotsOf (sheetAt (now (s .entry)) .instructions .list) said → Reached (sheetAt (now (s .entry)) .instructions .list) r (now (slots .exit)) (nodeToo (all said) (nodeSite (now (s .entry)) number) (nodeVerdict (nodeNumbered (now (s .entry)) number) (nodePlace (now (s .entry)) number)))) ⌝ }
 {
-    let node = sheet::nth_node(s, sheet, nodes, number, words);
-    let place = nodes[number] as usize;
-    let answer = verdict_node::verdict_of(
+    let judged = verdict_node::verdict_at(
         s,
-        node,
-        place,
+        nodes[number] as usize,
         table,
         lengths,
         words,
@@ -178,9 +174,15 @@ fn judge_node(
         terms,
         products,
     );
+    let answer = judged.answer;
+    let sites = judged.sites;
     match answer {
         Answer::Given(v) => {
-            keep_at(slots, node_jump(s, node, addresses, branches), v);
+            keep_at(
+                slots,
+                node_jump(s, sites, judged.addresses, addresses, branches),
+                v,
+            );
             Progress::Through
         }
         Answer::Refused(k, at) => Progress::Refused(k, at),
