@@ -3,9 +3,11 @@
  * The host answers for this much; the library checks everything else by itself:
  *   - a pointer is good for as many elements as the length beside it says. Where that is 0, any
  *     pointer will do, also NULL;
- *   - out is not NULL, and shares no byte with the sheet or the values;
- *   - nothing writes to the sheet or to the values while a call runs.
- * A call writes to *out alone. Nothing is allocated or kept, so threads may call at the same time.
+ *   - out is not NULL, and shares no byte with the sheet, the values or the list, nor these with
+ *     each other;
+ *   - nothing writes to the sheet or to the values, and nothing touches the list, while a call runs.
+ * A call writes to *out, and the listing to the list where it is not refused; to nothing else.
+ * Nothing is allocated or kept, so threads may call at the same time.
  *
  * The functions are proved; that this header describes them, and what a host does, is not. */
 #ifndef POMTHIJA_H
@@ -44,6 +46,10 @@ enum {
     POMTHIJA_TYPE = 9,        /* an assignment whose two types differ; place: its map byte */
 
     /* the sheet is accepted, but not the request */
+    POMTHIJA_RECORDS = 10,    /* a value that a node assigns, or its condition, passes 128 records once the values
+                                 assigned before stand in it; place: the node's first byte */
+    POMTHIJA_TERMS = 11,      /* an equality of a node passes the limits on terms; place: the node's first byte */
+    POMTHIJA_ROOM = 12,       /* the list is too short for the lines; place: the sheet's length */
     POMTHIJA_NUMBER = 13,     /* the sheet has no node of this number; place: 0 */
     POMTHIJA_DIVISION = 14,   /* the run divides by zero; place: the node's first byte */
     POMTHIJA_NOT_PLAIN = 15,  /* an effect, a load or a statement that assigns nothing; place: the node's first byte */
@@ -59,6 +65,20 @@ enum {
  * is 0 or 1. Values after those of the node's variables are not read. */
 uint64_t pomthija_evaluation(const uint8_t *sheet, size_t sheet_length, uint64_t node,
                              const uint64_t *values, size_t value_count, uint64_t *out);
+
+/* Lists the decided branches of a sheet: returns POMTHIJA_OK with the number of lines in *out, or else
+ * a refusal, which leaves the list as it was.
+ *
+ * A line has POMTHIJA_LINE bytes: the branch's address in 8 and its target in 8, lowest byte first, then
+ * 1 if it always jumps or 0 if it never does, then the number of the reason: 1 what is known of flags
+ * and registers, 2 equal sides, 3 a condition that is true or false itself, 4 an unsigned cast compared
+ * with 0, 5 exact low bits, 6 low bits that differ, 7 both halves together. The lines stand at the front
+ * of the list, with rising addresses, at most one for each address; the list after them stays as it was.
+ * A sheet has at most 2,048 instructions, so 2,048 * POMTHIJA_LINE bytes always suffice. */
+enum { POMTHIJA_LINE = 18 };
+
+uint64_t pomthija_listing(const uint8_t *sheet, size_t sheet_length, uint8_t *list, size_t list_length,
+                          uint64_t *out);
 
 #ifdef __cplusplus
 }
