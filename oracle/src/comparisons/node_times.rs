@@ -21,6 +21,9 @@ const LEAST: f64 = 1.0;
 
 type Sheets = Vec<Vec<u8>>;
 
+/// A set of nodes with its name, a sheet for each node.
+type Set = (&'static str, fn() -> Sheets);
+
 /// Conditions of at most nine records, behind two assignments at most.
 fn plain() -> Sheets {
     let short = |node: &Node| node.condition.len() <= 9 && node.statements.len() <= 2;
@@ -115,7 +118,7 @@ fn judging(given: &[String], sheets: &Sheets) -> io::Result<Option<(f64, usize)>
 /// times: for the count of nodes, for the verdict, and for the number past the
 /// last; the given source's driver reads it once and builds trees.
 pub fn bench(program: &[String], given: &[String]) -> io::Result<()> {
-    let sets: [(&str, fn() -> Sheets); 5] = [
+    let sets: [Set; 5] = [
         ("plain conditions", plain),
         ("polynomials of 128 to 256 terms", polynomials),
         ("a product of 64 by 64 terms", product),

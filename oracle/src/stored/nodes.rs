@@ -3,7 +3,7 @@
 
 use crate::cases::verdict_node;
 use crate::comparisons::frames::{ask_nodes, run};
-use crate::comparisons::nodes::{sheet_of, size};
+use crate::comparisons::nodes::{sheet_of, size, OPEN};
 use crate::comparisons::verdicts::{Line, ABSENT};
 use crate::judges::node_verdict;
 use crate::judges::reader::read;
@@ -110,24 +110,26 @@ pub fn store(by_hand: Vec<Case>, given: &[String], list: &mut List) -> Result<()
 }
 
 /// Whether the given source answers as the case says: with the differences, and
-/// for a case by hand also as it is.
-fn check(
-    case: &Case,
-    [as_it_is, with_differences]: [&str; 2],
-    by_hand: bool,
-) -> Result<(), String> {
-    let wrong = |line: &str| Err(format!("case {}: the given source says '{line}'", case.name));
-    if with_differences != due(&case.expected) {
-        return wrong(with_differences);
-    }
-    let Line::Answers { nodes, .. } = Line::parse(as_it_is) else {
-        return wrong(as_it_is);
-    };
+/// for a case by hand also as it is. What it does not judge to the end is left
+/// to the judge, and as it is it refuses nothing.
+fn check(case: &Case, lines: [&str; 2], by_hand: bool) -> Result<(), String> {
     let stated = case.given.as_ref().unwrap_or(&case.expected);
-    // The given source refuses nothing.
-    let alike = |(found, stated): (&String, &String)| found == stated || stated.starts_with('r');
-    if by_hand && !nodes.iter().zip(stated).all(alike) {
-        return wrong(as_it_is);
+    let asked = |answer: &String| by_hand && !answer.starts_with('r');
+    let as_it_is = alike(lines[0], stated, asked);
+    let with_differences = alike(lines[1], &case.expected, |_| true);
+    match (as_it_is, with_differences) {
+        (true, true) => Ok(()),
+        (false, _) => Err(format!("case {}: the given source says '{}'", case.name, lines[0])),
+        _ => Err(format!("case {}: with the differences '{}'", case.name, lines[1])),
     }
-    Ok(())
+}
+
+/// Whether a line has these answers, where they are to be compared and it does
+/// not leave them open.
+fn alike(line: &str, answers: &[String], compared: impl Fn(&String) -> bool) -> bool {
+    let Line::Answers { nodes, .. } = Line::parse(line) else {
+        return false;
+    };
+    let same = |(found, due): (&String, &String)| found == due || found == OPEN || !compared(due);
+    nodes.len() == answers.len() && nodes.iter().zip(answers).all(same)
 }
