@@ -1,12 +1,13 @@
 -- The text of the listing's answer on a list that is long enough is what the program writes.
-use Prim.Native.Nat.{ℕ, zero, suc, _+_, _*_, _≤_}
+use Prim.Native.Nat.{ℕ, _*_, _≤_, _<_}
 use mathlib.Core.Path.{_≡_, refl, sym, ap, _∙_}
 use mathlib.Core.Bool.{Bool, true, false}
-use mathlib.Core.List.{List, [], _∷_, _++_}
+use mathlib.Core.List.{List, [], _∷_}
 use native.Mathlib.Omega.{arith}
 use lib.Dec.{leb}
-use lib.ListN.{length, length-append}
-use borrow.Author.Tests.{leb-true, leb-false}
+use lib.ListN.{length, take, drop, length-append}
+use lib.Seq.{length-take-le}
+use borrow.Author.Tests.{leb-false, lt-ltb, le-ltb}
 use Rattle.isa.specs.declared.Instruction.{Instruction}
 use Rattle.verdict.specs.declared.Verdict.{Verdict}
 use Rattle.verdict.specs.declared.Verdict.the-variants.{Always, Never, Undecided, NoBranch}
@@ -15,14 +16,17 @@ use Rattle.sheet.specs.declared.Reading.the-variants as reading
 use Rattle.sheet.specs.Sheet.{sheetAt, readingOf}
 use Rattle.sheet.proofs.Accepted.{accepted}
 use Rattle.sheet.proofs.ByNumber.{instructions-count}
-use Rattle.format.specs.Write.{bytes, records}
+use Rattle.format.specs.Write.{records}
 use Rattle.verdict_lines.specs.Lines.{Line, lineOf, lineBytes}
 use Rattle.verdict_sheet.specs.Said.{Judged, Said, judgedUpTo, firstDecided, linesOf}
 use Rattle.verdict_sheet.specs.Said.Judged.{all, refused as nodeRefused}
-use Rattle.pomthija.specs.Listing.{ListedNumbers, Listing, written, onJudged, listingOn, listingOf}
+use Rattle.pomthija.specs.declared.Listed.{Listed}
+use Rattle.pomthija.specs.declared.Listed.the-variants as listed
+use Rattle.pomthija.specs.Listing.{Listing, listedNumbers, written, onJudged, listingOn, listingOf}
 use Rattle.pomthija.specs.Listing.ListedNumbers.{lines, refused}
 use Rattle.listing_text.specs.Text.{branchesText, refusalText, entriesText}
-use Rattle.listing.specs.Program.{linesText, judgedText, readText}
+use Rattle.listing_text.specs.Contracts.{Written}
+use Rattle.listing.specs.Program.{linesText, judgedText, readText, printed}
 use Rattle.listing.proofs.Entries.{bytes-long, entries-lines, over-spans}
 
 -- at most one line for each instruction
@@ -88,3 +92,40 @@ reading-says s list (reading.Accepted sheet) e room =
 pub listing-says : (s list : List ℕ) → 36864 ≤ length list → Says (readText (readingOf s) s) (length list) (listingOf s list)
 unfolding listingOf
 listing-says s list room = reading-says s list (readingOf s) refl room
+
+-- what the program writes, by the length of what it is given
+pub too-long : (s : List ℕ) {old new : List ℕ} {r : ℕ} → 65536 < length s → Written old new r (refusalText 1 65536) → Written old new r (printed s)
+unfolding printed
+too-long s long w = rw (lt-ltb 65536 (length s) long) w
+
+within : (s : List ℕ) → length s ≤ 65536 → printed s ≡ readText (readingOf s) s
+unfolding printed
+within s short = rw (le-ltb 65536 (length s) short)
+
+module _ (s list : List ℕ) (room : length list ≡ 36864) where
+  says : Says (readText (readingOf s) s) (length list) (listingOf s list)
+  says = listing-says s list (omega arith)
+
+  -- the listing's answer in code
+  pub count-few : {r : Listed} {n : ℕ} → listedNumbers r ≡ listingOf s list .answer → r ≡ listed.Lines n → 18 * n ≤ 36864
+  count-few {r} {n} is lines-are =
+      let fits : 18 * n ≤ length list = says .of-lines n (sym is ∙ rw lines-are) .1 in
+      omega arith
+
+  pub lines-text : {old new after : List ℕ} {r : Listed} {n count : ℕ} → length s ≤ 65536
+      → listedNumbers r ≡ listingOf s list .answer → r ≡ listed.Lines n → after ≡ listingOf s list .list
+      → Written old new count (branchesText n (entriesText after 0 n)) → Written old new count (printed s)
+  lines-text {n = n} short is lines-are after-is w =
+      rw (within s short, says .of-lines n (sym is ∙ rw lines-are) .0, ← after-is) w
+
+  pub refusal-text : {old new : List ℕ} {r : Listed} {k p count : ℕ} → length s ≤ 65536
+      → listedNumbers r ≡ listingOf s list .answer → r ≡ listed.Refused k p
+      → Written old new count (refusalText k p) → Written old new count (printed s)
+  refusal-text {k = k} {p} short is refusal w = rw (within s short, says .of-refusal k p (sym is ∙ rw refusal)) w
+
+-- the text lies within its room
+pub text-within : {old new : List ℕ} {r : ℕ} {text : List ℕ} → Written old new r text → r ≤ length new
+text-within {old} {new} {r} {text} w = omega (arith, w .long, ap length (w .is), length-append text (drop (length text) old))
+
+pub text-counted : {old new : List ℕ} {r : ℕ} {text : List ℕ} → Written old new r text → r ≡ length (take r new)
+text-counted {old} {new} {r} w = sym (length-take-le r new (text-within w))

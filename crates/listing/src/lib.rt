@@ -2,8 +2,12 @@
 use libc::STDERR_FILENO;
 use libc::STDIN_FILENO;
 use libc::STDOUT_FILENO;
+use pomthija::Listed;
 ghost use mathlib.Core.Path.{_≡_};
+ghost use Prim.Native.Nat.{_≤_};
 ghost use lib.ListN.{length};
+ghost use Rattle.listing_text.specs.Contracts.{Written};
+ghost use Rattle.listing.specs.Program.{printed};
 ghost use Rattle.listing.specs.Contracts.{Within, statusOf};
 
 // What standard input gave: so many bytes, or no answer from the system.
@@ -24,6 +28,20 @@ fn input_room() -> [u8; 65537]
     ensures { λ r. ⌜ 65537 ≡ length r ⌝ }
 {
     [0; 65537]
+}
+
+// Room for a line of each instruction that a sheet can have.
+fn list_room() -> [u8; 36864]
+    ensures { λ r. ⌜ 36864 ≡ length r ⌝ }
+{
+    [0; 36864]
+}
+
+// Room for the text of these lines.
+fn text_room() -> [u8; 92190]
+    ensures { λ r. ⌜ 92190 ≡ length r ⌝ }
+{
+    [0; 92190]
 }
 
 // One read of standard input. No bytes are its end.
@@ -85,4 +103,44 @@ fn write_output(text: &[u8]) -> Ending {
     } else {
         Ending::Unwritten
     }
+}
+
+// Puts what the program writes for a sheet at the front of the text's room, and gives its length.
+fn text_of(s: &[u8], list: &mut [u8], text: &mut [u8]) -> usize
+    requires { ⌜ length (now list) ≡ 36864 ⌝ }
+    requires { ⌜ 92190 ≤ length (now text) ⌝ }
+    ensures { λ r. ⌜ Written (now (text .entry)) (now (text .exit)) r (printed (now (s .entry))) ⌝ }
+{
+    if s.len() > 65536 {
+        return listing_text::write_refusal(1, 65536, text);
+    }
+    let listed = pomthija::listing(s, list);
+    match listed {
+        Listed::Lines(count) => listing_text::write_branches(list, count as usize, text),
+        Listed::Refused(number, place) => listing_text::write_refusal(number, place as u64, text),
+    }
+}
+
+// From standard input to standard output.
+fn answer(room: &mut [u8], list: &mut [u8], text: &mut [u8]) -> Ending
+    requires { ⌜ length (now list) ≡ 36864 ⌝ }
+    requires { ⌜ 92190 ≤ length (now text) ⌝ }
+{
+    let input = read_input(room);
+    match input {
+        Input::Unread => Ending::Unread,
+        Input::Bytes(n) => {
+            let length = text_of(&room[..n], list, text);
+            write_output(&text[..length])
+        }
+    }
+}
+
+// The program; a host's `main` returns the number as its exit status.
+#[no_mangle]
+pub extern "C" fn pomthija_listing_program() -> u32 {
+    let mut room = input_room();
+    let mut list = list_room();
+    let mut text = text_room();
+    status(answer(&mut room, &mut list, &mut text))
 }
