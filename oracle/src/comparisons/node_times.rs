@@ -132,7 +132,10 @@ pub fn bench(program: &[String], given: &[String]) -> io::Result<()> {
         print!("{name}: program {all:.0} ns, a frame of reading {reading:.0} ns");
         if let Some((alone, open)) = judging(given, &sheets)? {
             let whole = each(given, &sheets, ask_nodes)?;
-            print!("; given source {whole:.0} ns, judging alone {alone:.0} ns");
+            print!("; given source {whole:.0} ns");
+            if open < sheets.len() {
+                print!(", judging alone {alone:.0} ns");
+            }
             if open > 0 {
                 print!(", {open} of {} not to the end", sheets.len());
             }
