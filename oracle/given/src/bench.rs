@@ -8,6 +8,7 @@ use crate::product::Product;
 use oracle::cases::any_sheet::Generator;
 use oracle::cases::{block_sheet, verdict_node};
 use oracle::comparisons::node_times::slowest;
+use oracle::judges::node_limits;
 use oracle::judges::reader::read;
 use oracle::sheets::encode::encode;
 use oracle::sheets::from_text::write;
@@ -113,7 +114,10 @@ fn mixed(pieces: usize, nodes: usize) -> Sheet {
     sheet.instructions.truncate(2_048);
     for number in 0..nodes {
         let mut node = verdict_node::node(&mut generator);
-        while node.condition.len() > 40 || node.statements.len() > 8 {
+        while node.condition.len() > 40
+            || node.statements.len() > 8
+            || node_limits::refusal(&node).is_some()
+        {
             node = verdict_node::node(&mut generator);
         }
         node.addresses = vec![16 * (number % pieces.max(1)) as u64 + 3];

@@ -49,6 +49,7 @@ use std::process::ExitCode;
 
 const USAGE: &str = "usage: given [--differences | --time]
        given fuzz SECONDS SEED
+       given listings SHEETS SEED
        given bench PLOT
 Frames for the verdicts on blocks and on nodes are read from standard input.
 --differences judges nodes with the entries of docs/DIFFERENCES.md and with the
@@ -64,7 +65,7 @@ fn main() -> ExitCode {
         [] => run(Lines::AsItIs),
         ["--differences"] => run(Lines::WithDifferences),
         ["--time"] => run(Lines::Times),
-        ["fuzz", seconds, seed] => fuzzed(seconds, seed),
+        [command @ ("fuzz" | "listings"), amount, seed] => with_product(command, amount, seed),
         ["bench", plot] => timed(plot),
         _ => Err(io::Error::other(USAGE)),
     };
@@ -77,10 +78,15 @@ fn main() -> ExitCode {
     }
 }
 
+/// The commands that have the product linked in.
 #[cfg(all(given_source, product))]
-fn fuzzed(seconds: &str, seed: &str) -> io::Result<()> {
+fn with_product(command: &str, amount: &str, seed: &str) -> io::Result<()> {
     let number = |word: &str| word.parse().map_err(|_| io::Error::other(USAGE));
-    match fuzz::run(number(seconds)?, number(seed)?)? {
+    let agreed = match command {
+        "fuzz" => fuzz::run(number(amount)?, number(seed)?)?,
+        _ => fuzz::listings(number(amount)?, number(seed)?)?,
+    };
+    match agreed {
         true => Ok(()),
         false => Err(io::Error::other("the product differs")),
     }
@@ -91,17 +97,29 @@ fn timed(plot: &str) -> io::Result<()> {
     bench::run(plot)
 }
 
-#[cfg(not(all(given_source, product)))]
-const NO_PRODUCT: &str = "this build has no product or no source to compare with";
+#[cfg(all(given_source, not(product)))]
+const NO_PRODUCT: &str = "this build was not told the product's folder";
 
-#[cfg(not(all(given_source, product)))]
-fn fuzzed(_seconds: &str, _seed: &str) -> io::Result<()> {
+#[cfg(all(given_source, not(product)))]
+fn with_product(_command: &str, _amount: &str, _seed: &str) -> io::Result<()> {
     Err(io::Error::other(NO_PRODUCT))
 }
 
-#[cfg(not(all(given_source, product)))]
+#[cfg(all(given_source, not(product)))]
 fn timed(_plot: &str) -> io::Result<()> {
     Err(io::Error::other(NO_PRODUCT))
+}
+
+#[cfg(not(given_source))]
+fn with_product(_command: &str, _amount: &str, _seed: &str) -> io::Result<()> {
+    println!("{}", oracle::comparisons::verdicts::ABSENT);
+    Ok(())
+}
+
+#[cfg(not(given_source))]
+fn timed(_plot: &str) -> io::Result<()> {
+    println!("{}", oracle::comparisons::verdicts::ABSENT);
+    Ok(())
 }
 
 /// What the lines say: answers, or nanoseconds on nodes.

@@ -15,7 +15,8 @@ use oracle::cases::random::Random;
 use oracle::cases::{block_sheet, damaged_sheet};
 use oracle::judges::evaluator;
 use oracle::judges::listing::{due, Due, LINE};
-use oracle::judges::reader::Refusal;
+use oracle::judges::reader::{read, Refusal};
+use oracle::sheets::encode::encode;
 use std::io;
 use std::time::{Duration, Instant};
 
@@ -29,9 +30,21 @@ const LONGEST: usize = 6_000;
 struct Tally {
     listings: u64,
     refused: u64,
+    /// Records of accepted sheets that are about a branch.
+    branches: u64,
     lines: u64,
     open: u64,
     evaluations: u64,
+}
+
+impl Tally {
+    fn print(&self) {
+        let Tally { listings, refused, branches, lines, open, evaluations } = self;
+        println!("listings {listings}, of them refused {refused}; not judged {open}");
+        println!("blocks that end in a branch, and nodes: {branches}; lines {lines}");
+        println!("evaluations {evaluations}");
+        println!("differences 0");
+    }
 }
 
 /// Fuzzes for so many seconds; true if there was no difference.
@@ -68,16 +81,50 @@ pub fn run(seconds: u64, seed: u64) -> io::Result<bool> {
     Ok(true)
 }
 
+/// Listings of so many generated sheets; true if there was no difference.
+pub fn listings(sheets: u64, seed: u64) -> io::Result<bool> {
+    guard::hush();
+    let mut product = Product::new()?;
+    let mut tally = Tally::default();
+    for index in 0..sheets {
+        let mut random = Random::new(!seed, index);
+        let sheet = whole_sheet(&mut random, seed, index);
+        if let Err(difference) = tried(&mut product, &mut random, &sheet, &mut tally) {
+            println!("difference at sheet {index}: {difference}\nsheet: {}", hexadecimal(&sheet));
+            return Ok(false);
+        }
+    }
+    tally.print();
+    Ok(true)
+}
+
+/// Blocks around, across and beside each other, and nodes whose addresses are
+/// those of some instructions, most of them branches, or none at all.
+fn whole_sheet(random: &mut Random, seed: u64, index: u64) -> Vec<u8> {
+    let bytes = block_sheet::sheet(seed, index, true);
+    let Ok(accepted) = read(&bytes) else { return bytes };
+    let mut sheet = accepted.sheet;
+    let branches = sheet.instructions.iter().filter(|insn| insn.target.is_some());
+    let branches: Vec<u64> = branches.map(|insn| insn.address).collect();
+    let all: Vec<u64> = sheet.instructions.iter().map(|insn| insn.address).collect();
+    for node in &mut sheet.nodes {
+        let from = if random.once_in(4) || branches.is_empty() { &all } else { &branches };
+        let count = random.below(4).min(from.len());
+        node.addresses = (0..count).map(|_| random.pick(from)).collect();
+        if random.once_in(10) {
+            node.addresses.push(random.draw());
+        }
+    }
+    encode(&sheet).bytes
+}
+
 fn print(tally: &Tally, sheets: u64, kept: usize, coverage: &Coverage) {
     if coverage.places() == 0 {
         println!("not guided: built without coverage");
     }
     println!("sheets {sheets}, kept {kept}");
     println!("places reached {} of {}", coverage.reached(), coverage.places());
-    let Tally { listings, refused, lines, open, evaluations } = tally;
-    println!("listings {listings}, of them refused {refused}; lines {lines}; not judged {open}");
-    println!("evaluations {evaluations}");
-    println!("differences 0");
+    tally.print();
 }
 
 fn hexadecimal(bytes: &[u8]) -> String {
@@ -107,6 +154,8 @@ fn tried(
         Due::Open => tally.open += 1,
         expected => {
             tally.listings += 1;
+            tally.branches += blocks.iter().filter(|answer| *answer != "n").count() as u64;
+            tally.branches += nodes.len() as u64;
             match &expected {
                 Due::Lines(lines) => tally.lines += (lines.len() / LINE) as u64,
                 _ => tally.refused += 1,
