@@ -1,17 +1,15 @@
 -- The entries of a list that lines were written to have the lines' text.
-use Prim.Native.Nat.{ℕ, zero, suc, _+_, _*_, _/_, _%_, _≤_}
-use mathlib.Core.Path.{_≡_, refl, sym, ap, _∙_}
-use mathlib.Core.List.{List, [], _∷_, _++_}
-use native.Mathlib.Nat.{add-zero}
+use Prim.Native.Nat.{ℕ, zero, suc, _+_, _*_, _/_, _%_}
+use mathlib.Core.Path.{_≡_, refl, _∙_}
+use mathlib.Core.List.{List, [], _∷_}
 use native.Mathlib.Omega.{arith}
-use lib.ListN.{length, getD, drop, length-append}
+use lib.ListN.{length, getD}
 use Rattle.sheet_field.specs.Field.{little}
-use Rattle.sheet.specs.Index.{over}
 use Rattle.format.specs.Write.{bytes, records}
-use Rattle.format.proofs.Spans.{Spans, Stands, spans-cut, spans-length, spans-self}
+use Rattle.format.proofs.Spans.{Spans, Stands, bytes-length, spans-cut, spans-length}
 use Rattle.verdict_lines.specs.Lines.{Line, lineBytes}
 use Rattle.listing_text.specs.Digits.{digit, digits, decimal}
-use Rattle.listing_text.specs.Text.{verdictWord, lineText, entryText, entriesText}
+use Rattle.listing_text.specs.Text.{lineText, entryText, entriesText}
 use Rattle.listing.specs.Program.{linesText}
 
 -- two hexadecimal digits for each of n bytes
@@ -43,11 +41,6 @@ bytes-digits s (suc n) a v b h =
     rw (h .1) (byte-digits (twice n) v (little s (suc a) n) (bytes-digits s n (suc a) (v / 256) b (h .2)))
 
 -- the line of an entry that a line was written to
-pub bytes-long : (n v : ℕ) → length (bytes n v) ≡ n
-unfolding bytes
-bytes-long zero v = refl
-bytes-long (suc n) v = ap suc (bytes-long n (v / 256))
-
 entry-parts : (s : List ℕ) (l : Line) (a m n b : ℕ) → m ≡ a + 8 → n ≡ a + 16
     → Stands s a (bytes 8 (l .site)) m → Stands s m (bytes 8 (l .target)) n → Stands s n (l .value ∷ (l .reason ∷ [])) b
     → (entryText s a ≡ lineText (l .site) (l .target) (l .value) (l .reason)) × (b ≡ a + 18)
@@ -66,8 +59,8 @@ unfolding lineBytes
 entry-line {s} {a} {b} l h =
     let site = spans-cut (bytes 8 (l .site)) _ h in
     let target = spans-cut (bytes 8 (l .target)) _ (site .2) in
-    let p : site .0 ≡ a + 8 = spans-length (site .1) ∙ rw bytes-long in
-    let q : target .0 ≡ a + 16 = spans-length (target .1) ∙ rw bytes-long (omega (arith, p)) in
+    let p : site .0 ≡ a + 8 = spans-length (site .1) ∙ rw bytes-length in
+    let q : target .0 ≡ a + 16 = spans-length (target .1) ∙ rw bytes-length (omega (arith, p)) in
     entry-parts s l a (site .0) (target .0) b p q (site .1 .it) (target .1 .it) (target .2 .it)
 
 pub entries-lines : {s : List ℕ} {a b : ℕ} (due : List Line) → Spans s a (records lineBytes due) b → entriesText s a (length due) ≡ linesText due
@@ -77,15 +70,3 @@ entries-lines {s} {a} {b} (l ∷ due) h =
     let t = spans-cut (lineBytes l) (records lineBytes due) h in
     let e = entry-line l (t .1) in
     rw (e .0, entries-lines due (rw (e .1) at (t .2)))
-
--- bytes written over the front of a list that has room for them
-over-append : (bs list : List ℕ) → length bs ≤ length list → over bs list ≡ bs ++ drop (length bs) list
-unfolding over
-over-append [] list fits = refl
-over-append (x ∷ bs) [] fits = absurd (omega arith)
-over-append (x ∷ bs) (y ∷ list) fits = ap (λ (l : List ℕ). x ∷ l) (over-append bs list (omega arith))
-
-pub over-spans : (bs list : List ℕ) → length bs ≤ length list → (b : ℕ) × Spans (over bs list) 0 bs b
-over-spans bs list fits =
-    let t = spans-cut bs (drop (length bs) list) (spans-self (bs ++ drop (length bs) list)) in
-    (t .0, rw (over-append bs list fits) (t .1))

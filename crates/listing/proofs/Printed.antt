@@ -17,7 +17,9 @@ use Rattle.sheet.specs.Sheet.{sheetAt, readingOf}
 use Rattle.sheet.proofs.Accepted.{accepted}
 use Rattle.sheet.proofs.ByNumber.{instructions-count}
 use Rattle.format.specs.Write.{records}
+use Rattle.format.proofs.Spans.{over-spans}
 use Rattle.verdict_lines.specs.Lines.{Line, lineOf, lineBytes}
+use Rattle.verdict_lines.proofs.Written.{lines-length}
 use Rattle.verdict_sheet.specs.Said.{Judged, Said, judgedUpTo, firstDecided, linesOf}
 use Rattle.verdict_sheet.specs.Said.Judged.{all, refused as nodeRefused}
 use Rattle.pomthija.specs.declared.Listed.{Listed}
@@ -27,7 +29,7 @@ use Rattle.pomthija.specs.Listing.ListedNumbers.{lines, refused}
 use Rattle.listing_text.specs.Text.{branchesText, refusalText, entriesText}
 use Rattle.listing_text.specs.Contracts.{Written}
 use Rattle.listing.specs.Program.{linesText, judgedText, readText, printed}
-use Rattle.listing.proofs.Entries.{bytes-long, entries-lines, over-spans}
+use Rattle.listing.proofs.Entries.{entries-lines}
 
 -- at most one line for each instruction
 line-few : (i : Instruction) (v : Verdict) → length (lineOf i v) ≤ 1
@@ -42,16 +44,6 @@ lines-few [] said = omega arith
 lines-few (i ∷ code) said =
     let v : Verdict = firstDecided (i .address) said in
     omega (arith, length-append (lineOf i v) (linesOf code said), line-few i v, lines-few code said)
-
--- 18 bytes for each line
-line-long : (l : Line) → length (lineBytes l) ≡ 18
-unfolding lineBytes
-line-long l = simp (length-append, bytes-long)
-
-lines-long : (due : List Line) → length (records lineBytes due) ≡ 18 * length due
-unfolding records
-lines-long [] = refl
-lines-long (l ∷ due) = omega (arith, length-append (lineBytes l) (records lineBytes due), line-long l, lines-long due)
 
 -- what an answer says of the text
 pub record Says (text : List ℕ) (room : ℕ) (given : Listing) : Type 0 where
@@ -71,7 +63,7 @@ written-says s list due false e room = absurd (omega (arith, leb-false (18 * len
 written-says s list due true e room = rw e record {
   of-lines = λ n is.
       let same : length due ≡ n = cc in
-      let spans = over-spans (records lineBytes due) list (rw lines-long room) in
+      let spans = over-spans (records lineBytes due) list (rw lines-length room) in
       (rw (← same, entries-lines due (spans .1)), rw same at room);
   of-refusal = λ k p is. let z : _≡_ {A = ℕ} 0 1 = cc in absurd (omega arith);
 }

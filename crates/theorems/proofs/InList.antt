@@ -1,27 +1,22 @@
 -- The lines in the lent list: each is read back from its 18 bytes, and what is beyond them is as it was.
-use Prim.Native.Nat.{ℕ, zero, suc, _+_, _*_, _^_, _/_, _<_, _≤_}
+use Prim.Native.Nat.{ℕ, zero, suc, _+_, _*_, _^_, _<_, _≤_}
 use mathlib.Core.Path.{_≡_, refl, ap, _∙_}
 use mathlib.Core.Bool.{Bool, true, false, cond}
 use mathlib.Core.List.{List, [], _∷_, _++_}
 use native.Mathlib.Omega.{arith}
 use lib.Dec.{leb}
-use lib.ListN.{length, getD, drop, length-append}
+use lib.ListN.{length, getD}
 use Rattle.sheet_field.specs.declared.Place.the-variants.{At, Refused}
 use Rattle.sheet_field.specs.declared.Field.{Field}
 use Rattle.sheet_field.specs.Field.{little, fieldAt}
 use Rattle.sheet.specs.Index.{over}
 use Rattle.format.specs.Write.{bytes, records}
-use Rattle.format.proofs.Spans.{Spans, spans-cut, spans-self, spans-length}
+use Rattle.format.proofs.Spans.{Spans, bytes-length, spans-cut, spans-length, over-spans}
 use Rattle.format.proofs.Fields.{field-read}
 use Rattle.verdict_lines.specs.Lines.{Line, lineBytes}
+use Rattle.verdict_lines.proofs.Written.{line-length, lines-length}
 use Rattle.theorems.specs.Lines.{lineAt}
 use Rattle.theorems.proofs.DueLines.{noLine}
-
-over-append : (entries before : List ℕ) → length entries ≤ length before → over entries before ≡ entries ++ drop (length entries) before
-unfolding over
-over-append [] before fits = refl
-over-append (x ∷ entries) [] fits = absurd (omega (arith, fits))
-over-append (x ∷ entries) (b ∷ before) fits = ap (λ (l : List ℕ). x ∷ l) (over-append entries before (omega (arith, fits)))
 
 pub over-beyond : (entries before : List ℕ) (i : ℕ) → length entries ≤ i → getD (over entries before) i 0 ≡ getD before i 0
 unfolding over
@@ -29,26 +24,6 @@ over-beyond [] before i le = refl
 over-beyond (x ∷ entries) [] i le = refl
 over-beyond (x ∷ entries) (b ∷ before) zero le = absurd (omega (arith, le))
 over-beyond (x ∷ entries) (b ∷ before) (suc i) le = over-beyond entries before i (omega (arith, le))
-
--- entries stand at the front
-front : (entries before : List ℕ) → length entries ≤ length before → (b : ℕ) × Spans (over entries before) 0 entries b
-front entries before fits =
-    let cut = spans-cut entries (drop (length entries) before) (spans-self (entries ++ drop (length entries) before)) in
-    (cut .0, rw (over-append entries before fits) (cut .1))
-
-bytes-length : (n v : ℕ) → length (bytes n v) ≡ n
-unfolding bytes
-bytes-length zero v = refl
-bytes-length (suc n) v = ap suc (bytes-length n (v / 256))
-
-line-length : (l : Line) → length (lineBytes l) ≡ 18
-unfolding lineBytes
-line-length l = rw (length-append, length-append, bytes-length 8 (l .site), bytes-length 8 (l .target))
-
-pub lines-length : (due : List Line) → length (records lineBytes due) ≡ 18 * length due
-unfolding records
-lines-length [] = refl
-lines-length (l ∷ due) = rw (length-append, line-length l, lines-length due) (omega arith)
 
 -- a number in 8 bytes is read back
 spells : (s : List ℕ) (a b v : ℕ) → v < 256 ^ 8 → Spans s a (bytes 8 v) b → little s a 8 ≡ v
@@ -99,6 +74,6 @@ read-back s a b k l is fits h =
 pub stands : (due : List Line) (before : List ℕ) → 18 * length due ≤ length before → (k : ℕ) → k < length due → Fits (getD due k noLine)
     → lineAt (over (records lineBytes due) before) k ≡ getD due k noLine
 stands due before room k below fits =
-    let f = front (records lineBytes due) before (rw (lines-length due) room) in
+    let f = over-spans (records lineBytes due) before (rw (lines-length due) room) in
     let n = nth-spans (over (records lineBytes due) before) due 0 (f .0) k below (f .1) in
     read-back (over (records lineBytes due) before) (0 + 18 * k) (n .0) k (getD due k noLine) (omega arith) fits (n .1)

@@ -24,6 +24,7 @@ use Rattle.verdict.specs.declared.Verdict.the-variants.{Always, Never, Undecide
 use Rattle.verdict.specs.Numbers.{verdictNumbers, answerNumbers}
 use Rattle.verdict.specs.Numbers.Numbers.{refused}
 use Rattle.verdict_lines.specs.Lines.{Line, lineBytes}
+use Rattle.verdict_lines.proofs.Written.{lines-length}
 use Rattle.verdict_sheet.specs.Said.{Said, judgedUpTo, linesOf}
 use Rattle.verdict_sheet.specs.Said as said-of
 use Rattle.verdict_sheet.specs.Said.Judged.{all, refused as nodeRefused}
@@ -35,7 +36,7 @@ use Rattle.theorems.specs.Lines.Refuses.{byReading, byNode, noRoom}
 use Rattle.theorems.proofs.First.{Given, AllSay, JudgedAs, judged-as}
 use Rattle.theorems.proofs.Deciding.{node-answer}
 use Rattle.theorems.proofs.DueLines.{ordered, noLine, OfBranch, of-branch, rises, line-due, due-line}
-use Rattle.theorems.proofs.InList.{stands, lines-length, over-beyond}
+use Rattle.theorems.proofs.InList.{stands, over-beyond}
 use Rattle.theorems.proofs.Whole.{runs-right}
 
 -- ---- two ways of counting the lines due give one number

@@ -8,6 +8,7 @@ use lib.ListN.{length, getD, set, drop, length-append, drop-of-length-le}
 use lib.Seq.{drop-cons}
 use Rattle.sheet.specs.Index.{over}
 use Rattle.format.specs.Write.{bytes, records}
+use Rattle.format.proofs.Spans.{bytes-length}
 use Rattle.verdict_lines.specs.Lines.{Line, lineBytes}
 use Rattle.verdict_lines.specs.Slots.{decidedOf, slotLine, linesIn, putAt}
 use Rattle.verdict_lines.proofs.Decided.{slot-line}
@@ -17,10 +18,6 @@ use Rattle.verdict_lines.proofs.Puts.{put-none, put-step, put-join}
 pub slot-none : (at site target : ℕ) {slot : ℕ} (list : List ℕ) → slot ≡ 0 → list ≡ putAt at (records lineBytes (slotLine site target slot)) list
 unfolding records
 slot-none at site target list none = rw none (sym (put-none at list))
-
-eight : (x : ℕ) → length (bytes 8 x) ≡ 8
-unfolding bytes
-eight x = refl
 
 -- a line's two numbers and two bytes
 pub slot-put : (at site target slot : ℕ) (list : List ℕ) {first second : List ℕ} → (slot ≡ 0 → ⊥)
@@ -37,9 +34,9 @@ slot-put at site target slot list {first} {second} some first-is second-is =
     put-step (at + 16) value (reason ∷ []) second
     ∙ rw seventeen (put-step (at + 17) reason [] (set second (at + 16) value) ∙ put-none _ _) in
     let middle : putAt (at + 8) (bytes 8 target ++ two) first ≡ putAt (at + 16) two second =
-    put-join (at + 8) (bytes 8 target) two first ∙ rw (eight target, sixteen, second-is) in
+    put-join (at + 8) (bytes 8 target) two first ∙ rw (bytes-length 8 target, sixteen, second-is) in
     let whole : putAt at (bytes 8 site ++ (bytes 8 target ++ two)) list ≡ putAt (at + 8) (bytes 8 target ++ two) first =
-    put-join at (bytes 8 site) (bytes 8 target ++ two) list ∙ rw (eight site, first-is) in
+    put-join at (bytes 8 site) (bytes 8 target ++ two) list ∙ rw (bytes-length 8 site, first-is) in
     rw (slot-line site target slot some, append-nil) (sym (whole ∙ middle ∙ last))
 
 records-append : (a b : List Line) → records lineBytes (a ++ b) ≡ records lineBytes a ++ records lineBytes b
@@ -47,9 +44,15 @@ unfolding records
 records-append [] b = refl
 records-append (l ∷ a) b = rw (records-append a b) (sym (append-assoc (lineBytes l) (records lineBytes a) (records lineBytes b)))
 
-line-length : (l : Line) → length (lineBytes l) ≡ 18
+-- 18 bytes for each line
+pub line-length : (l : Line) → length (lineBytes l) ≡ 18
 unfolding lineBytes bytes
 line-length l = refl
+
+pub lines-length : (due : List Line) → length (records lineBytes due) ≡ 18 * length due
+unfolding records
+lines-length [] = refl
+lines-length (l ∷ due) = omega (arith, length-append (lineBytes l) (records lineBytes due), line-length l, lines-length due)
 
 pub slot-length : (site target slot : ℕ) → length (records lineBytes (slotLine site target slot)) ≡ 18 * decidedOf slot
 unfolding records
