@@ -18,7 +18,8 @@ use Rattle.sheet_expression.specs.Contracts.{Took}
 use Rattle.sheet_expression.proofs.Lists.{took-front}
 use Rattle.sheet_expression.proofs.Accepted.{took-tree}
 use Rattle.sheet_node.specs.declared.NodeReading.{NodeReading}
-use Rattle.sheet_node.specs.Node.{statementsFrom, nodeAt, typesIn, nodeOf, ReadNode}
+use Rattle.sheet_node.specs.Node.{statementsFrom, nodeAt, typesIn, nodeOf}
+use Rattle.sheet_node.specs.Contracts.{ReadNode}
 use Rattle.sheet_node.proofs.Accepted.{parts}
 use Rattle.evaluate_node.specs.declared.Fit.{Fit}
 use Rattle.evaluate_node.specs.declared.Fit.the-variants.{AllFit, Unfit}

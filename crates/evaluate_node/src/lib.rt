@@ -8,7 +8,8 @@ ghost use Prim.Native.Nat.{_≤_};
 ghost use mathlib.Core.List.{_++_};
 ghost use lib.ListN.{length, take, drop};
 ghost use Rattle.sheet_field.specs.Field.{WentOn};
-ghost use Rattle.sheet_node.specs.Node.{statementAt, statementsFrom, nodeOf, ReadNode};
+ghost use Rattle.sheet_node.specs.Node.{statementAt, statementsFrom, nodeOf};
+ghost use Rattle.sheet_node.specs.Contracts.{ReadNode};
 ghost use Rattle.evaluate_node.specs.Evaluate.{plainAll, unfitFrom, onFit, onTruth, evaluationOf};
 ghost use Rattle.evaluate_node.specs.Contracts.{stateOf, assignedAll, StateIs, Stepped, isRefused, hasGone, progressOf, Started, Running};
 

@@ -12,7 +12,8 @@ use Rattle.isa.specs.declared.Instruction.{Instruction}
 use Rattle.sheet_instruction.specs.declared.InstructionReading.{InstructionReading}
 use Rattle.sheet_instruction.specs.Instruction.{instructionAt}
 use Rattle.sheet_node.specs.declared.NodeReading.{NodeReading}
-use Rattle.sheet_node.specs.Node.{Node, nodeAt, nodeOf, ReadNode}
+use Rattle.sheet_node.specs.Node.{Node, nodeAt, nodeOf}
+use Rattle.sheet_node.specs.Contracts.{ReadNode}
 use Rattle.search.specs.Ascending.{Ascending}
 use Rattle.sheet.specs.declared.Block.{Block}
 use Rattle.sheet.specs.declared.BlockReading.{BlockReading}

@@ -18,7 +18,8 @@ use Rattle.sheet_expression.proofs.Accepted.{one-tree}
 use Rattle.sheet_field.proofs.Counted.{back, counted, nth}
 use Rattle.sheet_node.proofs.Nodes.{types-keep, statements-keep, addresses-keep, types-inside}
 use Rattle.sheet_node.specs.declared.NodeReading.{NodeReading}
-use Rattle.sheet_node.specs.Node.{mapAt, assignmentAt, statementAt, statementOf, statementsFrom, typesFrom, typesOf, addressesFrom, nodeAt, typesIn, ReadNode}
+use Rattle.sheet_node.specs.Node.{mapAt, assignmentAt, statementAt, statementOf, statementsFrom, typesFrom, typesOf, addressesFrom, nodeAt, typesIn}
+use Rattle.sheet_node.specs.Contracts.{ReadNode}
 
 map-on : (s : List ℕ) (p : Place) {a : ℕ} → mapAt s p .next ≡ At a → WentOn p
 unfolding mapAt
@@ -50,23 +51,6 @@ types-on s p k e = back (λ j. typesFrom s p j) (types-keep s p) k 0 e (omega ar
 addresses-on : (s : List ℕ) (p : Place) (k : ℕ) {a : ℕ} → addressesFrom s p k .next ≡ At a → WentOn p
 unfolding addressesFrom
 addresses-on s p k e = back (λ j. addressesFrom s p j .next) (addresses-keep s p) k 0 e (omega arith)
-
-pub node-on : (s : List ℕ) (p : Place) {a : ℕ} → nodeAt s p .next ≡ At a → WentOn p
-unfolding nodeAt
-node-on s p e =
-    let v = countAt 0 32 s p in
-    let typesEnd = typesFrom s (v .next) (v .value) in
-    let types = typesOf typesEnd (startOf (v .next)) (v .value) s in
-    let k = countAt 0 64 s typesEnd in
-    let condition = statementsFrom types s (k .next) (k .value) .next in
-    let conditionEnd = expressionAt (length types) s condition .next in
-    let a = countAt 0 16 s conditionEnd in
-    let sites = addresses-on s (a .next) (a .value) e in
-    let judged = count-on 0 16 s conditionEnd (sites .1) in
-    let one = one-tree (length types) s condition (judged .1) in
-    let body = statements-on types s (k .next) (k .value) (one .there) in
-    let counted = count-on 0 64 s typesEnd (body .1) in
-    count-on 0 32 s p (types-on s (v .next) (v .value) (counted .1) .1)
 
 -- statements that were read whole were so one by one
 pub statements-back : (types s : List ℕ) (p : Place) (k j : ℕ) {a : ℕ} → statementsFrom types s p k .next ≡ At a → j ≤ k
@@ -112,22 +96,22 @@ assigned types s p e there = go (eqb (mapAt s p .value) 3) refl
         record { tree = rw q (value .tree); short = rw q (value .short); declared = rw q (code .below) }
     go false q = let z : false ≡ true = rw q at there in absurd (false≢true z)
 
--- what a node that was read whole is
-pub record WholeNode (s : List ℕ) (p : Place) (types : List ℕ) : Type 0 where
+-- what a node that was read whole holds, by its types
+pub record Parts (s : List ℕ) (node : NodeReading) (types : List ℕ) : Type 0 where
   pub few : length types ≤ 32
-  pub count : nodeAt s p .variables ≡ length types
-  pub inside : startOf (nodeAt s p .types) + nodeAt s p .variables ≤ length s
-  pub start : WentOn (nodeAt s p .body)
-  pub body : statementsFrom types s (nodeAt s p .body) (nodeAt s p .statements) .next ≡ nodeAt s p .condition
-  pub statements : WentOn (statementsFrom types s (nodeAt s p .body) (nodeAt s p .statements) .next)
-  pub condition : WentOn (expressionAt (length types) s (nodeAt s p .condition) .next)
-  pub addresses : countAt 0 16 s (expressionAt (length types) s (nodeAt s p .condition) .next) .value ≡ nodeAt s p .addresses
-  pub sites : countAt 0 16 s (expressionAt (length types) s (nodeAt s p .condition) .next) .next ≡ nodeAt s p .sites
+  pub counted : node .variables ≡ length types
+  pub inside : startOf (node .types) + node .variables ≤ length s
+  pub start : WentOn (node .body)
+  pub body : statementsFrom types s (node .body) (node .statements) .next ≡ node .condition
+  pub statements : WentOn (statementsFrom types s (node .body) (node .statements) .next)
+  pub condition : WentOn (expressionAt (length types) s (node .condition) .next)
+  pub addresses : countAt 0 16 s (expressionAt (length types) s (node .condition) .next) .value ≡ node .addresses
+  pub sites : countAt 0 16 s (expressionAt (length types) s (node .condition) .next) .next ≡ node .sites
 
 types-whole : {end : Place} {a : ℕ} (from n : ℕ) (s : List ℕ) → end ≡ At a → typesOf end from n s ≡ take n (drop from s)
 types-whole from n s e = rw e
 
-pub whole-node : (s : List ℕ) (p : Place) {a : ℕ} → nodeAt s p .next ≡ At a → WholeNode s p (typesIn s (nodeAt s p))
+pub whole-node : (s : List ℕ) (p : Place) {a : ℕ} → nodeAt s p .next ≡ At a → Parts s (nodeAt s p) (typesIn s (nodeAt s p))
 unfolding nodeAt
 whole-node s p e =
     let v = countAt 0 32 s p in
@@ -147,7 +131,7 @@ whole-node s p e =
     let size : length types ≡ v .value = rw same (length-take-le (v .value) (drop (startOf (v .next)) s) (rw length-drop (omega (arith, room)))) in
     rw (← same) record {
       few = omega (arith, size, count-most 0 32 s p);
-      count = sym size;
+      counted = sym size;
       inside = room;
       start = body;
       body = refl;
@@ -157,35 +141,8 @@ whole-node s p e =
       sites = refl;
     }
 
--- what an operation on a node that was read whole asks of its parts
-pub record Parts (s : List ℕ) (node : NodeReading) : Type 0 where
-  pub few : length (typesIn s node) ≤ 32
-  pub counted : node .variables ≡ length (typesIn s node)
-  pub inside : startOf (node .types) + node .variables ≤ length s
-  pub start : WentOn (node .body)
-  pub body : statementsFrom (typesIn s node) s (node .body) (node .statements) .next ≡ node .condition
-  pub statements : WentOn (statementsFrom (typesIn s node) s (node .body) (node .statements) .next)
-  pub condition : WentOn (expressionAt (length (typesIn s node)) s (node .condition) .next)
-  pub addresses : countAt 0 16 s (expressionAt (length (typesIn s node)) s (node .condition) .next) .value ≡ node .addresses
-  pub sites : countAt 0 16 s (expressionAt (length (typesIn s node)) s (node .condition) .next) .next ≡ node .sites
-
-parts-at : (s : List ℕ) (p : Place) {a : ℕ} → nodeAt s p .next ≡ At a → Parts s (nodeAt s p)
-parts-at s p e =
-    let w = whole-node s p e in
-    record {
-      few = w .few;
-      counted = w .count;
-      inside = w .inside;
-      start = w .start;
-      body = w .body;
-      statements = w .statements;
-      condition = w .condition;
-      addresses = w .addresses;
-      sites = w .sites;
-    }
-
-pub parts : (s : List ℕ) (node : NodeReading) → ReadNode s node → Parts s node
-parts s node read = rw (read .is) (parts-at s (read .at) {a = read .on .0} (ap (λ (n : NodeReading). n .next) (sym (read .is)) ∙ read .on .1))
+pub parts : (s : List ℕ) (node : NodeReading) → ReadNode s node → Parts s node (typesIn s node)
+parts s node read = rw (read .is) (whole-node s (read .at) {a = read .on .0} (ap (λ (n : NodeReading). n .next) (sym (read .is)) ∙ read .on .1))
 
 -- its types stand inside the sheet
 pub read-inside : (s : List ℕ) (node : NodeReading) → ReadNode s node → startOf (node .types) + node .variables ≤ length s

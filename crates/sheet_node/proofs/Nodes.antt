@@ -15,7 +15,8 @@ use Rattle.sheet_field.proofs.Counted.{stopped}
 use Rattle.sheet_expression.specs.Expression.{expressionAt}
 use Rattle.sheet_node.specs.declared.NodeReading.{NodeReading}
 use Rattle.sheet_node.specs.declared.NodeFront.{NodeFront}
-use Rattle.sheet_node.specs.Node.{mapAt, statementAt, statementsFrom, typesFrom, typesOf, addressesFrom, nodeAt, frontOf}
+use Rattle.sheet_node.specs.Node.{mapAt, statementAt, statementsFrom, typesFrom, typesOf, addressesFrom, nodeAt}
+use Rattle.sheet_node.specs.Contracts.{frontOf}
 
 -- one type, statement or address more
 pub types-more : (s : List ℕ) (p : Place) (k : ℕ) → codeAt 10 s (typesFrom s p k) .next ≡ typesFrom s p (k + 1)

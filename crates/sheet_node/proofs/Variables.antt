@@ -65,5 +65,5 @@ reads-declared s p e =
     let w = whole-node s p e in
     record {
       statements = below-all (typesIn s (nodeAt s p)) s (nodeAt s p .body) (nodeAt s p .statements) (w .statements .1);
-      condition = condition-below (nodeAt s p .variables) (length (typesIn s (nodeAt s p))) s (nodeAt s p .condition) (w .count) (w .condition .1);
+      condition = condition-below (nodeAt s p .variables) (length (typesIn s (nodeAt s p))) s (nodeAt s p .condition) (w .counted) (w .condition .1);
     }

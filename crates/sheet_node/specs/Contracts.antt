@@ -1,11 +1,14 @@
--- What the contracts of the readers give.
+-- What the contracts of the readers ask and give.
 use Prim.Native.Nat.{ℕ, _*_, _≤_}
 use mathlib.Core.Path.{_≡_}
 use mathlib.Core.List.{List, _++_}
 use lib.ListN.{length, drop}
+use Rattle.sheet_field.specs.declared.Place.{Place}
 use Rattle.sheet_field.specs.Field.{WentOn}
 use Rattle.sheet_node.specs.declared.StatementReading.{StatementReading}
-use Rattle.sheet_node.specs.Node.{StatementRead}
+use Rattle.sheet_node.specs.declared.NodeReading.{NodeReading}
+use Rattle.sheet_node.specs.declared.NodeFront.{NodeFront}
+use Rattle.sheet_node.specs.Node.{StatementRead, nodeAt}
 
 -- What a reader of a statement leaves: the statement, and a lent list that was `before` and is `after`: where reading went
 -- on, the value's words stand at its front, and the rest is as it was.
@@ -16,3 +19,13 @@ pub record TookStatement (f : StatementReading) (before after : List ℕ) (r : S
   pub few : f .records ≤ 128
   pub place : f .next ≡ r .next
   pub list : WentOn (r .next) → after ≡ r .words ++ drop (2 * f .records) before
+
+-- what stands before a node's statements
+abbrev pub frontOf : NodeReading → NodeFront
+frontOf n = record { variables = n .variables; types = n .types; statements = n .statements; body = n .body }
+
+-- a node that was read whole
+pub record ReadNode (s : List ℕ) (node : NodeReading) : Type 0 where
+  pub at : Place
+  pub is : node ≡ nodeAt s at
+  pub on : WentOn (node .next)

@@ -8,14 +8,13 @@ use lib.ListN.{length, getD, take, drop}
 use Rattle.sheet_field.specs.declared.Place.{Place}
 use Rattle.sheet_field.specs.declared.Place.the-variants.{At, Refused}
 use Rattle.sheet_field.specs.declared.Field.{Field}
-use Rattle.sheet_field.specs.Field.{fieldAt, startOf, judge, checkField, codeAt, countAt, WentOn}
+use Rattle.sheet_field.specs.Field.{fieldAt, startOf, judge, checkField, codeAt, countAt}
 use Rattle.expr.specs.Tree.{Expr, treeOf}
 use Rattle.expr.specs.Statement.{Statement}
 use Rattle.expr.specs.Statement.Statement.{assignment, other}
 use Rattle.expr.specs.Types.{typeOf, sameType}
 use Rattle.sheet_expression.specs.Expression.{expressionAt}
 use Rattle.sheet_node.specs.declared.NodeReading.{NodeReading}
-use Rattle.sheet_node.specs.declared.NodeFront.{NodeFront}
 
 -- what reading a statement gives: whether it is an assignment, its variable, its value's words, and the place after it
 pub record StatementRead : Type 0 where
@@ -107,10 +106,6 @@ nodeAt s p =
       next = addressesFrom s (a .next) (a .value) .next;
     }
 
--- what stands before its statements
-abbrev pub frontOf : NodeReading → NodeFront
-frontOf n = record { variables = n .variables; types = n .types; statements = n .statements; body = n .body }
-
 -- A node as syntax.
 pub record Node : Type 0 where
   pub types : List ℕ
@@ -121,12 +116,6 @@ pub record Node : Type 0 where
 -- the types of a node that was read whole, as a part of the sheet
 abbrev pub typesIn : List ℕ → NodeReading → List ℕ
 typesIn s n = take (n .variables) (drop (startOf (n .types)) s)
-
--- a node that was read whole
-pub record ReadNode (s : List ℕ) (node : NodeReading) : Type 0 where
-  pub at : Place
-  pub is : node ≡ nodeAt s at
-  pub on : WentOn (node .next)
 
 -- what a node that was read whole holds
 unfoldable pub nodeOf : List ℕ → NodeReading → Node

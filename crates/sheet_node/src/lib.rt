@@ -9,8 +9,8 @@ ghost use lib.ListN.{length};
 ghost use Rattle.sheet_field.specs.declared.Place.the-variants.{At};
 ghost use Rattle.expr.specs.Tree.{Wf, treeOf};
 ghost use Rattle.expr.specs.Types.{typeOf};
-ghost use Rattle.sheet_node.specs.Node.{mapAt, typedAt, assignmentAt, statementAt, statementsFrom, typesFrom, typesOf, addressesFrom, nodeAt, frontOf, typesIn, ReadNode};
-ghost use Rattle.sheet_node.specs.Contracts.{TookStatement};
+ghost use Rattle.sheet_node.specs.Node.{mapAt, typedAt, assignmentAt, statementAt, statementsFrom, typesFrom, typesOf, addressesFrom, nodeAt, typesIn};
+ghost use Rattle.sheet_node.specs.Contracts.{TookStatement, frontOf, ReadNode};
 
 // A statement: whether it is an assignment, to which variable, how many records its value has, and the place after it.
 // Any other statement has no variable and no records.

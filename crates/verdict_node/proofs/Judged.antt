@@ -15,7 +15,8 @@ use Rattle.expr.proofs.Laws.{wf-two}
 use Rattle.sheet_expression.specs.Expression.{Taken, expressionAt}
 use Rattle.sheet_node.specs.declared.NodeReading.{NodeReading}
 use Rattle.sheet_node.specs.declared.NodeFront.{NodeFront}
-use Rattle.sheet_node.specs.Node.{StatementsRead, statementsFrom, typesOf, nodeAt, frontOf, typesIn, nodeOf, ReadNode}
+use Rattle.sheet_node.specs.Node.{StatementsRead, statementsFrom, typesOf, nodeAt, typesIn, nodeOf}
+use Rattle.sheet_node.specs.Contracts.{frontOf, ReadNode}
 use Rattle.sheet_node.proofs.Accepted.{parts}
 use Rattle.substitution.specs.declared.Written.{Written}
 use Rattle.substitution.specs.declared.Written.the-variants.{From, TooLong}
