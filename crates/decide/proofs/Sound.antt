@@ -24,7 +24,6 @@ use Rattle.value.specs.declared.Truth.{Truth}
 use Rattle.value.specs.declared.Truth.the-variants.{Holds, Fails, NoOutcome}
 use Rattle.value.specs.Operators.{flag, truthOf, arithmetics, shifts, comparisons, operators, bothHold, eitherHolds, operate}
 use Rattle.value.proofs.Laws.{ev-typed, truth-integer}
-use Rattle.value.proofs.Independence.{without-effect}
 use Rattle.value.specs.Evaluation.{Values, Contents, Effects, under, shared, ev}
 use Rattle.verdict.specs.declared.Reason.{Reason}
 use Rattle.verdict.specs.declared.Reason.the-variants.{EqualSides, UnsignedZero, ExactSides, Parity}

@@ -24,7 +24,7 @@ use Rattle.laws.proofs.Booleans.{and-left, and-right}
 pub is-plain : (e : Expr) → plainExpr e ≡ true → Plain e
 is-plain e h =
     let p = plain-parts e h in
-    record { noLoad = p .1; noEffect = p .0 }
+    record { noLoad = p .1; noOwnValue = p .0 }
 
 -- two lists of values that agree at the first n variables
 abbrev pub Same : ℕ → Values → Values → Type 0

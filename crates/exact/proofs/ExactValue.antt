@@ -32,7 +32,7 @@ use Rattle.exact.specs.Exact.Shape.{lowLeft, lowRight, even, vanishes, o
 use Rattle.parity.specs.LowBit.{bit, lowBit, low, Has, sharedBits, ownBits}
 use Rattle.expr.proofs.Sameness.{sameTree-true}
 use Rattle.value.proofs.Laws.{ev-typed}
-use Rattle.value.proofs.Independence.{without-effect}
+use Rattle.value.proofs.Independence.{without-own-value}
 use Rattle.parity.proofs.Choices.{poly-low, part-bits}
 use Rattle.parity.proofs.LowBits.{by-two, convert-low, number-low, even-width}
 use Rattle.parity.proofs.TypeLaws.{constant-plain, small-plain, wider-left, wider-right, together-taken}
@@ -307,7 +307,7 @@ module _ (types : List ℕ) (ρ σ : Values) (m : Contents) where
     one-value same =
         let is = sameTree-true a b (left-holds _ _ same) in
         let plain : hasOwnValue a ≡ false = not-true _ (right-holds (sameTree a b) _ same) in
-        (ap (typeOf types) is, without-effect types ρ σ (shared m) (under 0 f) (under 1 f) a plain ∙ ap (at (under 1 f)) is)
+        (ap (typeOf types) is, without-own-value types ρ σ (shared m) (under 0 f) (under 1 f) a plain ∙ ap (at (under 1 f)) is)
 
     same-zero : (o n k : ℕ) → (o ≡ 1) ⊎ (o ≡ 7) → s ≡ t → u ≡ Of n → w ≡ Of k → n ≡ k → operate o s t u w ≡ Of x → x ≡ 0
     same-zero o n k (inl is) types′ left right alike e =

@@ -55,10 +55,6 @@ isVariable v (cast t a) = false
 isVariable v (binary o a b) = false
 isVariable v (ternary c a b) = false
 
--- An effect stands in the tree (S40).
-abbrev pub hasEffect : Expr → Bool
-hasEffect e = anyNode isEffect e
-
 -- What has a value of its own at each occurrence: an effect (V17). Whatever asks whether two occurrences are one value asks this.
 abbrev pub ownValue : Expr → Bool
 ownValue e = isEffect e

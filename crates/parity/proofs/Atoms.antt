@@ -70,11 +70,11 @@ place-new (x ∷ l) r e h = go (sameTree x e) h (place-new l r e)
     go false h rest = ap suc (rest (omega arith))
 
 pub number-upto : (l : List Expr) (e : Expr) → numberIn l e ≤ length l
-number-upto l e = go (hasOwnValue e)
+number-upto l e = go (hasOwnValue e) refl
   where
-    go : (b : Bool) → cond b (length l) (place l e) ≤ length l
-    go true = omega arith
-    go false = place-upto l e
+    go : (b : Bool) → hasOwnValue e ≡ b → numberIn l e ≤ length l
+    go true test = rw test (omega arith)
+    go false test = rw test (place-upto l e)
 
 -- A number below the length is that of an equal atom, which has no effect in it.
 pub record Before (l : List Expr) (e : Expr) : Type 0 where
@@ -82,11 +82,11 @@ pub record Before (l : List Expr) (e : Expr) : Type 0 where
   pub equal : (d : Expr) → getD l (numberIn l e) d ≡ e
 
 pub before : (l : List Expr) (e : Expr) → numberIn l e < length l → Before l e
-before l e h = go (hasOwnValue e) refl h
+before l e h = go (hasOwnValue e) refl
   where
-    go : (b : Bool) → hasOwnValue e ≡ b → cond b (length l) (place l e) < length l → Before l e
-    go true test h = absurd (omega arith)
-    go false test h = record { plain = test; equal = λ d. rw test (place-found l e d h) }
+    go : (b : Bool) → hasOwnValue e ≡ b → Before l e
+    go true test = absurd (omega (arith, rw test at h))
+    go false test = record { plain = test; equal = λ d. rw test (place-found l e d (rw test at h)) }
 
 -- the atoms after one more: as they were, or with it at the end
 pub data Noting (l : List Expr) (e : Expr) : Type 0 where

@@ -20,7 +20,7 @@ use Rattle.value.specs.declared.Value.the-variants.{Of, NoValue}
 use Rattle.value.specs.Operators.{Typed, arithmetics, shifts, comparisons, operators, operate, taken}
 use Rattle.value.specs.Evaluation.{Values, Contents, Effects, ByPath, under, shared, ev}
 use Rattle.value.proofs.Laws.{ev-typed}
-use Rattle.value.proofs.Independence.{without-effect}
+use Rattle.value.proofs.Independence.{without-own-value}
 use Rattle.arith.proofs.Laws.{convert-lt, count-is, cut-lt}
 use Rattle.parity.proofs.TypeLaws.{promoted-taken, together-taken, constant-wide}
 use Rattle.parity.specs.Parity.{Entry, constantOf, onRemainder, onShift, entered}
@@ -203,7 +203,7 @@ module _ (types : List ℕ) (ρ σ : Values) (m : Contents) where
     where
       go : (b : Bool) → hasOwnValue e ≡ b → low (at f e) ≡ cond b (φ []) (shared-bits e)
       go true test = sym own
-      go false test = ap low (without-effect types ρ σ (shared m) f (λ path. 0) e test)
+      go false test = ap low (without-own-value types ρ σ (shared m) f (λ path. 0) e test)
 
   -- a constant's value
   constant-value : (f : Effects) (w k : ℕ) → at f (constant w k) ≡ Of (k % 2 ^ bits (constantType w))

@@ -165,7 +165,7 @@ record Kind (v : ℕ) (s : Expr) (h : Table) : Type 0 where
 holdable-is : (v : ℕ) (s : Expr) (h : Table) → holdable v h s ≡ true → Kind v s h
 unfolding holdable
 holdable-is v s h k = record {
-  plain = let parts = plain-parts s (and-left (plainExpr s) (not (anyNode (ended v h) s)) k) in record { noLoad = parts .1; noEffect = parts .0 };
+  plain = let parts = plain-parts s (and-left (plainExpr s) (not (anyNode (ended v h) s)) k) in record { noLoad = parts .1; noOwnValue = parts .0 };
   none-ended = not-true (anyNode (ended v h) s) (and-right (plainExpr s) (not (anyNode (ended v h) s)) k);
 }
 

@@ -1,5 +1,5 @@
--- What the value of an expression does not depend on: the effects where there is none; memory and what variables are inside loads where there is no
--- load; a variable that is not read; in a condition, the place of a load. Assumes nothing.
+-- What the value of an expression does not depend on: the effects where nothing has a value of its own; memory and what variables are inside
+-- loads where there is no load; a variable that is not read; in a condition, the place of a load. Assumes nothing.
 use mathlib.Core.Path.{_≡_, refl, sym, ap, ap₂, _∙_}
 use mathlib.Core.Bool.{Bool, true, false, cond, _||_, false≢true}
 use mathlib.Core.List.{List, []}
@@ -11,7 +11,7 @@ use Rattle.expr.specs.Codes.{signed8}
 use Rattle.expr.specs.Tree.{Expr}
 use Rattle.expr.specs.Tree.Expr.{variable, constant, conditionTrue, conditionFalse, effect, load, cast, binary, ternary}
 use Rattle.expr.specs.Types.{typeOf}
-use Rattle.expr.specs.Scan.{anyNode, isEffect, isLoad, isVariable, hasEffect, hasLoad, reads}
+use Rattle.expr.specs.Scan.{anyNode, isEffect, isLoad, isVariable, hasOwnValue, hasLoad, reads}
 use Rattle.value.specs.Operators.{chosen, taken, operate}
 use Rattle.value.specs.declared.Value.{Value}
 use Rattle.value.specs.declared.Value.the-variants.{Of, NoValue}
@@ -19,25 +19,25 @@ use Rattle.value.specs.Evaluation.{Values, Contents, Memory, Effects, un
 use Rattle.value.specs.Run.{update}
 use Rattle.laws.proofs.Booleans.{or-left, or-right, in-left, in-right}
 
--- where there is no effect, the effects play no part
-pub without-effect : (types : List ℕ) (ρ σ : Values) (m : Memory) (f f′ : Effects) (e : Expr) → hasEffect e ≡ false
+-- where nothing has a value of its own, the effects play no part
+pub without-own-value : (types : List ℕ) (ρ σ : Values) (m : Memory) (f f′ : Effects) (e : Expr) → hasOwnValue e ≡ false
     → ev types ρ σ m f e ≡ ev types ρ σ m f′ e
 unfolding ev anyNode isEffect
-without-effect types ρ σ m f f′ (variable n) h = refl
-without-effect types ρ σ m f f′ (constant w x) h = refl
-without-effect types ρ σ m f f′ conditionTrue h = refl
-without-effect types ρ σ m f f′ conditionFalse h = refl
-without-effect types ρ σ m f f′ (effect t) h = absurd (false≢true (sym h))
-without-effect types ρ σ m f f′ (load t a) h =
-    ap (loaded t (typeOf types a) (m [])) (without-effect types σ σ (under 0 m) (under 0 f) (under 0 f′) a h)
-without-effect types ρ σ m f f′ (cast t a) h = ap (taken (typeOf types a) t) (without-effect types ρ σ (under 0 m) (under 0 f) (under 0 f′) a h)
-without-effect types ρ σ m f f′ (binary o a b) h =
-    ap₂ (operate o (typeOf types a) (typeOf types b)) (without-effect types ρ σ (under 0 m) (under 0 f) (under 0 f′) a (or-left (hasEffect a) (hasEffect b) h)) (without-effect types ρ σ (under 1 m) (under 1 f) (under 1 f′) b (or-right (hasEffect a) (hasEffect b) h))
-without-effect types ρ σ m f f′ (ternary c a b) h =
-    let arms = or-right (hasEffect c) (hasEffect a || hasEffect b) h in
-    let x = without-effect types ρ σ (under 0 m) (under 0 f) (under 0 f′) c (or-left (hasEffect c) (hasEffect a || hasEffect b) h) in
-    let u = without-effect types ρ σ (under 1 m) (under 1 f) (under 1 f′) a (or-left (hasEffect a) (hasEffect b) arms) in
-    let v = without-effect types ρ σ (under 2 m) (under 2 f) (under 2 f′) b (or-right (hasEffect a) (hasEffect b) arms) in
+without-own-value types ρ σ m f f′ (variable n) h = refl
+without-own-value types ρ σ m f f′ (constant w x) h = refl
+without-own-value types ρ σ m f f′ conditionTrue h = refl
+without-own-value types ρ σ m f f′ conditionFalse h = refl
+without-own-value types ρ σ m f f′ (effect t) h = absurd (false≢true (sym h))
+without-own-value types ρ σ m f f′ (load t a) h =
+    ap (loaded t (typeOf types a) (m [])) (without-own-value types σ σ (under 0 m) (under 0 f) (under 0 f′) a h)
+without-own-value types ρ σ m f f′ (cast t a) h = ap (taken (typeOf types a) t) (without-own-value types ρ σ (under 0 m) (under 0 f) (under 0 f′) a h)
+without-own-value types ρ σ m f f′ (binary o a b) h =
+    ap₂ (operate o (typeOf types a) (typeOf types b)) (without-own-value types ρ σ (under 0 m) (under 0 f) (under 0 f′) a (or-left (hasOwnValue a) (hasOwnValue b) h)) (without-own-value types ρ σ (under 1 m) (under 1 f) (under 1 f′) b (or-right (hasOwnValue a) (hasOwnValue b) h))
+without-own-value types ρ σ m f f′ (ternary c a b) h =
+    let arms = or-right (hasOwnValue c) (hasOwnValue a || hasOwnValue b) h in
+    let x = without-own-value types ρ σ (under 0 m) (under 0 f) (under 0 f′) c (or-left (hasOwnValue c) (hasOwnValue a || hasOwnValue b) h) in
+    let u = without-own-value types ρ σ (under 1 m) (under 1 f) (under 1 f′) a (or-left (hasOwnValue a) (hasOwnValue b) arms) in
+    let v = without-own-value types ρ σ (under 2 m) (under 2 f) (under 2 f′) b (or-right (hasOwnValue a) (hasOwnValue b) arms) in
     rw (x, u, v)
 
 -- where there is no load, memory and the values inside loads play no part

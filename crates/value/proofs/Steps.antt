@@ -10,7 +10,7 @@ use lib.ListN.{length, getD}
 use lib.Seq.{getD-set-same, getD-set-other}
 use borrow.Author.Tests.{eqb-true, eqb-false}
 use Rattle.expr.specs.Tree.{Expr}
-use Rattle.expr.specs.Scan.{hasEffect, hasLoad}
+use Rattle.expr.specs.Scan.{hasOwnValue, hasLoad}
 use Rattle.value.specs.declared.Value.{Value}
 use Rattle.value.specs.declared.Value.the-variants.{Of, NoValue}
 use Rattle.value.specs.declared.Truth.the-variants.{NoOutcome}
@@ -19,16 +19,16 @@ use Rattle.value.specs.Evaluation.{Values, Memory, Effects, shared, ev, 
 use Rattle.expr.specs.Statement.{Statement}
 use Rattle.value.specs.Run.{Choices, update, given, runFrom}
 use Rattle.expr.specs.Statement.Statement.{assignment}
-use Rattle.value.proofs.Independence.{without-effect, without-load}
+use Rattle.value.proofs.Independence.{without-own-value, without-load}
 
--- no load and no effect
+-- no load, and nothing with a value of its own
 pub record Plain (e : Expr) : Type 0 where
   pub noLoad : hasLoad e ≡ false
-  pub noEffect : hasEffect e ≡ false
+  pub noOwnValue : hasOwnValue e ≡ false
 
 -- a plain expression has one value, whatever memory and effects are
 pub plain-ev : (types : List ℕ) (ρ σ σ′ : Values) (m m′ : Memory) (f f′ : Effects) (e : Expr) → Plain e → ev types ρ σ m f e ≡ ev types ρ σ′ m′ f′ e
-plain-ev types ρ σ σ′ m m′ f f′ e p = without-load types ρ σ σ′ m m′ f e (p .noLoad) ∙ without-effect types ρ σ′ m′ f f′ e (p .noEffect)
+plain-ev types ρ σ σ′ m m′ f f′ e p = without-load types ρ σ σ′ m m′ f e (p .noLoad) ∙ without-own-value types ρ σ′ m′ f f′ e (p .noOwnValue)
 
 -- the values that stand in a list
 abbrev pub lent : List ℕ → Values
