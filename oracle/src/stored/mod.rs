@@ -6,6 +6,7 @@ pub mod evaluation;
 pub mod nodes;
 pub mod reading;
 pub mod text;
+pub mod verdicts;
 
 pub const READING: &str = include_str!("../../vectors/reading.txt");
 pub const EVALUATION: &str = include_str!("../../vectors/evaluation.txt");

@@ -6,9 +6,8 @@ use crate::comparisons::frames::{ask_nodes, run};
 use crate::comparisons::nodes::{sheet_of, size, OPEN};
 use crate::comparisons::verdicts::{Line, ABSENT};
 use crate::judges::node_verdict;
-use crate::judges::reader::read;
 use crate::sheets::syntax::Node;
-use crate::stored::text::{self, sources, Source};
+use crate::stored::verdicts::{self, due, Case};
 use crate::stored::List;
 
 /// Generated nodes in the list, in sheets of so many, and the seed that they
@@ -20,56 +19,17 @@ const SEED: u64 = 2_016;
 /// Longer nodes are passed over.
 const MOST_BYTES: usize = 160;
 
-pub struct Case {
-    pub name: String,
-    pub sheet: Vec<u8>,
-    pub expected: Vec<String>,
-    /// The given source's answers as it is, where they are others.
-    pub given: Option<Vec<String>>,
-}
-
-/// The cases of a text: `case NAME`, `expect nodes ...`, at times
-/// `given nodes ...`, the sheet. Each is checked against the judge that is
-/// written from the description.
+/// The cases of a text, each checked against the judge that is written from the
+/// description.
 pub fn cases(text: &str) -> Result<Vec<Case>, String> {
-    let named = |source: &Source| format!("case {}: ", source.name);
-    let list = sources(text)?;
-    list.iter().map(|source| one(source).map_err(|error| named(source) + &error)).collect()
-}
-
-fn one(source: &Source) -> Result<Case, String> {
-    let (expectation, body) = source.parts()?;
-    let (given, others) = source.split("given");
-    let body: Vec<&str> = body
-        .iter()
-        .zip(others)
-        .map(|(line, other)| if other.is_empty() { other } else { line })
-        .collect();
-    let given = match given.as_slice() {
-        [] => None,
-        [(_, line)] => Some(answers(&line.split_whitespace().skip(1).collect::<Vec<&str>>())?),
-        _ => return Err("more than one line 'given ...'".to_string()),
-    };
-    let (sheet, _) = text::sheet_of(&body, source.first_line)?;
-    read(&sheet).map_err(|refusal| refusal.to_string())?;
-    let expected = answers(&expectation)?;
-    let found = node_verdict::line(&sheet);
-    if found != due(&expected) {
-        return Err(format!("the judge says '{found}'"));
+    let list = verdicts::cases(text, "nodes")?;
+    for case in &list {
+        let found = node_verdict::line(&case.sheet);
+        if found != due("nodes", &case.expected) {
+            return Err(format!("case {}: the judge says '{found}'", case.name));
+        }
     }
-    Ok(Case { name: source.name.to_string(), sheet, expected, given })
-}
-
-fn answers(words: &[&str]) -> Result<Vec<String>, String> {
-    match words {
-        ["nodes", answers @ ..] => Ok(answers.iter().map(|answer| answer.to_string()).collect()),
-        _ => Err("'nodes ...' is needed".to_string()),
-    }
-}
-
-/// The line due for these answers.
-fn due(answers: &[String]) -> String {
-    answers.iter().fold("nodes".to_string(), |line, answer| format!("{line} {answer}"))
+    Ok(list)
 }
 
 /// Sheets of generated nodes, none of them long, with the judge's answers.
@@ -92,7 +52,7 @@ pub fn store(by_hand: Vec<Case>, given: &[String], list: &mut List) -> Result<()
     let mut input = Vec::new();
     cases.iter().for_each(|case| ask_nodes(&mut input, &case.sheet));
     list.frames.extend(&input);
-    list.lines.extend(cases.iter().map(|case| due(&case.expected)));
+    list.lines.extend(cases.iter().map(|case| due("nodes", &case.expected)));
     let asked = |command: &[String]| {
         run(command, input.clone()).map_err(|error| format!("{}: {error}", command[0]))
     };
@@ -113,9 +73,8 @@ pub fn store(by_hand: Vec<Case>, given: &[String], list: &mut List) -> Result<()
 /// for a case by hand also as it is. What it does not judge to the end is left
 /// to the judge, and as it is it refuses nothing.
 fn check(case: &Case, lines: [&str; 2], by_hand: bool) -> Result<(), String> {
-    let stated = case.given.as_ref().unwrap_or(&case.expected);
     let asked = |answer: &String| by_hand && !answer.starts_with('r');
-    let as_it_is = alike(lines[0], stated, asked);
+    let as_it_is = alike(lines[0], case.stated(), asked);
     let with_differences = alike(lines[1], &case.expected, |_| true);
     match (as_it_is, with_differences) {
         (true, true) => Ok(()),

@@ -83,7 +83,7 @@ fn cases_by_hand_are_accepted_and_have_an_answer_for_each_block() {
     assert!(cases.len() > 50);
     for case in cases {
         let sheet = read(&case.sheet).unwrap().sheet;
-        assert_eq!(case.expected.map(|list| list.len()), Some(sheet.blocks.len()), "{}", case.name);
+        assert_eq!(case.expected.len(), sheet.blocks.len(), "{}", case.name);
     }
 }
 
@@ -92,7 +92,7 @@ fn a_case_without_an_expectation_is_named() {
     let error = blocks::cases("case x\nblock 1 2").err().unwrap();
     assert_eq!(error, "case x: one line 'expect ...' is needed");
     let error = blocks::cases("case x\nexpect accepted 0 0 0").err().unwrap();
-    assert_eq!(error, "case x: 'expect blocks ...' is needed");
+    assert_eq!(error, "case x: 'blocks ...' is needed");
 }
 
 fn condition_after(lines: &str, rule: Rule) -> String {
