@@ -20,7 +20,7 @@ pub enum Size {
 }
 
 // The width of a size in bits.
-pub fn width_of(size: u64) -> Size
+pub fn width_of(size: u8) -> Size
     ensures { λ r. ⌜ r ≡ widthOf size ⌝ }
 {
     if size == 8 {

@@ -9,10 +9,10 @@ ghost use Rattle.isa.specs.Modelled.{isRegister, isAbsent, takes, modell
 
 // Class 1 are the general registers; index, size in bits and offset in bits name the part.
 pub struct Register {
-    pub class: u64,
-    pub index: u64,
-    pub size: u64,
-    pub offset: u64,
+    pub class: u8,
+    pub index: u8,
+    pub size: u8,
+    pub offset: u8,
 }
 
 pub enum Operand {

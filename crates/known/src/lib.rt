@@ -29,7 +29,7 @@ pub struct Slot {
 }
 
 // The part of a whole register that a width and an offset name. Offset 8 counts at 8 bits alone.
-fn extract(w: Width, offset: u64, x: u64) -> u64
+fn extract(w: Width, offset: u8, x: u64) -> u64
     ensures { λ r. ⌜ r ≡ extracted w offset x ⌝ }
 {
     match w {
@@ -41,7 +41,7 @@ fn extract(w: Width, offset: u64, x: u64) -> u64
 }
 
 // The whole register with another part.
-fn insert(w: Width, offset: u64, old: u64, x: u64) -> u64
+fn insert(w: Width, offset: u8, old: u64, x: u64) -> u64
     ensures { λ r. ⌜ r ≡ inserted w offset old x ⌝ }
 {
     match w {
@@ -58,7 +58,7 @@ fn insert(w: Width, offset: u64, old: u64, x: u64) -> u64
     }
 }
 
-fn part(w: Width, offset: u64, v: Value) -> Value
+fn part(w: Width, offset: u8, v: Value) -> Value
     ensures { λ r. ⌜ r ≡ onValue (extracted w offset) v ⌝ }
 {
     match v {
@@ -68,7 +68,7 @@ fn part(w: Width, offset: u64, v: Value) -> Value
 }
 
 // A part written onto a whole register.
-fn onto_whole(w: Width, offset: u64, x: u64, old: Value) -> Value
+fn onto_whole(w: Width, offset: u8, x: u64, old: Value) -> Value
     ensures { λ v. ⌜ v ≡ onto w offset x old ⌝ }
 {
     match old {
@@ -78,7 +78,7 @@ fn onto_whole(w: Width, offset: u64, x: u64, old: Value) -> Value
 }
 
 // The whole register after a write to it.
-fn merge(w: Width, offset: u64, old: Value, v: Value) -> Value
+fn merge(w: Width, offset: u8, old: Value, v: Value) -> Value
     ensures { λ r. ⌜ r ≡ merged w offset old v ⌝ }
 {
     match v {
@@ -122,7 +122,7 @@ fn slot_of(v: Value) -> Slot
 }
 
 // What is known of a part of a register.
-pub fn read(size: Size, offset: u64, s: Slot) -> Value
+pub fn read(size: Size, offset: u8, s: Slot) -> Value
     ensures { λ r. ⌜ r ≡ partOf size offset s ⌝ }
 {
     match size {
@@ -132,7 +132,7 @@ pub fn read(size: Size, offset: u64, s: Slot) -> Value
 }
 
 // What is known of a register after a write to a part of it.
-pub fn write(size: Size, offset: u64, s: Slot, v: Value) -> Slot
+pub fn write(size: Size, offset: u8, s: Slot, v: Value) -> Slot
     ensures { λ r. ⌜ r ≡ withPart size offset s v ⌝ }
 {
     let old = contents_of(s);

@@ -43,7 +43,7 @@ impl State {
 }
 
 // What is known of the register of that index.
-fn slot_at(s: State, index: u64) -> Slot
+fn slot_at(s: State, index: u8) -> Slot
     ensures { λ r. ⌜ r ≡ slotAt s index ⌝ }
 {
     let registers = s.registers;
@@ -55,7 +55,7 @@ fn slot_at(s: State, index: u64) -> Slot
 }
 
 // The state with something else known of a register.
-fn replace(s: State, index: u64, slot: Slot) -> State
+fn replace(s: State, index: u8, slot: Slot) -> State
     ensures { λ r. ⌜ r ≡ replaced s index slot ⌝ }
 {
     if index < 16 {
@@ -96,7 +96,7 @@ pub fn write(s: State, r: Register, v: Value) -> State
 }
 
 // The value of an operand beside a register of that size.
-fn operand(s: State, size: u64, o: Operand) -> Value
+fn operand(s: State, size: u8, o: Operand) -> Value
     ensures { λ v. ⌜ v ≡ operandOf s size o ⌝ }
 {
     match o {
@@ -330,7 +330,7 @@ pub fn step(s: State, i: Instruction) -> State
 }
 
 // The bits of register 1 that a count-register jump reads.
-fn count_size(c: Counter) -> u64
+fn count_size(c: Counter) -> u8
     ensures { λ r. ⌜ r ≡ countSize c ⌝ }
 {
     match c {

@@ -52,13 +52,13 @@ pub struct InstructionReading {
 pub fn take_register(s: &[u8], p: Place) -> RegisterReading
     ensures { λ r. ⌜ r ≡ registerAt (now (s .entry)) p ⌝ }
 {
-    let class = sheet_field::take_field(s, p, Width::One);
+    let class = sheet_field::take_byte(s, p);
     let after_class = class.next;
-    let index = sheet_field::take_field(s, after_class, Width::One);
+    let index = sheet_field::take_byte(s, after_class);
     let after_index = index.next;
-    let size = sheet_field::take_field(s, after_index, Width::One);
+    let size = sheet_field::take_byte(s, after_index);
     let after_size = size.next;
-    let offset = sheet_field::take_field(s, after_size, Width::One);
+    let offset = sheet_field::take_byte(s, after_size);
     let after_offset = offset.next;
     let register = Register {
         class: class.value,

@@ -3,17 +3,17 @@ use borrow.Author.Needs.{needs}
 use Rattle.sheet_instruction.proofs.take_register.Statement.{statement}
 use Rattle.sheet_instruction.proofs.take_register.Tie as tie
 
-take-field-requires : tie.Need-take-field-requires
-take-field-requires c κs = search needs
+take-byte-requires : tie.Need-take-byte-requires
+take-byte-requires c κs = search needs
 
-take-field-requires-2 : tie.Need-take-field-requires-2
-take-field-requires-2 c κs = search needs
+take-byte-requires-2 : tie.Need-take-byte-requires-2
+take-byte-requires-2 c κs = search needs
 
-take-field-requires-3 : tie.Need-take-field-requires-3
-take-field-requires-3 c κs = search needs
+take-byte-requires-3 : tie.Need-take-byte-requires-3
+take-byte-requires-3 c κs = search needs
 
-take-field-requires-4 : tie.Need-take-field-requires-4
-take-field-requires-4 c κs = search needs
+take-byte-requires-4 : tie.Need-take-byte-requires-4
+take-byte-requires-4 c κs = search needs
 
 well-formed-requires : tie.Need-well-formed-requires
 well-formed-requires c κs = search needs
@@ -32,10 +32,10 @@ pub take-register-spec : {M : Type 1} → statement M
 take-register-spec =
     tie.close
     (tie.spec
-    take-field-requires
-    take-field-requires-2
-    take-field-requires-3
-    take-field-requires-4
+    take-byte-requires
+    take-byte-requires-2
+    take-byte-requires-3
+    take-byte-requires-4
     well-formed-requires
     start-requires
     judged-requires
