@@ -1,7 +1,12 @@
 -- The cases of the definitions of instruction records, over plain values.
 use Prim.Native.Nat.{ℕ, zero, suc, _+_, _≤_, _<_}
-use mathlib.Core.Path.{_≡_, refl, ap, sym, subst}
-use mathlib.Core.List.{List}
+use mathlib.Core.Path.{_≡_, refl, ap, sym, subst, _∙_}
+use mathlib.Core.List.{List, _∷_}
+use mathlib.Core.Logic.{⊎-elim}
+use native.Mathlib.Nat.{eq-or-lt-of-le}
+use lib.ListN.{set, replicate}
+use lib.Seq.{set-comm}
+use Rattle.isa.specs.declared.Register.{Register}
 use borrow.Author.Tests.{eq-eqb, ne-eqb}
 use Rattle.isa.specs.declared.Operand.the-variants.{Absent, Reg, Imm, Mem}
 use Rattle.sheet_field.specs.declared.Place.{Place}
@@ -9,7 +14,7 @@ use Rattle.sheet_field.specs.declared.Field.{Field}
 use Rattle.sheet_instruction.specs.declared.RegisterReading.{RegisterReading}
 use Rattle.sheet_instruction.specs.declared.OperandReading.{OperandReading}
 use Rattle.sheet_field.specs.Field.{fieldAt, codeAt}
-use Rattle.sheet_field.specs.Field.{checkField, countAt, judge, keep, startOf}
+use Rattle.sheet_field.specs.Field.{checkField, countAt, judge, keep, startOf, isRefused}
 use Rattle.sheet_field.proofs.Fields.{check-below}
 use Rattle.sheet_instruction.specs.Instruction.{registerAt, operandAt, withRegister, registersFrom, bitOf, optionalOperand, optionalRegisters, optionalCode, headAt, tailAt, instructionAt}
 use Rattle.isa.specs.declared.Instruction.{Instruction}
@@ -19,7 +24,7 @@ use Rattle.sheet_instruction.specs.declared.Tail.{Tail}
 use Rattle.sheet_instruction.specs.declared.InstructionReading.{InstructionReading}
 use native.Mathlib.Numerals.{add-one}
 use native.Mathlib.Omega.{arith}
-use mathlib.Core.Bool.{Bool, true, false, not, _&&_}
+use mathlib.Core.Bool.{Bool, true, false, not, _&&_, false≢true}
 use lib.Dec.{leb, ltb}
 use borrow.Author.Tests.{leb-true, ltb-true}
 use Rattle.sheet_field.specs.declared.Place.the-variants.{At, Refused}
@@ -46,9 +51,62 @@ unfolding registersFrom withRegister
 registers-count s p zero = refl
 registers-count s p (suc k) = rw (registers-count s p k, add-one)
 
-pub registers-more : (s : List ℕ) (p : Place) (k : ℕ) → withRegister s (registersFrom s p k) ≡ registersFrom s p (k + 1)
-unfolding registersFrom
-registers-more s p k = rw add-one
+registers-path : {x y : List Register} {c d : ℕ} {p q : Place} → x ≡ y → c ≡ d → p ≡ q
+    → _≡_ {A = Registers} (record { list = x; count = c; next = p }) (record { list = y; count = d; next = q })
+registers-path e f g = rw (e, f, g)
+
+-- a list of registers, as far as it was read, from its parts
+module _ (s : List ℕ) (p : Place) (k : ℕ) {list : List Register} {q : Place}
+    (list-is : list ≡ registersFrom s p k .list) (q-is : q ≡ registersFrom s p k .next) where
+  pub registers-are : _≡_ {A = Registers} (record { list = list; count = k; next = q }) (registersFrom s p k)
+  registers-are = registers-path list-is (sym (registers-count s p k)) q-is
+
+  pub registers-more : {r : RegisterReading} → r ≡ registerAt s q
+      → (set list k (r .register) ≡ registersFrom s p (k + 1) .list) × (r .next ≡ registersFrom s p (k + 1) .next)
+  unfolding registersFrom withRegister
+  registers-more r-is =
+      rw (add-one, r-is, q-is, list-is)
+      (ap (λ (n : ℕ). set (registersFrom s p k .list) n (registerAt s (registersFrom s p k .next) .register)) (sym (registers-count s p k)), refl)
+
+nothing : Register
+nothing = record { class = 0; index = 0; size = 0; offset = 0 }
+
+set-nothing : (n i : ℕ) → set (replicate n nothing) i nothing ≡ replicate n nothing
+set-nothing zero i = refl
+set-nothing (suc n) zero = refl
+set-nothing (suc n) (suc i) = ap (λ (l : List Register). nothing ∷ l) (set-nothing n i)
+
+-- the list holds nothing after the registers that were read
+registers-rest : (s : List ℕ) (p : Place) (k i : ℕ) → k ≤ i → set (registersFrom s p k .list) i nothing ≡ registersFrom s p k .list
+unfolding registersFrom withRegister nothing
+registers-rest s p zero i le = set-nothing 8 i
+registers-rest s p (suc k) i le =
+    let r = registerAt s (registersFrom s p k .next) .register in
+    rw (registers-count s p k)
+    (set-comm (registersFrom s p k .list) k i r nothing (λ e. omega arith)
+    ∙ ap (λ (l : List Register). set l k r) (registers-rest s p k i (omega arith)))
+
+-- from a refusal on the list and the place stay
+abbrev Stays : List ℕ → Place → ℕ → ℕ → ℕ → ℕ → Type 0
+Stays s p j k at n = _≡_ {A = Registers} (record { list = registersFrom s p j .list; count = n; next = Refused k at }) (registersFrom s p n)
+
+registers-step : (s : List ℕ) (p : Place) (j k at n : ℕ) → j ≤ n → Stays s p j k at n → Stays s p j k at (suc n)
+unfolding registersFrom withRegister registerAt fieldAt nothing
+registers-step s p j k at n le e = rw (← e, registers-rest s p j n le, add-one)
+
+registers-stay : (s : List ℕ) (p : Place) (j k at n : ℕ) → Refused k at ≡ registersFrom s p j .next → j ≤ n → Stays s p j k at n
+registers-stay s p j k at zero e le = let z : 0 ≡ j = omega arith in rw z (registers-are s p j refl e)
+registers-stay s p j k at (suc n) e le =
+    ⊎-elim
+    (λ (z : j ≡ suc n). rw (← z) (registers-are s p j refl e))
+    (λ (lt : j < suc n). registers-step s p j k at n (omega arith) (registers-stay s p j k at n e (omega arith)))
+    (eq-or-lt-of-le le)
+
+pub registers-stopped : (s : List ℕ) (p : Place) (n j : ℕ) {list : List Register} (q : Place)
+    → list ≡ registersFrom s p j .list → q ≡ registersFrom s p j .next → isRefused q ≡ true → j ≤ n
+    → _≡_ {A = Registers} (record { list = list; count = n; next = q }) (registersFrom s p n)
+registers-stopped s p n j (At at) list-is q-is r le = absurd (false≢true r)
+registers-stopped s p n j (Refused k at) list-is q-is r le = rw list-is (registers-stay s p j k at n q-is le)
 
 -- a tail from its parts
 pub tail-is : (map : ℕ) (s : List ℕ) (p : Place) {b4 b8 b16 b32 : Bool} {one two : OperandReading} {written : Registers} {flags : Field}

@@ -8,11 +8,11 @@ use sheet_field::Place;
 use sheet_field::Width;
 ghost use mathlib.Core.Path.{_≡_};
 ghost use Prim.Native.Nat.{_<_, _≤_};
-ghost use Rattle.sheet_instruction.specs.Instruction.{registerAt, operandAt, withRegister, registersFrom, registersAt, optionalRegisters, bitOf, mapOk, mapAt, addressAt, optionalField, optionalCode, optionalOperand, headAt, tailAt, instructionAt};
+ghost use Rattle.sheet_instruction.specs.Instruction.{registerAt, operandAt, registersFrom, registersAt, optionalRegisters, bitOf, mapOk, mapAt, addressAt, optionalField, optionalCode, optionalOperand, headAt, tailAt, instructionAt};
 
-pub struct RegisterReading {
-    pub register: Register,
-    pub next: Place,
+struct RegisterReading {
+    register: Register,
+    next: Place,
 }
 
 pub struct OperandReading {
@@ -27,21 +27,21 @@ pub struct Registers {
     pub next: Place,
 }
 
-pub struct Head {
-    pub map: u64,
-    pub address: u64,
-    pub mnemonic: Mnemonic,
-    pub target: u64,
-    pub next: Place,
+struct Head {
+    map: u64,
+    address: u64,
+    mnemonic: Mnemonic,
+    target: u64,
+    next: Place,
 }
 
-pub struct Tail {
-    pub first: Operand,
-    pub second: Operand,
-    pub written: [Register; 8],
-    pub count: u64,
-    pub flags: u64,
-    pub next: Place,
+struct Tail {
+    first: Operand,
+    second: Operand,
+    written: [Register; 8],
+    count: u64,
+    flags: u64,
+    next: Place,
 }
 
 pub struct InstructionReading {
@@ -49,7 +49,7 @@ pub struct InstructionReading {
     pub next: Place,
 }
 
-pub fn take_register(s: &[u8], p: Place) -> RegisterReading
+fn take_register(s: &[u8], p: Place) -> RegisterReading
     ensures { λ r. ⌜ r ≡ registerAt (now (s .entry)) p ⌝ }
 {
     let class = sheet_field::take_byte(s, p);
@@ -73,7 +73,7 @@ pub fn take_register(s: &[u8], p: Place) -> RegisterReading
     }
 }
 
-pub fn take_operand(s: &[u8], p: Place) -> OperandReading
+fn take_operand(s: &[u8], p: Place) -> OperandReading
     ensures { λ r. ⌜ r ≡ operandAt (now (s .entry)) p ⌝ }
 {
     let kind = sheet_field::code(s, p, 3);
@@ -101,24 +101,7 @@ pub fn take_operand(s: &[u8], p: Place) -> OperandReading
     }
 }
 
-fn with_register(s: &[u8], before: Registers) -> Registers
-    requires { ⌜ before .count < 8 ⌝ }
-    ensures { λ r. ⌜ r ≡ withRegister (now (s .entry)) before ⌝ }
-{
-    let from = before.next;
-    let r = take_register(s, from);
-    let register = r.register;
-    let next = r.next;
-    let count = before.count;
-    let mut list = before.list;
-    list[count as usize] = register;
-    Registers {
-        list,
-        count: count + 1,
-        next,
-    }
-}
-
+// The first n registers from a place on; where reading is refused before them all, the rest stays nothing.
 fn registers_from(s: &[u8], p: Place, n: u64) -> Registers
     requires { ⌜ n ≤ 8 ⌝ }
     ensures { λ r. ⌜ r ≡ registersFrom (now (s .entry)) p n ⌝ }
@@ -129,20 +112,31 @@ fn registers_from(s: &[u8], p: Place, n: u64) -> Registers
         size: 0,
         offset: 0,
     };
-    let mut taken = Registers {
-        list: [none; 8],
-        count: 0,
-        next: p,
-    };
+    let mut list = [none; 8];
+    let mut next = p;
     let mut i: u64 = 0;
     while i < n {
-        taken = with_register(s, taken);
+        if sheet_field::is_refused(next) {
+            return Registers {
+                list,
+                count: n,
+                next,
+            };
+        }
+        let r = take_register(s, next);
+        let register = r.register;
+        list[i as usize] = register;
+        next = r.next;
         i += 1;
     }
-    taken
+    Registers {
+        list,
+        count: n,
+        next,
+    }
 }
 
-pub fn take_registers(s: &[u8], p: Place) -> Registers
+fn take_registers(s: &[u8], p: Place) -> Registers
     ensures { λ r. ⌜ r ≡ registersAt (now (s .entry)) p ⌝ }
 {
     let n = sheet_field::count(s, p, 0, 8);
@@ -276,8 +270,8 @@ pub fn take_instruction(s: &[u8], p: Place, opens: bool, last: u64) -> Instructi
     let head = take_head(s, p, opens, last);
     let after = head.next;
     let tail = take_tail(s, after, head.map);
-    let one = tail.first;
-    let two = tail.second;
+    let first = tail.first;
+    let second = tail.second;
     let written = tail.written;
     let end = tail.next;
     let mnemonic = head.mnemonic;
@@ -287,8 +281,8 @@ pub fn take_instruction(s: &[u8], p: Place, opens: bool, last: u64) -> Instructi
         branch: bit(head.map, 1),
         target: head.target,
         call: bit(head.map, 2),
-        first: one,
-        second: two,
+        first,
+        second,
         written,
         count: tail.count,
         flags: tail.flags,
