@@ -180,7 +180,7 @@ pub fn well_formed(r: Register) -> bool
     (r.class != 1) | ((index <= 15) & (low | high))
 }
 
-pub fn is_register(o: Operand) -> bool
+fn is_register(o: Operand) -> bool
     ensures { λ r. ⌜ r ≡ isRegister o ⌝ }
 {
     match o {
@@ -191,7 +191,7 @@ pub fn is_register(o: Operand) -> bool
     }
 }
 
-pub fn is_absent(o: Operand) -> bool
+fn is_absent(o: Operand) -> bool
     ensures { λ r. ⌜ r ≡ isAbsent o ⌝ }
 {
     match o {

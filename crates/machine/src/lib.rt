@@ -69,7 +69,7 @@ fn replace(s: State, index: u8, slot: Slot) -> State
 }
 
 // A register of another class than 1 is unknown.
-pub fn read(s: State, r: Register) -> Value
+fn read(s: State, r: Register) -> Value
     ensures { λ v. ⌜ v ≡ readOf s r ⌝ }
 {
     if r.class == 1 {
@@ -82,7 +82,7 @@ pub fn read(s: State, r: Register) -> Value
 }
 
 // To a register of another class than 1 nothing is written.
-pub fn write(s: State, r: Register, v: Value) -> State
+fn write(s: State, r: Register, v: Value) -> State
     ensures { λ t. ⌜ t ≡ written s r v ⌝ }
 {
     if r.class == 1 {
