@@ -2,9 +2,8 @@
 use Prim.Native.Nat.{ℕ, zero, suc, _*_, _/_, _≤_, _<_}
 use mathlib.Core.Path.{_≡_, refl, sym, ap, _∙_}
 use mathlib.Core.List.{List, [], _∷_}
-use mathlib.Core.Bool.{Bool}
 use native.Mathlib.Omega.{arith}
-use lib.ListN.{length, take, replicate, length-map, length-replicate}
+use lib.ListN.{length, take, replicate, length-replicate}
 use lib.Seq.{length-take-le}
 use borrow.Author.Tests.{le-leb, lt-leb}
 use Rattle.isa.specs.declared.Instruction.{Instruction}
@@ -17,7 +16,6 @@ use Rattle.format.specs.Write.{records}
 use Rattle.verdict_lines.specs.Lines.{lineBytes}
 use Rattle.verdict_lines.specs.Slots.{decidedIn, linesIn}
 use Rattle.verdict_lines.proofs.Decided.{lines-count}
-use Rattle.verdict_sheet.specs.declared.Progress.{Progress}
 use Rattle.verdict_sheet.specs.declared.Progress.the-variants as progress
 use Rattle.verdict_sheet.specs.Said.{Judged, judgedUpTo}
 use Rattle.verdict_sheet.specs.Said.Judged.{all, refused as nodeRefused}
@@ -39,10 +37,6 @@ module _ (s sites targets slots list : List ℕ) (each-site : length sites ≡ l
   pub all-written : {after : List ℕ} → n ≤ length list / 18 → after ≡ over (records lineBytes (linesIn sites targets slots)) list
       → Gives (listed.Lines n) after (written s (linesIn sites targets slots) list)
   all-written room after-is = rw (count-is, le-leb (18 * n) (length list) (omega arith)) (refl, after-is)
-
-pub targets-length : (code : List Instruction) → length (targetsOf code) ≡ length code
-unfolding targetsOf
-targets-length code = rw length-map
 
 -- what judging came to
 module _ (s : List ℕ) (j : Judged) (slots : List ℕ) where

@@ -1,79 +1,133 @@
--- The cases of the node verdict and of the evaluation, over plain values.
+-- Finding a node by its number, and the cases of the node verdict and of the evaluation, over plain values.
 use Prim.Native.Nat.{ℕ, _≤_, _<_}
-use mathlib.Core.Path.{_≡_, refl}
+use mathlib.Core.Path.{_≡_, refl, sym, ap, _∙_}
+use mathlib.Core.Bool.{Bool, true, false, cond}
 use mathlib.Core.List.{List}
-use borrow.Author.Tests.{lt-ltb, le-ltb}
-use lib.ListN.{length, getD}
+use native.Mathlib.Omega.{arith}
+use borrow.Author.Tests.{lt-ltb, le-ltb, ltb-true}
+use lib.Dec.{ltb}
+use lib.ListN.{getD}
+use lib.Seq.{getD-take}
+use Rattle.sheet_field.specs.declared.Place.{Place}
+use Rattle.sheet_field.specs.declared.Place.the-variants.{At, Refused}
 use Rattle.sheet_node.specs.declared.NodeReading.{NodeReading}
-use Rattle.sheet_field.specs.declared.Place.the-variants.{At}
-use Rattle.sheet_field.specs.Field.{WentOn}
-use Rattle.sheet_node.specs.Node.{Node, nodeAt, nodeOf}
+use Rattle.sheet_node.specs.Node.{nodeAt, nodeOf}
+use Rattle.sheet_node.specs.Contracts.{ReadNode}
 use Rattle.sheet.specs.declared.Sheet.{Sheet}
 use Rattle.sheet.specs.declared.Reading.{Reading}
 use Rattle.sheet.specs.declared.Reading.the-variants as reading
-use Rattle.sheet.proofs.ByNumber.{nth-node-read, nth-node-is}
+use Rattle.sheet.specs.Index.{InFront}
 use Rattle.sheet.specs.Sheet.{sheetAt, readingOf, noNode, nodeNumbered, nodePlace}
+use Rattle.sheet.proofs.ByNumber.{nth-node-read, nth-node-is, node-places-count}
 use Rattle.verdict.specs.declared.Answer.{Answer}
-use Rattle.verdict.specs.declared.Answer.the-variants.{Refused}
+use Rattle.verdict.specs.declared.Answer.the-variants as answer
 use Rattle.verdict.specs.Numbers.{answerNumbers}
 use Rattle.verdict_node.specs.NodeVerdict.{nodeVerdict}
 use Rattle.evaluate_node.specs.declared.Evaluation.{Evaluation}
 use Rattle.evaluate_node.specs.Evaluate.{evaluationOf}
-use Rattle.pomthija.specs.Evaluation.{Evaluated, inNumbers, evaluatedNode, nodeOn, evaluationAnswer}
+use Rattle.pomthija.specs.Evaluation.{inNumbers, evaluatedNode, nodeOn, evaluationAnswer}
 use Rattle.pomthija.specs.Evaluation.Evaluated.{refused}
-use Rattle.pomthija.specs.Node.{nodeAnswer}
+use Rattle.pomthija.specs.Node.{onNode, nodeAnswer, foundOn}
 
--- what is asked of a node that was read, is asked of the node of that number
-pub node-numbered : {A : Type 0} (f : Node → ℕ → A) (s : List ℕ) (number : ℕ) {places : List ℕ} (node : NodeReading) {r : A}
-    → ((d : Node) → nodeOf s node ≡ getD (sheetAt s .nodes .list) number d) → places ≡ sheetAt s .nodes .places
-    → r ≡ f (nodeOf s node) (getD places number 0) → r ≡ f (nodeNumbered s number) (nodePlace s number)
-node-numbered f s number node node-is places-are r-is = rw (← node-is noNode, ← places-are) r-is
-
--- the node of that number stands whole at its place
-pub node-whole : (s : List ℕ) (sheet : Sheet) → readingOf s ≡ reading.Accepted sheet → (number : ℕ) (places : List ℕ) → places ≡ sheetAt s .nodes .places
-    → number < length places → WentOn (nodeAt s (At (getD places number 0)) .next)
-node-whole s sheet read number places places-are below =
-    nth-node-read s sheet read number {places = places} {r = nodeAt s (At (getD places number 0))} places-are below refl .on
-
-pub node-answer : (s : List ℕ) (sheet : Sheet) → readingOf s ≡ reading.Accepted sheet → (number : ℕ) (places : List ℕ) → places ≡ sheetAt s .nodes .places
-    → number < length places → {a : Answer} → a ≡ nodeVerdict (nodeOf s (nodeAt s (At (getD places number 0)))) (getD places number 0)
-    → a ≡ nodeVerdict (nodeNumbered s number) (nodePlace s number)
-node-answer s sheet read number places places-are below =
-    node-numbered nodeVerdict s number (nodeAt s (At (getD places number 0)))
-    (nth-node-is s sheet read number {places = places} {r = nodeAt s (At (getD places number 0))} places-are below refl) places-are
-
-pub node-evaluated : (s : List ℕ) (number : ℕ) (values : List ℕ) {places : List ℕ} (node : NodeReading) {r : Evaluation}
-    → ((d : Node) → nodeOf s node ≡ getD (sheetAt s .nodes .list) number d) → places ≡ sheetAt s .nodes .places
-    → r ≡ evaluationOf (nodeOf s node) (getD places number 0) values → r ≡ evaluatedNode s number values
-unfolding evaluatedNode
-node-evaluated s number values = node-numbered (λ n place. evaluationOf n place values) s number
-
-module _ (s : List ℕ) (number : ℕ) (values : List ℕ) {r : Reading} (read : r ≡ readingOf s) where
-  pub evaluation-refused : {k at : ℕ} → r ≡ reading.Refused k at → refused k at ≡ evaluationAnswer s number values
-  unfolding evaluationAnswer
-  evaluation-refused is = rw (← read, is)
-
-  pub evaluation-missing : {sheet : Sheet} → r ≡ reading.Accepted sheet → sheet .nodes .count ≤ number
-      → refused 13 0 ≡ evaluationAnswer s number values
-  unfolding evaluationAnswer
-  evaluation-missing is out = rw (← read, is, le-ltb _ _ out)
-
-  pub evaluation-is : {sheet : Sheet} {e : Evaluation} → r ≡ reading.Accepted sheet → number < sheet .nodes .count
-      → e ≡ evaluatedNode s number values → inNumbers e ≡ evaluationAnswer s number values
-  unfolding evaluationAnswer
-  evaluation-is is there e-is = rw (← read, is, lt-ltb _ _ there, e-is)
-
+-- the node of that number is looked for
 module _ (s : List ℕ) (number : ℕ) {r : Reading} (read : r ≡ readingOf s) where
-  pub node-refused : {k at : ℕ} → r ≡ reading.Refused k at → answerNumbers (Refused k at) ≡ nodeAnswer s number
-  unfolding nodeAnswer
-  node-refused is = rw (← read, is)
+  pub found-refused : {k at : ℕ} → r ≡ reading.Refused k at → Refused k at ≡ foundOn (readingOf s) s number
+  found-refused is = rw (← read, is)
 
-  pub node-missing : {sheet : Sheet} → r ≡ reading.Accepted sheet → sheet .nodes .count ≤ number
-      → answerNumbers (Refused 13 0) ≡ nodeAnswer s number
-  unfolding nodeAnswer
-  node-missing is out = rw (← read, is, le-ltb _ _ out)
+  pub found-missing : {sheet : Sheet} → r ≡ reading.Accepted sheet → sheet .nodes .count ≤ number
+      → Refused 13 0 ≡ foundOn (readingOf s) s number
+  found-missing is out = rw (← read, is, le-ltb _ _ out)
 
-  pub node-judged : {sheet : Sheet} {a : Answer} → r ≡ reading.Accepted sheet → number < sheet .nodes .count
-      → a ≡ nodeVerdict (nodeNumbered s number) (nodePlace s number) → answerNumbers a ≡ nodeAnswer s number
-  unfolding nodeAnswer
-  node-judged is there a-is = rw (← read, is, lt-ltb _ _ there, a-is)
+  pub found-at : {sheet : Sheet} {nodes : List ℕ} → r ≡ reading.Accepted sheet → number < sheet .nodes .count
+      → InFront (sheet .nodes .count) nodes (sheetAt s .nodes .places) → At (getD nodes number 0) ≡ foundOn (readingOf s) s number
+  found-at {sheet} {nodes} is there front =
+      rw (← read, is, lt-ltb _ _ there, ← front .are) (ap At (sym (getD-take (sheet .nodes .count) nodes number 0 there)))
+
+-- there is a node of that number
+record There (s : List ℕ) (number : ℕ) : Type 0 where
+  pub sheet : Sheet
+  pub read : readingOf s ≡ reading.Accepted sheet
+  pub below : number < sheet .nodes .count
+
+-- a node that was found
+module _ (s : List ℕ) (number : ℕ) {p : Place} (found : p ≡ foundOn (readingOf s) s number) {at : ℕ} (is : p ≡ At at) where
+  place-is : (there : There s number) → at ≡ nodePlace s number
+  place-is there =
+      let here : At at ≡ At (nodePlace s number) = sym is ∙ found ∙ rw (there .read, lt-ltb _ _ (there .below)) in
+      cc here
+
+  there-is : There s number
+  there-is = by (readingOf s) refl (sym is ∙ found)
+    where
+      by : (r : Reading) → readingOf s ≡ r → At at ≡ foundOn r s number → There s number
+      by (reading.Refused k place) read e = let z : _≡_ {A = ℕ} 0 1 = cc in absurd (omega arith)
+      by (reading.Accepted sheet) read e = go (ltb number (sheet .nodes .count)) refl e
+        where
+          go : (b : Bool) → ltb number (sheet .nodes .count) ≡ b → At at ≡ cond b (At (nodePlace s number)) (Refused 13 0) → There s number
+          go true b-is e = record { sheet = sheet; read = read; below = ltb-true _ _ b-is }
+          go false b-is e = let z : _≡_ {A = ℕ} 0 1 = cc in absurd (omega arith)
+
+  -- it stands whole at that place
+  pub found-whole : ReadNode s (nodeAt s (At at))
+  found-whole =
+      let there = there-is in
+      rw (place-is there)
+      (nth-node-read s (there .sheet) (there .read) number {places = sheetAt s .nodes .places} {r = nodeAt s (At (nodePlace s number))} refl
+      (rw (node-places-count s (there .sheet) (there .read)) (there .below)) refl)
+
+  pub found-node : nodeOf s (nodeAt s (At at)) ≡ nodeNumbered s number
+  found-node =
+      let there = there-is in
+      rw (place-is there)
+      (nth-node-is s (there .sheet) (there .read) number {places = sheetAt s .nodes .places} {r = nodeAt s (At (nodePlace s number))} refl
+      (rw (node-places-count s (there .sheet) (there .read)) (there .below)) refl noNode)
+
+-- an answer by what was found
+by-place : {A : Type 0} → (ℕ → A) → (ℕ → ℕ → A) → Place → A
+by-place f refusal (At at) = f at
+by-place f refusal (Refused k at) = refusal k at
+
+module _ (s : List ℕ) (number : ℕ) {p : Place} (found : p ≡ foundOn (readingOf s) s number) where
+  answer-by : nodeAnswer s number ≡ answerNumbers (by-place (nodeVerdict (nodeNumbered s number)) answer.Refused p)
+  unfolding nodeAnswer by-place
+  answer-by = rw found (by (readingOf s))
+    where
+      by : (r : Reading) → answerNumbers (onNode r s number) ≡ answerNumbers (by-place (nodeVerdict (nodeNumbered s number)) answer.Refused (foundOn r s number))
+      by (reading.Refused k at) = refl
+      by (reading.Accepted sheet) = go (ltb number (sheet .nodes .count))
+        where
+          go : (b : Bool) → answerNumbers (cond b (nodeVerdict (nodeNumbered s number) (nodePlace s number)) (answer.Refused 13 0))
+              ≡ answerNumbers (by-place (nodeVerdict (nodeNumbered s number)) answer.Refused (cond b (At (nodePlace s number)) (Refused 13 0)))
+          go true = refl
+          go false = refl
+
+  pub node-refused : {k at : ℕ} → p ≡ Refused k at → answerNumbers (answer.Refused k at) ≡ nodeAnswer s number
+  unfolding by-place
+  node-refused is = sym (rw is at answer-by)
+
+  pub node-judged : {at : ℕ} {a : Answer} → p ≡ At at → a ≡ nodeVerdict (nodeOf s (nodeAt s (At at))) at → answerNumbers a ≡ nodeAnswer s number
+  unfolding by-place
+  node-judged is a-is = rw (a-is, found-node s number found is) (sym (rw is at answer-by))
+
+module _ (s : List ℕ) (number : ℕ) (values : List ℕ) {p : Place} (found : p ≡ foundOn (readingOf s) s number) where
+  evaluated-by : evaluationAnswer s number values ≡ by-place (λ place. inNumbers (evaluationOf (nodeNumbered s number) place values)) refused p
+  unfolding evaluationAnswer evaluatedNode by-place
+  evaluated-by = rw found (by (readingOf s))
+    where
+      by : (r : Reading) → nodeOn r s number values ≡ by-place (λ place. inNumbers (evaluationOf (nodeNumbered s number) place values)) refused (foundOn r s number)
+      by (reading.Refused k at) = refl
+      by (reading.Accepted sheet) = go (ltb number (sheet .nodes .count))
+        where
+          go : (b : Bool) → cond b (inNumbers (evaluationOf (nodeNumbered s number) (nodePlace s number) values)) (refused 13 0)
+              ≡ by-place (λ place. inNumbers (evaluationOf (nodeNumbered s number) place values)) refused (cond b (At (nodePlace s number)) (Refused 13 0))
+          go true = refl
+          go false = refl
+
+  pub evaluation-refused : {k at : ℕ} → p ≡ Refused k at → refused k at ≡ evaluationAnswer s number values
+  unfolding by-place
+  evaluation-refused is = sym (rw is at evaluated-by)
+
+  pub evaluation-is : {at : ℕ} {node : NodeReading} {e : Evaluation} → p ≡ At at → node ≡ nodeAt s (At at)
+      → e ≡ evaluationOf (nodeOf s node) at values → inNumbers e ≡ evaluationAnswer s number values
+  unfolding by-place
+  evaluation-is is node-is e-is = rw (e-is, node-is, found-node s number found is) (sym (rw is at evaluated-by))

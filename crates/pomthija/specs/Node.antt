@@ -6,6 +6,8 @@ use lib.Dec.{ltb}
 use Rattle.verdict.specs.declared.Answer.{Answer}
 use Rattle.verdict.specs.declared.Answer.the-variants.{Refused}
 use Rattle.verdict.specs.Numbers.{Numbers, answerNumbers}
+use Rattle.sheet_field.specs.declared.Place.{Place}
+use Rattle.sheet_field.specs.declared.Place.the-variants as place
 use Rattle.sheet.specs.declared.Reading.{Reading}
 use Rattle.sheet.specs.declared.Reading.the-variants as reading
 use Rattle.sheet.specs.Sheet.{readingOf, nodeNumbered, nodePlace}
@@ -20,3 +22,8 @@ onNode (reading.Accepted sheet) s number =
 -- The answer in numbers (D3, D7).
 unfoldable pub nodeAnswer : List ℕ → ℕ → Numbers
 nodeAnswer s number = answerNumbers (onNode (readingOf s) s number)
+
+-- what the code finds first: where the node of that number starts, or the refusal
+abbrev pub foundOn : Reading → List ℕ → ℕ → Place
+foundOn (reading.Refused k at) s number = place.Refused k at
+foundOn (reading.Accepted sheet) s number = cond (ltb number (sheet .nodes .count)) (place.At (nodePlace s number)) (place.Refused 13 0)

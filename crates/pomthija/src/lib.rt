@@ -2,12 +2,12 @@
 use evaluate_node::Evaluation;
 use sheet::Reading;
 use sheet::Sheet;
+use sheet_field::Place;
 use verdict::Answer;
 use verdict_sheet::Progress;
 ghost use mathlib.Core.Path.{_≡_};
 ghost use Rattle.sheet.specs.declared.Reading.the-variants.{Accepted};
 ghost use Rattle.sheet.specs.Sheet.{sheetAt, readingOf};
-ghost use mathlib.Core.List.{[]};
 ghost use lib.ListN.{length};
 ghost use Rattle.sheet.specs.Index.{addressesOf, targetsOf, branchesOf, InFront};
 ghost use Rattle.verdict.specs.Numbers.{answerNumbers};
@@ -15,8 +15,7 @@ ghost use Rattle.pomthija.specs.Evaluation.{inNumbers, evaluationAnswer,
 ghost use Rattle.pomthija.specs.Block.{blockAnswer};
 ghost use Rattle.verdict_lines.specs.Slots.{linesIn};
 ghost use Rattle.verdict_sheet.specs.Said.{judgedUpTo};
-ghost use Rattle.verdict_sheet.specs.Kept.{BranchIndex, slotsOf};
-ghost use Rattle.pomthija.specs.Node.{nodeAnswer};
+ghost use Rattle.pomthija.specs.Node.{nodeAnswer, foundOn};
 ghost use Rattle.pomthija.specs.Listing.{Gives, written, onJudged, listingOf, ReturnedListing};
 
 // What the listing answers: how many lines there are, or a refusal, its number and its place.
@@ -25,138 +24,75 @@ pub enum Listed {
     Refused(u64, usize),
 }
 
-// The block of that number, of an accepted sheet with its index at the front of two lists.
-fn judge_block(s: &[u8], sheet: Sheet, addresses: &[u64], places: &[u64], number: u64) -> Answer
-    requires { ⌜ readingOf (now s) ≡ Accepted sheet ⌝ }
-    requires { ⌜ InFront (sheet .instructions .count) (now addresses) (addressesOf (sheetAt (now s) .instructions .list)) ⌝ }
-    requires { ⌜ InFront (sheet .instructions .count) (now places) (sheetAt (now s) .instructions .places) ⌝ }
-    ensures { λ r. ⌜ answerNumbers r ≡ blockAnswer (now (s .entry)) number ⌝ }
-{
-    let blocks = sheet.blocks;
-    if blocks.count <= number {
-        return Answer::Refused(13, 0);
-    }
-    let section = sheet.instructions;
-    let n = section.count as usize;
-    Answer::Given(verdict_block::verdict_on(s, sheet, &addresses[..n], &places[..n], number))
-}
-
 // The verdict on the block of that number, from 0.
 pub fn block_verdict(s: &[u8], number: u64) -> Answer
     ensures { λ r. ⌜ answerNumbers r ≡ blockAnswer (now (s .entry)) number ⌝ }
 {
     let mut addresses = [0u64; 2048];
     let mut places = [0u64; 2048];
-    let mut targets = [0u64; 1];
-    let mut branches = [false; 1];
-    let mut nodes = [0u64; 1];
-    let reading = sheet::read_index(
-        s,
-        &mut addresses,
-        &mut places,
-        &mut targets,
-        &mut branches,
-        &mut nodes,
-    );
+    let reading = sheet::index_instructions(s, &mut addresses, &mut places);
     match reading {
         Reading::Refused(k, at) => Answer::Refused(k, at),
-        Reading::Accepted(sheet) => judge_block(s, sheet, &addresses, &places, number),
+        Reading::Accepted(sheet) => {
+            let blocks = sheet.blocks;
+            if blocks.count <= number {
+                return Answer::Refused(13, 0);
+            }
+            let section = sheet.instructions;
+            let n = section.count as usize;
+            Answer::Given(verdict_block::verdict_on(
+                s,
+                sheet,
+                &addresses[..n],
+                &places[..n],
+                number,
+            ))
+        }
     }
 }
 
-// The node of that number, of an accepted sheet with the places of its nodes at the front of a list.
-fn judge_node(s: &[u8], sheet: Sheet, nodes: &[u64], number: u64) -> Answer
-    requires { ⌜ readingOf (now s) ≡ Accepted sheet ⌝ }
-    requires { ⌜ InFront (sheet .nodes .count) (now nodes) (sheetAt (now s) .nodes .places) ⌝ }
-    ensures { λ r. ⌜ answerNumbers r ≡ nodeAnswer (now (s .entry)) number ⌝ }
+// Where the node of that number, from 0, starts; or the refusal.
+fn find_node(s: &[u8], number: u64) -> Place
+    ensures { λ r. ⌜ r ≡ foundOn (readingOf (now (s .entry))) (now (s .entry)) number ⌝ }
 {
-    let section = sheet.nodes;
-    if section.count <= number {
-        return Answer::Refused(13, 0);
+    let mut nodes = [0u64; 1024];
+    let reading = sheet::index_nodes(s, &mut nodes);
+    match reading {
+        Reading::Refused(k, at) => Place::Refused(k, at),
+        Reading::Accepted(sheet) => {
+            let section = sheet.nodes;
+            if section.count <= number {
+                return Place::Refused(13, 0);
+            }
+            let i = number as usize;
+            Place::At(nodes[i] as usize)
+        }
     }
-    let places = &nodes[..section.count as usize];
-    let at = number as usize;
-    let mut table = verdict_node::table_room();
-    let mut lengths = [0usize; 32];
-    let mut words = [0u64; 256];
-    let mut out = [0u64; 256];
-    let mut atoms = [0u64; 64];
-    let mut terms = verdict_node::terms_room();
-    let mut products = verdict_node::products_room();
-    let judged = verdict_node::verdict_at(
-        s,
-        places[at] as usize,
-        &mut table,
-        &mut lengths,
-        &mut words,
-        &mut out,
-        &mut atoms,
-        &mut terms,
-        &mut products,
-    );
-    judged.answer
 }
 
 // The verdict on the node of that number, from 0.
 pub fn node_verdict(s: &[u8], number: u64) -> Answer
     ensures { λ r. ⌜ answerNumbers r ≡ nodeAnswer (now (s .entry)) number ⌝ }
 {
-    let mut addresses = [0u64; 1];
-    let mut places = [0u64; 1];
-    let mut targets = [0u64; 1];
-    let mut branches = [false; 1];
-    let mut nodes = [0u64; 1024];
-    let reading = sheet::read_index(
-        s,
-        &mut addresses,
-        &mut places,
-        &mut targets,
-        &mut branches,
-        &mut nodes,
-    );
-    match reading {
-        Reading::Refused(k, at) => Answer::Refused(k, at),
-        Reading::Accepted(sheet) => judge_node(s, sheet, &nodes, number),
+    let found = find_node(s, number);
+    match found {
+        Place::At(at) => verdict_node::verdict(s, at),
+        Place::Refused(k, at) => Answer::Refused(k, at),
     }
-}
-
-// The node of that number, of an accepted sheet with the places of its nodes at the front of a list, on lent values.
-fn evaluate_number(s: &[u8], sheet: Sheet, nodes: &[u64], number: u64, values: &[u64]) -> Evaluation
-    requires { ⌜ readingOf (now s) ≡ Accepted sheet ⌝ }
-    requires { ⌜ InFront (sheet .nodes .count) (now nodes) (sheetAt (now s) .nodes .places) ⌝ }
-    ensures { λ r. ⌜ inNumbers r ≡ evaluationAnswer (now (s .entry)) number (now (values .entry)) ⌝ }
-{
-    let section = sheet.nodes;
-    if section.count <= number {
-        return Evaluation::Refused(13, 0);
-    }
-    let places = &nodes[..section.count as usize];
-    let at = number as usize;
-    let mut words = [0u64; 256];
-    let node = sheet::nth_node(s, sheet, places, at, &mut words);
-    evaluate_node::evaluate_node(s, node, places[at] as usize, values)
 }
 
 // The node of that number, from 0, run on the lent values of its variables; extra values are unread.
 pub fn evaluation(s: &[u8], number: u64, values: &[u64]) -> Evaluation
     ensures { λ r. ⌜ inNumbers r ≡ evaluationAnswer (now (s .entry)) number (now (values .entry)) ⌝ }
 {
-    let mut addresses = [0u64; 1];
-    let mut places = [0u64; 1];
-    let mut targets = [0u64; 1];
-    let mut branches = [false; 1];
-    let mut nodes = [0u64; 1024];
-    let reading = sheet::read_index(
-        s,
-        &mut addresses,
-        &mut places,
-        &mut targets,
-        &mut branches,
-        &mut nodes,
-    );
-    match reading {
-        Reading::Refused(k, at) => Evaluation::Refused(k, at),
-        Reading::Accepted(sheet) => evaluate_number(s, sheet, &nodes, number, values),
+    let found = find_node(s, number);
+    match found {
+        Place::At(at) => {
+            let mut words = [0u64; 256];
+            let node = sheet_node::take_node(s, found, &mut words);
+            evaluate_node::evaluate_node(s, node, at, values)
+        }
+        Place::Refused(k, at) => Evaluation::Refused(k, at),
     }
 }
 
@@ -197,54 +133,6 @@ fn write_lines(s: &[u8], sites: &[u64], targets: &[u64], slots: &[u8], list: &mu
     Listed::Lines(n)
 }
 
-// The listing of an accepted sheet with its index, on slots that hold nothing.
-fn list_records(
-    s: &[u8],
-    sheet: Sheet,
-    addresses: &[u64],
-    places: &[u64],
-    targets: &[u64],
-    branches: &[bool],
-    nodes: &[u64],
-    slots: &mut [u8],
-    list: &mut [u8],
-) -> Listed
-    requires { ⌜ readingOf (now s) ≡ Accepted sheet ⌝ }
-    requires { ⌜ BranchIndex (now s) (now addresses) (now branches) ⌝ }
-    requires { ⌜ (now places ≡ sheetAt (now s) .instructions .places) × (now nodes ≡ sheetAt (now s) .nodes .places) ⌝ }
-    requires { ⌜ now targets ≡ targetsOf (sheetAt (now s) .instructions .list) ⌝ }
-    requires { ⌜ now slots ≡ slotsOf (sheetAt (now s) .instructions .list) [] ⌝ }
-    ensures { λ r. ⌜ Gives r (now (list .exit)) (onJudged (judgedUpTo (now (s .entry)) (sheet .blocks .count) (sheet .nodes .count)) (now (s .entry)) (now (list .entry))) ⌝ }
-{
-    let mut table = verdict_node::table_room();
-    let mut lengths = [0usize; 32];
-    let mut words = [0u64; 256];
-    let mut out = [0u64; 256];
-    let mut atoms = [0u64; 64];
-    let mut terms = verdict_node::terms_room();
-    let mut products = verdict_node::products_room();
-    let reached = verdict_sheet::judge(
-        s,
-        sheet,
-        addresses,
-        places,
-        branches,
-        nodes,
-        slots,
-        &mut table,
-        &mut lengths,
-        &mut words,
-        &mut out,
-        &mut atoms,
-        &mut terms,
-        &mut products,
-    );
-    match reached {
-        Progress::Through => write_lines(s, addresses, targets, slots, list),
-        Progress::Refused(k, at) => Listed::Refused(k, at),
-    }
-}
-
 // The listing of an accepted sheet with its index at the front of five lists.
 fn list_sheet(
     s: &[u8],
@@ -266,18 +154,22 @@ fn list_sheet(
     let n = instructions.count as usize;
     let node_section = sheet.nodes;
     let m = node_section.count as usize;
-    let mut slots = verdict_lines::empty_slots();
-    list_records(
+    let sites = &addresses[..n];
+    let mut room = verdict_lines::empty_slots();
+    let slots = &mut room[..n];
+    let reached = verdict_sheet::judge(
         s,
         sheet,
-        &addresses[..n],
+        sites,
         &places[..n],
-        &targets[..n],
         &branches[..n],
         &nodes[..m],
-        &mut slots[..n],
-        list,
-    )
+        slots,
+    );
+    match reached {
+        Progress::Through => write_lines(s, sites, &targets[..n], slots, list),
+        Progress::Refused(k, at) => Listed::Refused(k, at),
+    }
 }
 
 // The lines of a sheet, written over the front of a lent list.

@@ -4,7 +4,7 @@ use mathlib.Core.Path.{_≡_, refl, sym, ap, _∙_}
 use mathlib.Core.List.{List, [], _∷_, map}
 use mathlib.Core.Bool.{Bool, true}
 use native.Mathlib.Omega.{arith}
-use lib.ListN.{length, take, getD, length-map, List·getD-map}
+use lib.ListN.{length, getD, length-map, List·getD-map}
 use Rattle.sheet_field.specs.declared.Place.{Place}
 use Rattle.sheet_field.specs.declared.Place.the-variants.{At}
 use Rattle.sheet_field.specs.Field.{startOf, WentOn}
@@ -15,11 +15,10 @@ use Rattle.sheet_node.specs.declared.NodeReading.{NodeReading}
 use Rattle.sheet_node.specs.Node.{Node, nodeAt, nodeOf}
 use Rattle.sheet_node.specs.Contracts.{ReadNode}
 use Rattle.search.specs.Ascending.{Ascending}
-use Rattle.sheet.specs.declared.Block.{Block}
 use Rattle.sheet.specs.declared.BlockReading.{BlockReading}
 use Rattle.sheet.specs.declared.Sheet.{Sheet}
 use Rattle.sheet.specs.declared.Reading.the-variants as reading
-use Rattle.sheet.specs.Sheet.{noBlock, instructionsFrom, blockAt, nodesFrom, sheetAt, readingOf}
+use Rattle.sheet.specs.Sheet.{noBlock, blockAt, nodesFrom, sheetAt, readingOf}
 use Rattle.sheet.specs.Index.{over, addressesOf, targetsOf, branchesOf, Indexed, InFront}
 use Rattle.sheet.proofs.Accepted.{accepted, blockOf, block-at, nodes-back, nodes-next, nodes-nth, node-places-nth, node-places-length}
 use Rattle.sheet.proofs.Fronts.{instructions-length, places-length, over-length, over-front}
@@ -99,33 +98,29 @@ module _ (s : List ℕ) (sheet : Sheet) (read : readingOf s ≡ reading.Accepted
     unfolding from
     nth-node-is d = rw (r-is, here, ← accepted s sheet read .nodes) (sym (nodes-nth s from (sheet .nodes .count) number d counted))
 
-    -- where its record starts
-    pub nth-node-place : getD places number 0 ≡ getD (sheetAt s .nodes .places) number 0
-    nth-node-place = rw places-are
-
   -- the index of the sheet in lists that have room for it
   front : {A : Type 0} (n : ℕ) {list : List A} (before entries : List A) → list ≡ over entries before → length entries ≡ n → n ≤ length before → InFront n list entries
   front n before entries is long fits =
       record { room = rw (is, over-length entries before) fits; are = rw (is, ← long) (over-front entries before (rw long fits)) }
 
   module _ {a₀ a p₀ p t₀ t : List ℕ} {b₀ b : List Bool} {n₀ n : List ℕ} (index : Indexed a₀ a p₀ p t₀ t b₀ b n₀ n (sheetAt s)) where
-    pub front-addresses : 2048 ≤ length a₀ → InFront (sheet .instructions .count) a (addressesOf (sheetAt s .instructions .list))
+    pub front-addresses : sheet .instructions .count ≤ length a₀ → InFront (sheet .instructions .count) a (addressesOf (sheetAt s .instructions .list))
     unfolding addressesOf
     front-addresses room =
-        front _ _ _ (index .instructions .addresses) (rw length-map instructions-count) (omega (arith, accepted s sheet read .few, room))
+        front _ _ _ (index .instructions .addresses) (rw length-map instructions-count) room
 
-    pub front-places : 2048 ≤ length p₀ → InFront (sheet .instructions .count) p (sheetAt s .instructions .places)
-    front-places room = front _ _ _ (index .instructions .places) places-count (omega (arith, accepted s sheet read .few, room))
+    pub front-places : sheet .instructions .count ≤ length p₀ → InFront (sheet .instructions .count) p (sheetAt s .instructions .places)
+    front-places room = front _ _ _ (index .instructions .places) places-count room
 
-    pub front-targets : 2048 ≤ length t₀ → InFront (sheet .instructions .count) t (targetsOf (sheetAt s .instructions .list))
+    pub front-targets : sheet .instructions .count ≤ length t₀ → InFront (sheet .instructions .count) t (targetsOf (sheetAt s .instructions .list))
     unfolding targetsOf
     front-targets room =
-        front _ _ _ (index .instructions .targets) (rw length-map instructions-count) (omega (arith, accepted s sheet read .few, room))
+        front _ _ _ (index .instructions .targets) (rw length-map instructions-count) room
 
-    pub front-branches : 2048 ≤ length b₀ → InFront (sheet .instructions .count) b (branchesOf (sheetAt s .instructions .list))
+    pub front-branches : sheet .instructions .count ≤ length b₀ → InFront (sheet .instructions .count) b (branchesOf (sheetAt s .instructions .list))
     unfolding branchesOf
     front-branches room =
-        front _ _ _ (index .instructions .branches) (rw length-map instructions-count) (omega (arith, accepted s sheet read .few, room))
+        front _ _ _ (index .instructions .branches) (rw length-map instructions-count) room
 
-    pub front-nodes : 1024 ≤ length n₀ → InFront (sheet .nodes .count) n (sheetAt s .nodes .places)
-    front-nodes room = front _ _ _ (index .nodes) node-places-count (omega (arith, accepted s sheet read .fewNodes, room))
+    pub front-nodes : sheet .nodes .count ≤ length n₀ → InFront (sheet .nodes .count) n (sheetAt s .nodes .places)
+    front-nodes room = front _ _ _ (index .nodes) node-places-count room

@@ -3,18 +3,15 @@
 use isa::Instruction;
 use sheet_field::Place;
 use sheet_field::Width;
-use sheet_node::NodeReading;
 ghost use mathlib.Core.Path.{_≡_};
 ghost use mathlib.Core.Bool.{true};
-ghost use Prim.Native.Nat.{ℕ, _≤_, _<_};
+ghost use Prim.Native.Nat.{_≤_, _<_};
 ghost use lib.ListN.{length, getD, set};
 ghost use Rattle.isa.specs.declared.Instruction.{Instruction};
 ghost use Rattle.sheet_field.specs.Field.{WentOn};
-ghost use Rattle.sheet_node.specs.Node.{Node, nodeOf};
-ghost use Rattle.sheet_node.specs.Contracts.{ReadNode};
 ghost use Rattle.sheet.specs.declared.Reading.the-variants.{Accepted};
 ghost use Rattle.sheet.specs.Sheet.{noBlock, instructionsFrom, blockAt, blocksFrom, nodesFrom, ended, answerOf, sheetAt, readingOf};
-ghost use Rattle.sheet.specs.Index.{over, Noted, Indexed};
+ghost use Rattle.sheet.specs.Index.{over, addressesOf, Noted, Indexed, InFront};
 
 // How many records a section has, and the place of the first.
 pub struct Section {
@@ -212,23 +209,49 @@ pub fn read_index(
     answer(end(s, after_nodes), sheet)
 }
 
-// Any bytes: accepted, or the first refusal. No index is kept.
-pub fn read(s: &[u8]) -> Reading
-    ensures { λ r. ⌜ r ≡ readingOf (now (s .entry)) ⌝ }
+// Any bytes: accepted, or the first refusal. Of an accepted sheet the address and the place of each instruction stand at the
+// front of the lent lists, where these are long enough.
+pub fn index_instructions(s: &[u8], addresses: &mut [u64], places: &mut [u64]) -> Reading
+    ensures { λ r. ⌜ (r ≡ readingOf (now (s .entry))) × ((sheet : Sheet) → r ≡ Accepted sheet → (sheet .instructions .count ≤ length (now (addresses .entry)) → InFront (sheet .instructions .count) (now (addresses .exit)) (addressesOf (sheetAt (now (s .entry)) .instructions .list))) × (sheet .instructions .count ≤ length (now (places .entry)) → InFront (sheet .instructions .count) (now (places .exit)) (sheetAt (now (s .entry)) .instructions .places))) ⌝ }
+{
+    let mut targets = [0u64; 1];
+    let mut branches = [false; 1];
+    let mut nodes = [0u64; 1];
+    read_index(
+        s,
+        addresses,
+        places,
+        &mut targets,
+        &mut branches,
+        &mut nodes,
+    )
+}
+
+// Any bytes: accepted, or the first refusal. Of an accepted sheet the place of each node stands at the front of the lent
+// list, where it is long enough.
+pub fn index_nodes(s: &[u8], nodes: &mut [u64]) -> Reading
+    ensures { λ r. ⌜ (r ≡ readingOf (now (s .entry))) × ((sheet : Sheet) → r ≡ Accepted sheet → sheet .nodes .count ≤ length (now (nodes .entry)) → InFront (sheet .nodes .count) (now (nodes .exit)) (sheetAt (now (s .entry)) .nodes .places)) ⌝ }
 {
     let mut addresses = [0u64; 1];
     let mut places = [0u64; 1];
     let mut targets = [0u64; 1];
     let mut branches = [false; 1];
-    let mut nodes = [0u64; 1];
     read_index(
         s,
         &mut addresses,
         &mut places,
         &mut targets,
         &mut branches,
-        &mut nodes,
+        nodes,
     )
+}
+
+// Any bytes: accepted, or the first refusal. No index is kept.
+pub fn read(s: &[u8]) -> Reading
+    ensures { λ r. ⌜ r ≡ readingOf (now (s .entry)) ⌝ }
+{
+    let mut nodes = [0u64; 1];
+    index_nodes(s, &mut nodes)
 }
 
 // The block of that number, of an accepted sheet.
@@ -255,23 +278,4 @@ pub fn nth_instruction(s: &[u8], sheet: Sheet, places: &[u64], number: usize) ->
     let at = places[number];
     let r = sheet_instruction::take_instruction(s, Place::At(at as usize), true, 0);
     r.instruction
-}
-
-// The node of that number, of an accepted sheet whose nodes stand at these places. `words` is lent for the words of its
-// expressions.
-pub fn nth_node(
-    s: &[u8],
-    sheet: Sheet,
-    places: &[u64],
-    number: usize,
-    words: &mut [u64],
-) -> NodeReading
-    requires { ⌜ readingOf (now s) ≡ Accepted sheet ⌝ }
-    requires { ⌜ now places ≡ sheetAt (now s) .nodes .places ⌝ }
-    requires { ⌜ number < length (now places) ⌝ }
-    requires { ⌜ 256 ≤ length (now words) ⌝ }
-    ensures { λ r. ⌜ ReadNode (now (s .entry)) r × ((d : Node) → nodeOf (now (s .entry)) r ≡ getD (sheetAt (now (s .entry)) .nodes .list) number d) ⌝ }
-{
-    let at = places[number];
-    sheet_node::take_node(s, Place::At(at as usize), words)
 }

@@ -34,7 +34,7 @@ set-same [] i = refl
 set-same (x ∷ l) zero = refl
 set-same (x ∷ l) (suc i) = ap (λ (t : List ℕ). x ∷ t) (set-same l i)
 
-first-stays : (x later : ℕ) → (x ≡ 0 → ⊥) → keptSlot x later ≡ x
+pub first-stays : (x later : ℕ) → (x ≡ 0 → ⊥) → keptSlot x later ≡ x
 first-stays zero later some = absurd (some refl)
 first-stays (suc x) later some = refl
 

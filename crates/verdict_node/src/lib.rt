@@ -7,9 +7,9 @@ ghost use mathlib.Core.Path.{_≡_};
 ghost use lib.ListN.{length};
 ghost use Rattle.sheet_field.specs.declared.Place.the-variants.{At};
 ghost use Rattle.sheet_field.specs.Field.{WentOn};
-ghost use Rattle.sheet_node.specs.Node.{nodeAt};
+ghost use Rattle.sheet_node.specs.Node.{nodeAt, nodeOf};
 ghost use Rattle.exact.specs.Answers.{Buffers};
-ghost use Rattle.verdict_node.specs.NodeVerdict.{onSubstituted};
+ghost use Rattle.verdict_node.specs.NodeVerdict.{onSubstituted, nodeVerdict};
 ghost use Rattle.verdict_node.specs.Contracts.{LentNode, onDecision, WholeWords, substitutedOf, JudgedIs};
 
 // The answer for a node; where it is a verdict, also how many addresses the node has, and the place of the first.
@@ -104,4 +104,30 @@ pub fn verdict_at(
         addresses: a.value,
         sites,
     }
+}
+
+// The answer alone, with room of its own.
+pub fn verdict(s: &[u8], at: usize) -> Answer
+    requires { ⌜ WentOn (nodeAt (now s) (At at) .next) ⌝ }
+    ensures { λ r. ⌜ r ≡ nodeVerdict (nodeOf (now (s .entry)) (nodeAt (now (s .entry)) (At at))) at ⌝ }
+{
+    let mut table = table_room();
+    let mut lengths = [0usize; 32];
+    let mut words = [0u64; 256];
+    let mut out = [0u64; 256];
+    let mut atoms = [0u64; 64];
+    let mut terms = terms_room();
+    let mut products = products_room();
+    let judged = verdict_at(
+        s,
+        at,
+        &mut table,
+        &mut lengths,
+        &mut words,
+        &mut out,
+        &mut atoms,
+        &mut terms,
+        &mut products,
+    );
+    judged.answer
 }

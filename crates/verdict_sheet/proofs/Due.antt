@@ -1,41 +1,31 @@
 -- The lines that the slots hold are those due; slots that hold nothing.
-use Prim.Native.Nat.{ℕ, suc}
+use Prim.Native.Nat.{ℕ, _+_, _*_, _/_, _%_}
 use mathlib.Core.Path.{_≡_, refl, ap, ap₂}
 use mathlib.Core.List.{List, [], _∷_, _++_}
+use native.Mathlib.Omega.{arith}
 use lib.ListN.{length, replicate}
 use Rattle.isa.specs.declared.Instruction.{Instruction}
-use Rattle.verdict.specs.declared.Reason.{Reason}
-use Rattle.verdict.specs.declared.Reason.the-variants.{Flags, EqualSides, Truth, UnsignedZero, ExactSides, Parity, Halves}
 use Rattle.verdict.specs.declared.Verdict.{Verdict}
 use Rattle.verdict.specs.declared.Verdict.the-variants.{Always, Never, Undecided, NoBranch}
+use Rattle.verdict.specs.Numbers.{reasonNumber}
 use Rattle.sheet.specs.Index.{addressesOf, targetsOf}
 use Rattle.verdict_lines.specs.Lines.{Line, lineOf}
 use Rattle.verdict_lines.specs.Slots.{slotOf, slotLine, linesIn}
+use Rattle.verdict_lines.proofs.Decided.{slot-line}
 use Rattle.verdict_sheet.specs.Said.{Said, firstDecided, linesOf}
 use Rattle.verdict_sheet.specs.Kept.{slotsOf}
-
-line-always : (i : Instruction) (r : Reason) → slotLine (i .address) (i .target) (slotOf (Always r)) ≡ lineOf i (Always r)
-line-always i Flags = refl
-line-always i EqualSides = refl
-line-always i Truth = refl
-line-always i UnsignedZero = refl
-line-always i ExactSides = refl
-line-always i Parity = refl
-line-always i Halves = refl
-
-line-never : (i : Instruction) (r : Reason) → slotLine (i .address) (i .target) (slotOf (Never r)) ≡ lineOf i (Never r)
-line-never i Flags = refl
-line-never i EqualSides = refl
-line-never i Truth = refl
-line-never i UnsignedZero = refl
-line-never i ExactSides = refl
-line-never i Parity = refl
-line-never i Halves = refl
+use Rattle.verdict_sheet.proofs.Codes.{always-some, never-some}
 
 -- a slot holds its verdict's line
 slot-due : (i : Instruction) (v : Verdict) → slotLine (i .address) (i .target) (slotOf v) ≡ lineOf i v
-slot-due i (Always r) = line-always i r
-slot-due i (Never r) = line-never i r
+slot-due i (Always r) =
+    let value : (2 * reasonNumber r + 1) % 2 ≡ 1 = omega arith in
+    let reason : (2 * reasonNumber r + 1) / 2 ≡ reasonNumber r = omega arith in
+    rw (slot-line (i .address) (i .target) (slotOf (Always r)) (always-some r), value, reason)
+slot-due i (Never r) =
+    let value : (2 * reasonNumber r) % 2 ≡ 0 = omega arith in
+    let reason : (2 * reasonNumber r) / 2 ≡ reasonNumber r = omega arith in
+    rw (slot-line (i .address) (i .target) (slotOf (Never r)) (never-some r), value, reason)
 slot-due i Undecided = refl
 slot-due i NoBranch = refl
 

@@ -1,16 +1,14 @@
 -- The slots after one verdict more.
-use Prim.Native.Nat.{ℕ, zero, suc, _+_, _≤_, _<_}
-use mathlib.Core.Path.{_≡_, refl, sym, ap, ap₂, _∙_}
-use mathlib.Core.List.{List, [], _∷_, _++_, map, append-nil}
+use Prim.Native.Nat.{ℕ, zero, suc, _+_, _<_}
+use mathlib.Core.Path.{_≡_, refl, sym, ap₂, _∙_}
+use mathlib.Core.List.{List, [], _∷_, _++_, append-nil}
 use mathlib.Core.Bool.{Bool, true, false, cond}
-use mathlib.Core.Option.{Option, none, some}
+use mathlib.Core.Option.{Option}
 use native.Mathlib.Omega.{arith}
 use lib.Dec.{eqb}
-use lib.ListN.{length, getD, set, length-map}
+use lib.ListN.{length, getD, length-map}
 use borrow.Author.Tests.{eq-eqb, ne-eqb}
 use Rattle.isa.specs.declared.Instruction.{Instruction}
-use Rattle.verdict.specs.declared.Reason.{Reason}
-use Rattle.verdict.specs.declared.Reason.the-variants.{Flags, EqualSides, Truth, UnsignedZero, ExactSides, Parity, Halves}
 use Rattle.verdict.specs.declared.Verdict.{Verdict}
 use Rattle.verdict.specs.declared.Verdict.the-variants.{Always, Never, Undecided, NoBranch}
 use Rattle.search.specs.declared.Found.{Found}
@@ -19,31 +17,14 @@ use Rattle.search.specs.Ascending.{Ascending}
 use Rattle.search.proofs.Laws.{ascending-below, ascending-rest}
 use Rattle.sheet.specs.Index.{addressesOf}
 use Rattle.verdict_lines.specs.Slots.{slotOf, keptSlot, kept}
+use Rattle.verdict_lines.proofs.Decided.{first-stays}
 use Rattle.verdict_sheet.specs.Said.{Said, saying, orLater, firstDecided}
 use Rattle.verdict_sheet.specs.Kept.{SiteIs, keptAt, HasSlot, slotsOf}
-
--- a slot says as much as a verdict
-always-kept : (r : Reason) (later : ℕ) → keptSlot (slotOf (Always r)) later ≡ slotOf (Always r)
-always-kept Flags later = refl
-always-kept EqualSides later = refl
-always-kept Truth later = refl
-always-kept UnsignedZero later = refl
-always-kept ExactSides later = refl
-always-kept Parity later = refl
-always-kept Halves later = refl
-
-never-kept : (r : Reason) (later : ℕ) → keptSlot (slotOf (Never r)) later ≡ slotOf (Never r)
-never-kept Flags later = refl
-never-kept EqualSides later = refl
-never-kept Truth later = refl
-never-kept UnsignedZero later = refl
-never-kept ExactSides later = refl
-never-kept Parity later = refl
-never-kept Halves later = refl
+use Rattle.verdict_sheet.proofs.Codes.{always-some, never-some}
 
 kept-verdict : (v w : Verdict) → slotOf (orLater v w) ≡ keptSlot (slotOf v) (slotOf w)
-kept-verdict (Always r) w = sym (always-kept r (slotOf w))
-kept-verdict (Never r) w = sym (never-kept r (slotOf w))
+kept-verdict (Always r) w = sym (first-stays _ (slotOf w) (always-some r))
+kept-verdict (Never r) w = sym (first-stays _ (slotOf w) (never-some r))
 kept-verdict Undecided w = refl
 kept-verdict NoBranch w = refl
 

@@ -1,9 +1,8 @@
 -- Records in order: blocks, then nodes, up to the first that is refused.
 use Prim.Native.Nat.{ℕ, zero, suc, _+_, _-_, _≤_, _<_}
-use mathlib.Core.Path.{_≡_, refl, sym, ap, _∙_}
+use mathlib.Core.Path.{_≡_, refl, sym}
 use mathlib.Core.List.{List, [], _++_}
 use mathlib.Core.Bool.{Bool}
-use mathlib.Core.Option.{Option}
 use native.Mathlib.Omega.{arith}
 use native.Mathlib.Numerals.{add-one}
 use lib.ListN.{length, getD}
@@ -17,11 +16,9 @@ use Rattle.verdict.specs.declared.Verdict.{Verdict}
 use Rattle.verdict.specs.declared.Answer.{Answer}
 use Rattle.verdict.specs.declared.Answer.the-variants as answer
 use Rattle.search.specs.declared.Found.{Found}
-use Rattle.search.specs.Ascending.{Ascending}
 use Rattle.sheet_node.specs.declared.NodeReading.{NodeReading}
 use Rattle.sheet_node.specs.Node.{nodeAt, nodeOf}
 use Rattle.sheet.specs.Sheet.{sheetAt, readingOf, noNode, nodeNumbered, nodePlace}
-use Rattle.sheet.specs.Index.{addressesOf}
 use Rattle.verdict_block.specs.Verdict.{verdictOn}
 use Rattle.verdict_node.specs.NodeVerdict.{nodeVerdict}
 use Rattle.verdict_node.specs.Contracts.{LentNode}
@@ -53,28 +50,34 @@ module _ (s : List ℕ) (sheet : Sheet) (read : readingOf s ≡ reading.Accepted
   pub stands-whole : WentOn (nodeAt s (At (getD nodes number 0)) .next)
   stands-whole = nth-node-read s sheet read number {places = nodes} {r = nodeAt s (At (getD nodes number 0))} places there refl .on
 
-  pub stands : nodeOf s (nodeAt s (At (getD nodes number 0))) ≡ nodeNumbered s number
+  stands : nodeOf s (nodeAt s (At (getD nodes number 0))) ≡ nodeNumbered s number
   stands = nth-node-is s sheet read number {places = nodes} {r = nodeAt s (At (getD nodes number 0))} places there refl noNode
 
--- one node
-module _ (s : List ℕ) {a : List ℕ} {b : List Bool} (index : BranchIndex s a b) (number : ℕ) (node : NodeReading) (node-is : nodeOf s node ≡ nodeNumbered s number)
-    {place : ℕ} (place-is : place ≡ nodePlace s number) {given : Answer} (given-is : given ≡ nodeVerdict (nodeOf s node) place) (said : List Said) where
-  answer-is : nodeVerdict (nodeNumbered s number) (nodePlace s number) ≡ given
-  answer-is = rw (← node-is, ← place-is) (sym given-is)
+  -- its answer is that for the node of the number
+  pub node-numbered : (r : Progress) (after : List ℕ) (said : List Said)
+      → Reached (sheetAt s .instructions .list) r after
+      (nodeToo (all said) (lastBranch (sheetAt s .instructions .list) (nodeOf s (nodeAt s (At (getD nodes number 0))) .addresses))
+      (nodeVerdict (nodeOf s (nodeAt s (At (getD nodes number 0)))) (getD nodes number 0)))
+      → Reached (sheetAt s .instructions .list) r after
+      (nodeToo (all said) (nodeSite s number) (nodeVerdict (nodeNumbered s number) (nodePlace s number)))
+  node-numbered r after said is = rw (← stands, ← places) is
 
+-- the answer for one node
+module _ (s : List ℕ) {a : List ℕ} {b : List Bool} (index : BranchIndex s a b) (node : NodeReading) (place : ℕ) {given : Answer}
+    (given-is : given ≡ nodeVerdict (nodeOf s node) place) (said : List Said) where
   pub node-through : (at : Found) {v : Verdict} {slots after : List ℕ}
       → SiteIs (sheetAt s .instructions .list) at (lastBranch (sheetAt s .instructions .list) (nodeOf s node .addresses))
       → given ≡ answer.Given v → after ≡ keptAt slots at v → slots ≡ slotsOf (sheetAt s .instructions .list) said
       → Reached (sheetAt s .instructions .list) progress.Through after
-      (nodeToo (all said) (nodeSite s number) (nodeVerdict (nodeNumbered s number) (nodePlace s number)))
+      (nodeToo (all said) (lastBranch (sheetAt s .instructions .list) (nodeOf s node .addresses)) (nodeVerdict (nodeOf s node) place))
   node-through at {v} there is after-is before =
-      rw (answer-is, is)
-      (keep-saying (sheetAt s .instructions .list) (rw (← index .addresses) (index .rising)) v said at (nodeSite s number) (rw node-is at there) after-is before)
+      rw (← given-is, is)
+      (keep-saying (sheetAt s .instructions .list) (rw (← index .addresses) (index .rising)) v said at _ there after-is before)
 
   pub node-refused : {k at : ℕ} (slots : List ℕ) → given ≡ answer.Refused k at
       → Reached (sheetAt s .instructions .list) (progress.Refused k at) slots
-      (nodeToo (all said) (nodeSite s number) (nodeVerdict (nodeNumbered s number) (nodePlace s number)))
-  node-refused slots is = rw (answer-is, is) (refl, refl)
+      (nodeToo (all said) (lastBranch (sheetAt s .instructions .list) (nodeOf s node .addresses)) (nodeVerdict (nodeOf s node) place))
+  node-refused slots is = rw (← given-is, is) (refl, refl)
 
 -- the loop over nodes
 module _ (s : List ℕ) (blocks : ℕ) where
@@ -137,27 +140,21 @@ module _ (s : List ℕ) (blocks : ℕ) where
       → Reached (sheetAt s .instructions .list) progress.Through slots (judgedUpTo s blocks n)
   nodes-whole k n slots all-of is = rw (← all-of) is
 
--- lent room has the length that it came with
-pub record Kept (s₀ s t₀ t l₀ l w₀ w o₀ o a₀ a m₀ m p₀ p : List ℕ) : Type 0 where
-  pub slots : length s ≡ length s₀
-  pub table : length t ≡ length t₀
-  pub lengths : length l ≡ length l₀
-  pub words : length w ≡ length w₀
-  pub out : length o ≡ length o₀
-  pub atoms : length a ≡ length a₀
-  pub terms : length m ≡ length m₀
-  pub products : length p ≡ length p₀
+-- the lengths of the room that is made for nodes' verdicts
+pub record Rooms (t l w o a m p : List ℕ) : Type 0 where
+  pub table : 8192 ≡ length t
+  pub lengths : 32 ≡ length l
+  pub words : 256 ≡ length w
+  pub out : 256 ≡ length o
+  pub atoms : 64 ≡ length a
+  pub terms : 16896 ≡ length m
+  pub products : 4096 ≡ length p
 
-pub kept-room : {s₀ s t₀ t l₀ l w₀ w o₀ o a₀ a m₀ m p₀ p : List ℕ} → Kept s₀ s t₀ t l₀ l w₀ w o₀ o a₀ a m₀ m p₀ p
-    → LentNode t₀ l₀ w₀ o₀ a₀ m₀ p₀ → LentNode t l w o a m p
-kept-room k n = record {
-  tableRoom = k .table ∙ n .tableRoom;
-  lengthsRoom = k .lengths ∙ n .lengthsRoom;
-  wordsRoom = k .words ∙ n .wordsRoom;
-  outRoom = k .out ∙ n .outRoom;
-  buffers = record {
-    table = rw (k .atoms) (n .buffers .table);
-    space = rw (k .terms) (n .buffers .space);
-    products = rw (k .products) (n .buffers .products);
-  };
+pub rooms-lent : {t l w o a m p : List ℕ} → Rooms t l w o a m p → LentNode t l w o a m p
+rooms-lent r = record {
+  tableRoom = omega (arith, r .table);
+  lengthsRoom = sym (r .lengths);
+  wordsRoom = sym (r .words);
+  outRoom = sym (r .out);
+  buffers = record { table = omega (arith, r .atoms); space = omega (arith, r .terms); products = omega (arith, r .products) };
 }

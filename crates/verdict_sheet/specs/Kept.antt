@@ -9,7 +9,7 @@ use Rattle.isa.specs.declared.Instruction.{Instruction}
 use Rattle.verdict.specs.declared.Verdict.{Verdict}
 use Rattle.search.specs.declared.Found.{Found}
 use Rattle.search.specs.declared.Found.the-variants.{At, Nothing}
-use Rattle.search.specs.Ascending.{Ascending, placeOf}
+use Rattle.search.specs.Ascending.{Ascending}
 use Rattle.sheet.specs.Sheet.{sheetAt}
 use Rattle.sheet.specs.Index.{addressesOf, branchesOf}
 use Rattle.verdict_lines.specs.Slots.{slotOf, kept}
@@ -54,9 +54,3 @@ Reached code progress.Through slots (all said) = slots ≡ slotsOf code said
 Reached code progress.Through slots (refused number place) = ⊥
 Reached code (progress.Refused number place) slots (all said) = ⊥
 Reached code (progress.Refused number place) slots (refused n p) = (number ≡ n) × (place ≡ p)
-
--- there is a node of that number, with its place in a list, and a slot for each address
-pub record JudgingNode (s nodes : List ℕ) (number : ℕ) (a slots : List ℕ) : Type 0 where
-  pub places : nodes ≡ sheetAt s .nodes .places
-  pub there : number < length nodes
-  pub eachSlot : length slots ≡ length a

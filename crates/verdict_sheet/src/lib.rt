@@ -6,21 +6,23 @@ use sheet_field::Place;
 use sheet_field::Width;
 use verdict::Answer;
 use verdict::Verdict;
+use verdict_node::JudgedNode;
 ghost use mathlib.Core.Path.{_≡_};
 ghost use mathlib.Core.List.{List, [], _++_};
-ghost use Prim.Native.Nat.{_<_};
+ghost use Prim.Native.Nat.{ℕ, _<_};
 ghost use lib.ListN.{length};
 ghost use Rattle.search.specs.Ascending.{Ascending, placeOf};
 ghost use Rattle.sheet.specs.declared.Reading.the-variants.{Accepted};
-ghost use Rattle.sheet.specs.Sheet.{sheetAt, readingOf, nodeNumbered, nodePlace};
-ghost use Rattle.sheet_node.specs.Node.{addressesFrom};
+ghost use Rattle.sheet.specs.Sheet.{sheetAt, readingOf};
+ghost use Rattle.sheet_node.specs.declared.NodeReading.{NodeReading};
+ghost use Rattle.sheet_node.specs.Node.{nodeOf, addressesFrom};
 ghost use Rattle.verdict_block.specs.Verdict.{verdictOn};
 ghost use Rattle.verdict_node.specs.NodeVerdict.{nodeVerdict};
-ghost use Rattle.verdict_node.specs.Contracts.{LentNode};
-ghost use Rattle.verdict_sheet.specs.Sites.{lastBranch, nodeSite, blockSite};
+ghost use Rattle.verdict_node.specs.Contracts.{JudgedIs};
+ghost use Rattle.verdict_sheet.specs.Sites.{lastBranch, blockSite};
 ghost use Rattle.verdict_sheet.specs.Said.{Said, saying, blocksSay, nodeToo, judgedUpTo};
 ghost use Rattle.verdict_sheet.specs.Said.Judged.{all};
-ghost use Rattle.verdict_sheet.specs.Kept.{BranchIndex, ifBranch, SiteIs, keptAt, HasSlot, slotsOf, Reached, JudgingNode};
+ghost use Rattle.verdict_sheet.specs.Kept.{BranchIndex, ifBranch, SiteIs, keptAt, HasSlot, slotsOf, Reached};
 
 // How far judging came: through all records, or to a node that is refused, by a number and at a place.
 pub enum Progress {
@@ -140,40 +142,18 @@ fn judge_blocks(
     }
 }
 
-// The node of that number.
-fn judge_node(
+// Keeps a node's verdict at its jump, if it has one; or the refusal.
+fn keep_node(
     s: &[u8],
-    sheet: Sheet,
+    judged: JudgedNode,
     addresses: &[u64],
     branches: &[bool],
-    nodes: &[u64],
-    number: usize,
     slots: &mut [u8],
-    table: &mut [u64],
-    lengths: &mut [usize],
-    words: &mut [u64],
-    out: &mut [u64],
-    atoms: &mut [u64],
-    terms: &mut [u64],
-    products: &mut [u64],
 ) -> Progress
-    requires { ⌜ readingOf (now s) ≡ Accepted sheet ⌝ }
     requires { ⌜ BranchIndex (now s) (now addresses) (now branches) ⌝ }
-    requires { ⌜ JudgingNode (now s) (now nodes) number (now addresses) (now slots) ⌝ }
-    requires { ⌜ LentNode (now table) (now lengths) (now words) (now out) (now atoms) (now terms) (now products) ⌝ }
-    ensures { λ r. ⌜ ((said : List Said) → now (slots .entry) ≡ slotsOf (sheetAt (now (s .entry)) .instructions .list) said → Reached (sheetAt (now (s .entry)) .instructions .list) r (now (slots .exit)) (nodeToo (all said) (nodeSite (now (s .entry)) number) (nodeVerdict (nodeNumbered (now (s .entry)) number) (nodePlace (now (s .entry)) number)))) ⌝ }
+    requires { ⌜ length (now slots) ≡ length (now addresses) ⌝ }
+    ensures { λ r. ⌜ ((node : NodeReading) (place : ℕ) (said : List Said) → JudgedIs judged (now (s .entry)) node place → now (slots .entry) ≡ slotsOf (sheetAt (now (s .entry)) .instructions .list) said → Reached (sheetAt (now (s .entry)) .instructions .list) r (now (slots .exit)) (nodeToo (all said) (lastBranch (sheetAt (now (s .entry)) .instructions .list) (nodeOf (now (s .entry)) node .addresses)) (nodeVerdict (nodeOf (now (s .entry)) node) place))) ⌝ }
 {
-    let judged = verdict_node::verdict_at(
-        s,
-        nodes[number] as usize,
-        table,
-        lengths,
-        words,
-        out,
-        atoms,
-        terms,
-        products,
-    );
     let answer = judged.answer;
     let sites = judged.sites;
     match answer {
@@ -189,7 +169,7 @@ fn judge_node(
     }
 }
 
-// All nodes, in order, up to the first that is refused.
+// All nodes, in order, up to the first that is refused. The room for their verdicts is made once.
 fn judge_nodes(
     s: &[u8],
     sheet: Sheet,
@@ -197,39 +177,34 @@ fn judge_nodes(
     branches: &[bool],
     nodes: &[u64],
     slots: &mut [u8],
-    table: &mut [u64],
-    lengths: &mut [usize],
-    words: &mut [u64],
-    out: &mut [u64],
-    atoms: &mut [u64],
-    terms: &mut [u64],
-    products: &mut [u64],
 ) -> Progress
     requires { ⌜ readingOf (now s) ≡ Accepted sheet ⌝ }
     requires { ⌜ BranchIndex (now s) (now addresses) (now branches) ⌝ }
     requires { ⌜ now nodes ≡ sheetAt (now s) .nodes .places ⌝ }
     requires { ⌜ now slots ≡ slotsOf (sheetAt (now s) .instructions .list) (blocksSay (now s) (sheet .blocks .count)) ⌝ }
-    requires { ⌜ LentNode (now table) (now lengths) (now words) (now out) (now atoms) (now terms) (now products) ⌝ }
     ensures { λ r. ⌜ Reached (sheetAt (now (s .entry)) .instructions .list) r (now (slots .exit)) (judgedUpTo (now (s .entry)) (sheet .blocks .count) (sheet .nodes .count)) ⌝ }
 {
+    let mut table = verdict_node::table_room();
+    let mut lengths = [0usize; 32];
+    let mut words = [0u64; 256];
+    let mut out = [0u64; 256];
+    let mut atoms = [0u64; 64];
+    let mut terms = verdict_node::terms_room();
+    let mut products = verdict_node::products_room();
     let mut i = 0;
     while i < nodes.len() {
-        let r = judge_node(
+        let judged = verdict_node::verdict_at(
             s,
-            sheet,
-            addresses,
-            branches,
-            nodes,
-            i,
-            slots,
-            table,
-            lengths,
-            words,
-            out,
-            atoms,
-            terms,
-            products,
+            nodes[i] as usize,
+            &mut table,
+            &mut lengths,
+            &mut words,
+            &mut out,
+            &mut atoms,
+            &mut terms,
+            &mut products,
         );
+        let r = keep_node(s, judged, addresses, branches, slots);
         if let Progress::Refused(k, at) = r {
             return Progress::Refused(k, at);
         }
@@ -238,7 +213,7 @@ fn judge_nodes(
     Progress::Through
 }
 
-// All records of an accepted sheet with its index, on slots that hold nothing. What is lent besides is written over.
+// All records of an accepted sheet with its index, on slots that hold nothing.
 pub fn judge(
     s: &[u8],
     sheet: Sheet,
@@ -247,35 +222,16 @@ pub fn judge(
     branches: &[bool],
     nodes: &[u64],
     slots: &mut [u8],
-    table: &mut [u64],
-    lengths: &mut [usize],
-    words: &mut [u64],
-    out: &mut [u64],
-    atoms: &mut [u64],
-    terms: &mut [u64],
-    products: &mut [u64],
 ) -> Progress
     requires { ⌜ readingOf (now s) ≡ Accepted sheet ⌝ }
     requires { ⌜ BranchIndex (now s) (now addresses) (now branches) ⌝ }
     requires { ⌜ (now places ≡ sheetAt (now s) .instructions .places) × (now nodes ≡ sheetAt (now s) .nodes .places) ⌝ }
     requires { ⌜ now slots ≡ slotsOf (sheetAt (now s) .instructions .list) [] ⌝ }
-    requires { ⌜ LentNode (now table) (now lengths) (now words) (now out) (now atoms) (now terms) (now products) ⌝ }
     ensures { λ r. ⌜ Reached (sheetAt (now (s .entry)) .instructions .list) r (now (slots .exit)) (judgedUpTo (now (s .entry)) (sheet .blocks .count) (sheet .nodes .count)) ⌝ }
 {
     judge_blocks(s, sheet, addresses, places, branches, slots);
-    judge_nodes(
-        s,
-        sheet,
-        addresses,
-        branches,
-        nodes,
-        slots,
-        table,
-        lengths,
-        words,
-        out,
-        atoms,
-        terms,
-        products,
-    )
+    if nodes.len() == 0 {
+        return Progress::Through;
+    }
+    judge_nodes(s, sheet, addresses, branches, nodes, slots)
 }

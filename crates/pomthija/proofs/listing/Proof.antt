@@ -1,3 +1,5 @@
+use native.Mathlib.Nat.{le-trans}
+use Rattle.sheet.proofs.Accepted.{accepted}
 use Rattle.sheet.proofs.ByNumber.{front-addresses, front-places, front-targets, front-branches, front-nodes}
 use mathlib.Core.Path.{sym, _∙_}
 use Rattle.pomthija.proofs.Listings.{listing-refused, listing-accepted}
@@ -45,7 +47,7 @@ slice-aggregate-list-sheet-5 : tie.Need-slice-aggregate-list-sheet-5
 slice-aggregate-list-sheet-5 c = search needs
 
 list-sheet-requires : tie.Need-list-sheet-requires
-list-sheet-requires c κs = ((sym (c .before .before .before .before .before .before .before .before .before .before .before .before .before .before .read-index .ensures .0) ∙ c .before .before .before .before .before .before .before .reading2 .given .1), ((front-addresses _ _ (sym (c .before .before .before .before .before .before .before .before .before .before .before .before .before .before .read-index .ensures .0) ∙ c .before .before .before .before .before .before .before .reading2 .given .1) (c .before .before .before .before .before .before .before .before .before .before .before .before .before .before .read-index .ensures .1 _ (c .before .before .before .before .before .before .before .reading2 .given .1)) (search needs), front-places _ _ (sym (c .before .before .before .before .before .before .before .before .before .before .before .before .before .before .read-index .ensures .0) ∙ c .before .before .before .before .before .before .before .reading2 .given .1) (c .before .before .before .before .before .before .before .before .before .before .before .before .before .before .read-index .ensures .1 _ (c .before .before .before .before .before .before .before .reading2 .given .1)) (search needs)), ((front-targets _ _ (sym (c .before .before .before .before .before .before .before .before .before .before .before .before .before .before .read-index .ensures .0) ∙ c .before .before .before .before .before .before .before .reading2 .given .1) (c .before .before .before .before .before .before .before .before .before .before .before .before .before .before .read-index .ensures .1 _ (c .before .before .before .before .before .before .before .reading2 .given .1)) (search needs), front-branches _ _ (sym (c .before .before .before .before .before .before .before .before .before .before .before .before .before .before .read-index .ensures .0) ∙ c .before .before .before .before .before .before .before .reading2 .given .1) (c .before .before .before .before .before .before .before .before .before .before .before .before .before .before .read-index .ensures .1 _ (c .before .before .before .before .before .before .before .reading2 .given .1)) (search needs)), front-nodes _ _ (sym (c .before .before .before .before .before .before .before .before .before .before .before .before .before .before .read-index .ensures .0) ∙ c .before .before .before .before .before .before .before .reading2 .given .1) (c .before .before .before .before .before .before .before .before .before .before .before .before .before .before .read-index .ensures .1 _ (c .before .before .before .before .before .before .before .reading2 .given .1)) (search needs))))
+list-sheet-requires c κs = let read = sym (c .before .before .before .before .before .before .before .before .before .before .before .before .before .before .read-index .ensures .0) ∙ c .before .before .before .before .before .before .before .reading2 .given .1 in let index = c .before .before .before .before .before .before .before .before .before .before .before .before .before .before .read-index .ensures .1 _ (c .before .before .before .before .before .before .before .reading2 .given .1) in let few = accepted _ _ read .few in (read, ((front-addresses _ _ read index (le-trans few (search needs)), front-places _ _ read index (le-trans few (search needs))), ((front-targets _ _ read index (le-trans few (search needs)), front-branches _ _ read index (le-trans few (search needs))), front-nodes _ _ read index (le-trans (accepted _ _ read .fewNodes) (search needs)))))
 
 returns : tie.Need-returns
 returns c = listing-refused (c .before .before .before .before .before .before .before .before .before .before .before .before .before .before .before .before .args .s .now) (c .before .before .before .before .before .before .before .before .before .before .before .before .before .before .before .before .args .list .now) (c .before .before .before .before .before .before .before .before .read-index .ensures .0) (c .before .reading .given .1)

@@ -1,3 +1,8 @@
+use mathlib.Core.Path.{ap, _∙_}
+use lib.ListN.{length}
+use native.Mathlib.Omega.{arith}
+use Rattle.sheet.proofs.ByNumber.{node-places-count}
+use Rattle.verdict_sheet.proofs.Order.{nodes-none, nodes-whole}
 use borrow.Author.Needs.{needs}
 use Rattle.verdict_sheet.proofs.judge.Statement.{statement}
 use Rattle.verdict_sheet.proofs.judge.Tie as tie
@@ -5,48 +10,28 @@ use Rattle.verdict_sheet.proofs.judge.Tie as tie
 judge-blocks-requires : tie.Need-judge-blocks-requires
 judge-blocks-requires c κs = search needs
 
-judge-nodes-requires : tie.Need-judge-nodes-requires
-judge-nodes-requires c κs = (c .before .before .before .before .before .before .before .before .before .before .before .before .before .before .before .before .before .before .before .before .before .before .before .before .before .pre .0, (c .before .before .before .before .before .before .before .before .before .before .before .before .before .before .before .before .before .before .before .before .before .before .before .before .before .pre .1 .0, (c .before .before .before .before .before .before .before .before .before .before .before .before .before .before .before .before .before .before .before .before .before .before .before .before .before .pre .1 .1 .0 .1, (c .before .before .before .before .before .before .before .before .before .before .judge-blocks .ensures, c .before .before .before .before .before .before .before .before .before .before .before .before .before .before .before .before .before .before .before .before .before .before .before .before .before .pre .1 .1 .1 .1))))
-
 same-length : tie.Need-same-length
 same-length c = search needs
+
+returns : tie.Need-returns
+returns c = nodes-whole (c .before .before .before .before .before .before .before .before .before .before .before .args .s .now) (c .before .before .before .before .before .before .before .before .before .before .before .args .sheet .blocks .count) 0 (c .before .before .before .before .before .before .before .before .before .before .before .args .sheet .nodes .count) (c .before .before .before .judge-blocks .last .1 .1 .1 .1 .1 .0) (omega (arith, c .if1 .taken, (ap length (c .before .before .before .before .before .before .before .before .before .before .before .pre .1 .1 .0 .1) ∙ node-places-count (c .before .before .before .before .before .before .before .before .before .before .before .args .s .now) (c .before .before .before .before .before .before .before .before .before .before .before .args .sheet) (c .before .before .before .before .before .before .before .before .before .before .before .pre .0)))) (nodes-none (c .before .before .before .before .before .before .before .before .before .before .before .args .s .now) (c .before .before .before .before .before .before .before .before .before .before .before .args .sheet .blocks .count) (c .before .before .before .judge-blocks .ensures))
+
+judge-nodes-requires : tie.Need-judge-nodes-requires
+judge-nodes-requires c κs = search needs
 
 same-length-2 : tie.Need-same-length-2
 same-length-2 c = search needs
 
-same-length-3 : tie.Need-same-length-3
-same-length-3 c = search needs
-
-same-length-4 : tie.Need-same-length-4
-same-length-4 c = search needs
-
-same-length-5 : tie.Need-same-length-5
-same-length-5 c = search needs
-
-same-length-6 : tie.Need-same-length-6
-same-length-6 c = search needs
-
-same-length-7 : tie.Need-same-length-7
-same-length-7 c = search needs
-
-same-length-8 : tie.Need-same-length-8
-same-length-8 c = search needs
-
-returns : tie.Need-returns
-returns c = search needs
+returns-2 : tie.Need-returns-2
+returns-2 c = search needs
 
 pub judge-spec : {M : Type 1} → statement M
 judge-spec =
     tie.close
     (tie.spec
     judge-blocks-requires
-    judge-nodes-requires
     same-length
+    returns
+    judge-nodes-requires
     same-length-2
-    same-length-3
-    same-length-4
-    same-length-5
-    same-length-6
-    same-length-7
-    same-length-8
-    returns)
+    returns-2)
