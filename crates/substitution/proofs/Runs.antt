@@ -185,7 +185,7 @@ ended-read v w h k (ternary c a b) r =
 
 ended-is : (v w : ℕ) (h : Table) (d : Expr) → (w ≡ v → ⊥) → h w ≡ held d → reads v d ≡ true → ended v h (variable w) ≡ true
 unfolding ended
-ended-is v w h d q k r = rw (ne-eqb w v q, k) r
+ended-is v w h d q k r = simp (ne-eqb w v q, k, r)
 
 -- The assignment of s, which has the value x, to v: the values that substituted expressions are evaluated at afterwards, and that all is as it was.
 beside : Entry → ℕ → ℕ → ℕ
