@@ -78,7 +78,7 @@ operand-agrees s p free f Mem agrees ok = tt
 
 argument-below : (p : Processor) (free : Choice) (size : ℕ) (o : Operand) → SizeFits size o → argument p free size o < 2 ^ size
 unfolding argument
-argument-below p free size Absent fits = pow-pos size
+argument-below p free size Absent fits = mod-lt _ (pow-pos size)
 argument-below p free size (Reg r) fits =
     byTest (eqb (r .class) 1)
     (λ t. rw t (subst (λ (n : ℕ). part p r < 2 ^ n) (fits t) (part-below p r)))

@@ -40,8 +40,9 @@ pub record Processor : Type 0 where
 abbrev pub value : Processor → ℕ → ℕ
 value p k = p .register k % 2 ^ 64
 
--- What one instruction takes from outside: the value of a memory operand and of a register of another class; new values
--- of registers and flags, for calls and their like, and for what an instruction that is not modelled declares.
+-- What one instruction takes from outside: the value of a memory operand, and of one that is a register of another class
+-- or absent; new values of registers and flags, for calls and their like, and for what an instruction that is not modelled
+-- declares.
 pub record Choice : Type 0 where
   pub memory : ℕ
   pub other : ℕ
@@ -76,7 +77,7 @@ assign p r x =
 
 -- the value of a second operand, of that size
 unfoldable pub argument : Processor → Choice → ℕ → Operand → ℕ
-argument p free size Absent = 0
+argument p free size Absent = free .other % 2 ^ size
 argument p free size (Reg r) = cond (eqb (r .class) 1) (part p r) (free .other % 2 ^ size)
 argument p free size (Imm x) = x % 2 ^ size
 argument p free size Mem = free .memory % 2 ^ size
