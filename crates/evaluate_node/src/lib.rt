@@ -46,7 +46,7 @@ fn wide(byte: u8) -> u64
 }
 
 // The first variable, by number, whose value is missing or does not fit its type.
-pub fn first_unfit(types: &[u8], values: &[u64]) -> Fit
+fn first_unfit(types: &[u8], values: &[u64]) -> Fit
     ensures { λ r. ⌜ r ≡ unfitFrom 0 (now (types .entry)) (now (values .entry)) ⌝ }
 {
     let mut v: usize = 0;

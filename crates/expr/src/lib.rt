@@ -142,7 +142,7 @@ pub fn has_own_value(rs: &[u64]) -> bool
 }
 
 // Whether a load stands in the tree.
-pub fn has_load(rs: &[u64]) -> bool
+fn has_load(rs: &[u64]) -> bool
     requires { ⌜ Wf (now rs) ⌝ }
     ensures { λ r. ⌜ r ≡ hasLoad (treeOf (now (rs .entry))) ⌝ }
 {

@@ -34,7 +34,7 @@ fn take_out(list: &mut [u64], count: usize, at: usize)
 }
 
 // Adds a term to the first count, and gives the new count.
-pub fn toggle(list: &mut [u64], count: usize, term: u64) -> usize
+fn toggle(list: &mut [u64], count: usize, term: u64) -> usize
     requires { ⌜ (count < length (now list)) × Ascending (take count (now list)) ⌝ }
     ensures { λ r. ⌜ (r ≡ length (toggle term (take count (now (list .entry))))) × (now (list .exit) ≡ over (toggle term (take count (now (list .entry)))) (now (list .entry))) ⌝ }
 {
@@ -50,7 +50,7 @@ pub fn toggle(list: &mut [u64], count: usize, term: u64) -> usize
 }
 
 // Adds x times each term of b to the first count terms, and gives the new count.
-pub fn add_times(list: &mut [u64], count: usize, x: u64, b: &[u64]) -> usize
+fn add_times(list: &mut [u64], count: usize, x: u64, b: &[u64]) -> usize
     requires { ⌜ (count + length (now b) ≤ length (now list)) × Ascending (take count (now list)) ⌝ }
     ensures { λ r. ⌜ Written (sumTimes (take count (now (list .entry))) x (now (b .entry))) r (count + length (now (b .entry))) (now (list .entry)) (now (list .exit)) ⌝ }
 {

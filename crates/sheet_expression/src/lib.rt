@@ -81,7 +81,7 @@ fn depth_after(depth: u64, arity: u64) -> u64
 }
 
 // The record at a place, with `depth` complete trees before it and `left` records after it.
-pub fn take_record(s: &[u8], p: Place, variables: u64, depth: u64, left: u64) -> RecordReading
+fn take_record(s: &[u8], p: Place, variables: u64, depth: u64, left: u64) -> RecordReading
     requires { ⌜ (variables ≤ 32) × (depth ≤ 128) ⌝ }
     ensures { λ r. ⌜ r ≡ recordAt variables depth left (now (s .entry)) p ⌝ }
 {

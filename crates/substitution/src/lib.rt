@@ -149,7 +149,7 @@ fn end_entries(table: &[u64], lengths: &mut [usize], v: u64)
 }
 
 // A substituted value is assigned to v: what reads v ends, and the value is held, if it can be.
-pub fn assign(v: u64, value: &[u64], table: &mut [u64], lengths: &mut [usize])
+fn assign(v: u64, value: &[u64], table: &mut [u64], lengths: &mut [usize])
     requires { ⌜ (v < 32) × Wf (now value) × (length (now value) ≤ 256) × Slots (now table) (now lengths) ⌝ }
     ensures { λ _. ⌜ Holds (now (table .exit)) (now (lengths .exit)) (assigned v (treeOf (now (value .entry))) (tableOf (now (table .entry)) (now (lengths .entry)))) ⌝ }
 {

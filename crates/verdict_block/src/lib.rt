@@ -94,7 +94,7 @@ fn end_between(
 }
 
 // The end of the block of that number, of an accepted sheet with its index, where `start` is known at its start.
-pub fn end_on(
+fn end_on(
     s: &[u8],
     sheet: Sheet,
     addresses: &[u64],
@@ -130,7 +130,7 @@ fn flag_verdict(f: Flag) -> Verdict
 }
 
 // The verdict at a block's end.
-pub fn verdict_at(end: End) -> Verdict
+fn verdict_at(end: End) -> Verdict
     ensures { λ r. ⌜ r ≡ verdictAt end ⌝ }
 {
     let known = end.known;
