@@ -5,7 +5,7 @@ use Prim.Native.Nat.{ℕ, zero, suc, _+_, _*_, _/_, _%_, _-_, _≤_, _<_}
 use native.Mathlib.Omega.{arith}
 use lib.Dec.{lit<, lit≤}
 use lib.ListN.{length, getD, drop, length-append, length-drop}
-use Rattle.expr.specs.Tree.{Expr, tagOf, valueOf, own, flat, arityOf, child, node, push, parse, treeOf, Wf, flats, Trees, treeCount, Formed}
+use Rattle.expr.specs.Tree.{Expr, tagOf, valueOf, own, flat, size, arityOf, child, node, push, parse, treeOf, Wf, flats, Trees, treeCount, Formed}
 use Rattle.expr.specs.Tree.Expr.{variable, constant, conditionTrue, conditionFalse, effect, load, cast, binary, ternary}
 
 -- kind and argument of a tag word
@@ -296,18 +296,21 @@ formed-own (cast t a) = formed 6 t 0 (lit≤ tt) (λ h. omega arith) (λ h. omeg
 formed-own (binary o a b) = formed 7 o 0 (lit≤ tt) (λ h. omega arith) (λ h. omega arith) (λ h. omega arith) (λ h. refl)
 formed-own (ternary c a b) = formed 8 0 0 (lit≤ tt) (λ h. refl) (λ h. refl) (λ h. refl) (λ h. refl)
 
--- a tree has a record, and a whole number of them
+-- a tree has a record, and two words for each
+pub flat-size : (e : Expr) → length (flat e) ≡ 2 * size e
+unfolding flat size
+flat-size (variable n) = refl
+flat-size (constant w x) = refl
+flat-size conditionTrue = refl
+flat-size conditionFalse = refl
+flat-size (effect t) = refl
+flat-size (load t a) = simp length-append (omega (arith, flat-size a))
+flat-size (cast t a) = simp length-append (omega (arith, flat-size a))
+flat-size (binary o a b) = simp length-append (omega (arith, flat-size a, flat-size b))
+flat-size (ternary c a b) = simp length-append (omega (arith, flat-size c, flat-size a, flat-size b))
+
 pub flat-even : (e : Expr) → length (flat e) % 2 ≡ 0
-unfolding flat
-flat-even (variable n) = refl
-flat-even (constant w x) = refl
-flat-even conditionTrue = refl
-flat-even conditionFalse = refl
-flat-even (effect t) = refl
-flat-even (load t a) = simp length-append (omega (arith, flat-even a))
-flat-even (cast t a) = simp length-append (omega (arith, flat-even a))
-flat-even (binary o a b) = simp length-append (omega (arith, flat-even a, flat-even b))
-flat-even (ternary c a b) = simp length-append (omega (arith, flat-even c, flat-even a, flat-even b))
+flat-even e = omega (arith, flat-size e)
 
 pub flat-two : (e : Expr) → 2 ≤ length (flat e)
 flat-two e = rw flat-root (simp length-append (omega arith))

@@ -56,6 +56,18 @@ flat (cast t a) = flat a ++ own (cast t a)
 flat (binary o a b) = flat a ++ (flat b ++ own (binary o a b))
 flat (ternary c a b) = flat c ++ (flat a ++ (flat b ++ own (ternary c a b)))
 
+-- how many records a tree has
+unfoldable pub size : Expr → ℕ
+size (variable n) = 1
+size (constant w x) = 1
+size conditionTrue = 1
+size conditionFalse = 1
+size (effect t) = 1
+size (load t a) = size a + 1
+size (cast t a) = size a + 1
+size (binary o a b) = size a + size b + 1
+size (ternary c a b) = size c + size a + size b + 1
+
 -- the kind and the argument in a tag word
 abbrev pub kindOf : ℕ → ℕ
 kindOf tag = tag % 16

@@ -1,22 +1,23 @@
 -- What reading lets through: every node of an accepted sheet is admitted, as the premises of what is shown of nodes have it.
 use Prim.Native.Nat.{ℕ, zero, suc, _*_, _^_, _<_, _≤_}
-use mathlib.Core.Path.{_≡_, refl}
+use mathlib.Core.Path.{_≡_}
 use mathlib.Core.Logic.{_⊎_, inl, inr}
 use mathlib.Core.List.{List, [], _∷_}
 use native.Mathlib.Omega.{arith}
-use lib.ListN.{length, getD, length-append}
+use lib.ListN.{length, getD}
 use Rattle.expr.specs.Codes.{signed8}
-use Rattle.expr.specs.Tree.{Expr, flat}
+use Rattle.expr.specs.Tree.{Expr}
 use Rattle.expr.specs.Tree.Expr.{variable, constant, conditionTrue, conditionFalse, effect, load, cast, binary, ternary}
 use Rattle.expr.specs.Statement.{Statement}
 use Rattle.expr.specs.Statement.Statement.{assignment, other}
 use Rattle.expr.specs.Admission.{InWidth, Admitted, AdmittedExpression, AdmittedAssignment, AdmittedAll, AdmittedNode}
+use Rattle.expr.proofs.Laws.{flat-size}
 use Rattle.sheet_node.specs.Node.{Node}
 use Rattle.sheet.specs.declared.Sheet as read-sheet
 use Rattle.sheet.specs.declared.Reading.the-variants as reading
 use Rattle.sheet.specs.Sheet.{sheetAt, readingOf}
 use Rattle.format.specs.Write.{Bytes, All}
-use Rattle.format.specs.Expression.{size, ValidConstant, ValidTree, ValidExpression}
+use Rattle.format.specs.Expression.{ValidConstant, ValidTree, ValidExpression}
 use Rattle.format.specs.Sheet.{ValidAssignment, ValidStatement, ValidNode}
 use Rattle.format.proofs.Typing.{all-map, code-of, typed-assignment}
 use Rattle.format.proofs.Sheets.{read-was-written}
@@ -42,20 +43,8 @@ admitted-tree n (cast t a) h = (omega (arith, h .1), admitted-tree n a (h .0))
 admitted-tree n (binary o a b) h = (omega (arith, h .2), admitted-tree n a (h .0), admitted-tree n b (h .1))
 admitted-tree n (ternary c a b) h = (admitted-tree n c (h .0), admitted-tree n a (h .1), admitted-tree n b (h .2))
 
-two-words : (e : Expr) → length (flat e) ≡ 2 * size e
-unfolding flat size
-two-words (variable n) = refl
-two-words (constant w x) = refl
-two-words conditionTrue = refl
-two-words conditionFalse = refl
-two-words (effect t) = refl
-two-words (load t a) = rw (length-append, two-words a) (omega arith)
-two-words (cast t a) = rw (length-append, two-words a) (omega arith)
-two-words (binary o a b) = simp length-append (omega (arith, two-words a, two-words b))
-two-words (ternary c a b) = simp length-append (omega (arith, two-words c, two-words a, two-words b))
-
 admitted-expression : (n : ℕ) (e : Expr) → ValidExpression n e → AdmittedExpression n e
-admitted-expression n e h = record { short = rw two-words (omega (arith, h .short)); tree = admitted-tree n e (h .tree) }
+admitted-expression n e h = record { short = rw flat-size (omega (arith, h .short)); tree = admitted-tree n e (h .tree) }
 
 admitted-assignment : (types : List ℕ) → All (λ t. t ≤ 9) types → (v : ℕ) (e : Expr) → ValidAssignment types v e → AdmittedAssignment types v e
 admitted-assignment types few v e h = record {

@@ -10,30 +10,17 @@ use native.Mathlib.Decide.{decLt}
 use native.Mathlib.Omega.{arith}
 use lib.Dec.{eqb, ltb, lit<}
 use lib.ListN.{length, getD, take, drop, length-append, length-take, length-drop, List·getD-eq-default}
-use lib.Seq.{paste, take-add, take-length, take-append-add, drop-append-add, drop-length, drop-at, length-take-le, length-paste}
-use borrow.Author.Tests.{eq-eqb, ne-eqb, eqb-true, eqb-false, lt-ltb, le-ltb}
+use lib.Seq.{paste, take-add, take-length, take-append-add, drop-append-add, drop-length, drop-at, length-take-le}
+use borrow.Author.Tests.{eq-eqb, ne-eqb, eqb-true, lt-ltb, le-ltb}
 use Rattle.expr.specs.Codes.{kindVariable, kindLoad}
-use Rattle.expr.specs.Tree.{Expr, tagOf, valueOf, own, flat, flats, kindOf, argumentOf, arityOf, treeOf, Wf}
+use Rattle.expr.specs.Tree.{Expr, tagOf, valueOf, own, flat, size, flats, kindOf, argumentOf, arityOf, treeOf, Wf}
 use Rattle.expr.specs.Tree.Expr.{variable, constant, conditionTrue, conditionFalse, effect, load, cast, binary, ternary}
-use Rattle.expr.specs.Scan.{isLoad, ofKind}
-use Rattle.expr.proofs.Laws.{kids, kids-arity, kind-of, argument-of, flat-root, flats-append, flat-two}
+use Rattle.expr.specs.Scan.{isLoad}
+use Rattle.expr.proofs.Laws.{kids, kids-arity, kind-of, argument-of, flat-root, flats-append, flat-size}
 use Rattle.expr.proofs.Parts.{Ending, stack-ending, flats-length}
 use Rattle.expr.proofs.Scans.{load-tag}
-use Rattle.substitution.specs.Substitution.{Entry, free, held, Table, standing, substitute, size, mostRecords, long}
+use Rattle.substitution.specs.Substitution.{Entry, free, held, Table, standing, substitute, mostRecords, long}
 use Rattle.substitution.specs.Words.{slot, tableOf, Slots, heldWords, pendingAfter}
-
--- a tree's words are two a record
-flat-size : (e : Expr) → length (flat e) ≡ size e + size e
-unfolding flat size
-flat-size (variable n) = refl
-flat-size (constant w x) = refl
-flat-size conditionTrue = refl
-flat-size conditionFalse = refl
-flat-size (effect t) = refl
-flat-size (load t a) = simp length-append (omega (arith, flat-size a))
-flat-size (cast t a) = simp length-append (omega (arith, flat-size a))
-flat-size (binary o a b) = simp length-append (omega (arith, flat-size a, flat-size b))
-flat-size (ternary c a b) = simp length-append (omega (arith, flat-size c, flat-size a, flat-size b))
 
 pub too-long : (e : Expr) → 256 < length (flat e) → long e ≡ true
 too-long e h = lt-ltb mostRecords (size e) (omega (arith, flat-size e))

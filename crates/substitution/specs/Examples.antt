@@ -1,11 +1,11 @@
 -- Worked examples of substitution. Variable 0 is `slot`, 1 is `step`.
 use mathlib.Core.Path.{_≡_, refl}
 use mathlib.Core.List.{[], _∷_}
-use Rattle.expr.specs.Tree.{Expr}
+use Rattle.expr.specs.Tree.{Expr, size}
 use Rattle.expr.specs.Tree.Expr.{variable, constant, effect, load, binary}
 use Rattle.expr.specs.Statement.Statement.{assignment, other}
 use Rattle.expr.specs.Scan.{anyNode, isVariable, isLoad, isEffect}
-use Rattle.substitution.specs.Substitution.{substitute, kept, ended, holdable, assigned, size, into, substituted, withAssignments}
+use Rattle.substitution.specs.Substitution.{substitute, kept, ended, holdable, assigned, into, substituted, withAssignments}
 
 abbrev slot : Expr
 slot = variable 0

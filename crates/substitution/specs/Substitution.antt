@@ -1,9 +1,9 @@
 -- How the statements of a node come into its condition: the value that was assigned to a variable stands for the variable, as long as it is held.
-use mathlib.Core.Bool.{Bool, true, false, cond, not, _&&_, _||_}
+use mathlib.Core.Bool.{Bool, false, cond, not, _&&_, _||_}
 use mathlib.Core.List.{List, [], _∷_}
-use Prim.Native.Nat.{ℕ, suc, _+_}
+use Prim.Native.Nat.{ℕ}
 use lib.Dec.{eqb, ltb}
-use Rattle.expr.specs.Tree.{Expr}
+use Rattle.expr.specs.Tree.{Expr, size}
 use Rattle.expr.specs.Tree.Expr.{variable, constant, conditionTrue, conditionFalse, effect, load, cast, binary, ternary}
 use Rattle.expr.specs.Statement.{Statement}
 use Rattle.expr.specs.Statement.Statement.{assignment, other}
@@ -71,18 +71,6 @@ entryOf v h e = cond (holdable v h e) (held e) free
 -- What is held after e, already substituted, is assigned to v. (N1)
 unfoldable pub assigned : ℕ → Expr → Table → Table
 assigned v e h w = cond (eqb w v) (entryOf v h e) (kept v h w)
-
--- how many records a tree has
-unfoldable pub size : Expr → ℕ
-size (variable n) = 1
-size (constant w x) = 1
-size conditionTrue = 1
-size conditionFalse = 1
-size (effect t) = 1
-size (load t a) = size a + 1
-size (cast t a) = size a + 1
-size (binary o a b) = size a + size b + 1
-size (ternary c a b) = size c + size a + size b + 1
 
 -- What the statements of a node make of its condition: an expression, or refusal 10.
 pub data Substituted : Type 0 where

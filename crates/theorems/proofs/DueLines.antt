@@ -20,7 +20,6 @@ use Rattle.format.specs.Syntax.{meansInstruction, valueOf}
 use Rattle.format.specs.Valid.{ValidInstruction, Rising}
 use Rattle.format.proofs.Sheets.{read-was-written}
 use Rattle.verdict.specs.declared.Reason.{Reason}
-use Rattle.verdict.specs.declared.Reason.the-variants.{Flags, EqualSides, Truth, UnsignedZero, ExactSides, Parity, Halves}
 use Rattle.verdict.specs.declared.Verdict.{Verdict}
 use Rattle.verdict.specs.declared.Verdict.the-variants.{Always, Never, Undecided, NoBranch}
 use Rattle.verdict.specs.Numbers.{reasonNumber, verdictNumbers}
@@ -28,6 +27,7 @@ use Rattle.verdict.specs.Numbers.Numbers.{decision}
 use Rattle.verdict_block.specs.Verdict.{Parts, preceded, apart, within, codeOf}
 use Rattle.verdict_block.specs.Verdict.Parts.{none as noInstruction, ending}
 use Rattle.verdict_lines.specs.Lines.{Line, lineOf}
+use Rattle.verdict_lines.proofs.Decided.{reason-small}
 use Rattle.verdict_sheet.specs.Sites.{branchAt, unlessLater, lastBranch, lastSite}
 use Rattle.verdict_sheet.specs.Said.{Said, blocksSay, firstDecided, linesOf}
 use Rattle.theorems.specs.Runs.{Source}
@@ -78,15 +78,6 @@ Among a (i ∷ code) = (i .address ≡ a) ⊎ Among a code
 abbrev pub noLine : Line
 noLine = record { site = 0; target = 0; value = 0; reason = 0 }
 
-reason-small : (r : Reason) → reasonNumber r < 256
-reason-small Flags = omega arith
-reason-small EqualSides = omega arith
-reason-small Truth = omega arith
-reason-small UnsignedZero = omega arith
-reason-small ExactSides = omega arith
-reason-small Parity = omega arith
-reason-small Halves = omega arith
-
 -- a line of the listing: it fits its bytes, and says what was decided of a branch
 pub record OfBranch (low : ℕ) (code : List Instruction) (said : List Said) (l : Line) : Type 0 where
   pub above : low ≤ l .site
@@ -125,7 +116,7 @@ module _ (said : List Said) where
     site-fits = o .1;
     target-fits = o .2;
     value-fits = small;
-    reason-fits = reason-small r;
+    reason-fits = omega (arith, reason-small r);
     target = rw (eq-eqb (i .address) (i .address) refl);
     verdict = is;
   }

@@ -1,7 +1,7 @@
 -- Laws of slots.
-use Prim.Native.Nat.{ℕ, zero, suc, _+_, _*_, _/_, _%_, _≤_, _<_}
-use mathlib.Core.Path.{_≡_, refl, sym, ap, _∙_}
-use mathlib.Core.List.{List, [], _∷_, _++_}
+use Prim.Native.Nat.{ℕ, zero, suc, _+_, _/_, _%_, _≤_, _<_}
+use mathlib.Core.Path.{_≡_, refl, ap}
+use mathlib.Core.List.{List, [], _∷_}
 use native.Mathlib.Omega.{arith}
 use native.Mathlib.Numerals.{add-one}
 use lib.ListN.{length, getD, set, drop, drop-of-length-le}
@@ -13,7 +13,7 @@ use Rattle.verdict.specs.Numbers.{reasonNumber}
 use Rattle.verdict_lines.specs.Lines.{Line}
 use Rattle.verdict_lines.specs.Slots.{slotOf, keptSlot, kept, decidedOf, decidedIn, slotLine, linesIn}
 
-reason-small : (r : Reason) → reasonNumber r ≤ 7
+pub reason-small : (r : Reason) → reasonNumber r ≤ 7
 reason-small Flags = omega arith
 reason-small EqualSides = omega arith
 reason-small Truth = omega arith
