@@ -13,14 +13,18 @@ use Rattle.verdict.specs.Numbers.{reasonNumber}
 use Rattle.verdict_lines.specs.Lines.{Line}
 use Rattle.verdict_lines.specs.Slots.{slotOf, keptSlot, kept, decidedOf, decidedIn, slotLine, linesIn}
 
+-- the numbers of reasons are 1 to 7
+pub reason-range : (r : Reason) → (0 < reasonNumber r) × (reasonNumber r ≤ 7)
+reason-range Flags = (omega arith, omega arith)
+reason-range EqualSides = (omega arith, omega arith)
+reason-range Truth = (omega arith, omega arith)
+reason-range UnsignedZero = (omega arith, omega arith)
+reason-range ExactSides = (omega arith, omega arith)
+reason-range Parity = (omega arith, omega arith)
+reason-range Halves = (omega arith, omega arith)
+
 pub reason-small : (r : Reason) → reasonNumber r ≤ 7
-reason-small Flags = omega arith
-reason-small EqualSides = omega arith
-reason-small Truth = omega arith
-reason-small UnsignedZero = omega arith
-reason-small ExactSides = omega arith
-reason-small Parity = omega arith
-reason-small Halves = omega arith
+reason-small r = reason-range r .1
 
 pub small : {n : ℕ} (r : Reason) → n ≡ reasonNumber r → n ≤ 7
 small r is = rw is (reason-small r)
