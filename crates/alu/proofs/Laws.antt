@@ -1,7 +1,7 @@
 -- What wraps at 64 bits and is then cut to a width wraps at that width. For a difference: what is missing to 2 ^ 64 is
 -- what is missing to the width, and whole turns of it.
 use Prim.Native.Nat.{ℕ, _+_, _-_, _%_, _^_, _<_}
-use mathlib.Core.Path.{_≡_, sym}
+use mathlib.Core.Path.{_≡_}
 use native.Mathlib.Omega.{arith}
 use lib.Pow.{mod-mod-pow}
 use Rattle.alu.specs.declared.Width.{Width}

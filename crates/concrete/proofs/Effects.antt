@@ -1,13 +1,11 @@
 -- What the arithmetic instructions leave, value and flags, is what the manual's results are.
 use Prim.{tt}
-use Prim.Native.Nat.{ℕ, suc, _+_, _-_, _^_, _≤_, _<_}
-use mathlib.Core.Path.{_≡_, refl, sym, subst}
-use mathlib.Core.Logic.{_≢_}
+use Prim.Native.Nat.{ℕ, _+_, _-_, _^_, _<_}
+use mathlib.Core.Path.{_≡_, refl, sym}
 use mathlib.Core.Bool.{Bool, true, false, _&&_}
 use native.Mathlib.Nat.{mod-lt, mod-self}
 use native.Mathlib.Omega.{arith}
-use borrow.Author.Tests.{eqb-true, eqb-false, le-ltb, lt-leb}
-use lib.Dec.{leb, eqb}
+use borrow.Author.Tests.{le-ltb, lt-leb}
 use lib.Pow.{pow-pos}
 use lib.Count.{ones}
 use lib.Bits.{bitAnd, bitOr, bitXor, and-lt, or-lt, xor-lt, xor-self}
@@ -26,7 +24,7 @@ use Rattle.known.specs.declared.Effect.{Effect}
 use Rattle.known.specs.declared.Value.{Value}
 use Rattle.known.specs.declared.Value.the-variants.{Known, Unknown}
 use Rattle.known.specs.Operations.{operationOf, isIdiom, ofItself, noFlags, bitwiseFlags, ofUnknown, ofKnown, onOperands, arithEffect, alone, keptCarry}
-use Rattle.concrete.specs.Concrete.{Status, Result, lifted, sum, difference, bitwise, onesBelow, statusOf, computed, computedAlone, withCf, withOwnCarry}
+use Rattle.concrete.specs.Concrete.{Status, Result, lifted, sum, difference, bitwise, onesBelow, statusOf, computed, computedAlone, withOwnCarry}
 use Rattle.concrete.specs.Agreement.{Allows, AllowsValue, FlagsAgree}
 use Rattle.concrete.proofs.Outcome.{halves, half-pos, Matches, matches, add-matches, sub-matches, neg-matches}
 use Rattle.concrete.proofs.Registers.{never}

@@ -23,7 +23,6 @@ use Rattle.machine.specs.Registers.{slotAt, wholeOf, forgetRegister, forgetRegi
 use Rattle.concrete.specs.Concrete.{Status, Processor, Choice, declares, chosen, declaredStatus, byDeclaration}
 use Rattle.concrete.specs.Agreement.{Allows, AllowsValue, FlagsAgree, Agrees}
 use Rattle.concrete.proofs.Registers.{replaced-same, replaced-other, replaced-flags, never}
-use Rattle.alu.specs.declared.Flag.the-variants as flag
 use Rattle.laws.proofs.Booleans.{and-left, and-right, byTest}
 
 -- no more is known

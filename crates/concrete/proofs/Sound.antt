@@ -1,15 +1,15 @@
 -- Step soundness: agreement of what is known with the concrete state is kept by every instruction that reading accepts,
 -- whatever is chosen for what is free. The theorem is `step-sound`, at the end.
 use Prim.{Unit, tt}
-use Prim.Native.Nat.{ℕ, zero, suc, min, _-_, _/_, _%_, _^_, _≤_, _<_}
+use Prim.Native.Nat.{ℕ, zero, suc, min, _-_, _%_, _^_, _<_}
 use mathlib.Core.Path.{_≡_, refl, sym, ap, subst}
-use mathlib.Core.Logic.{inr, _≢_}
+use mathlib.Core.Logic.{inr}
 use mathlib.Core.Bool.{Bool, true, false, cond, not, _&&_, _||_}
 use mathlib.Core.List.{List, [], _∷_}
 use native.Mathlib.Nat.{mod-lt}
 use native.Mathlib.Omega.{arith}
-use borrow.Author.Tests.{leb-true, leb-false, eqb-true, eqb-false, le-leb, lt-leb, ne-eqb, not-false}
-use lib.Dec.{leb, ltb, eqb}
+use borrow.Author.Tests.{eqb-true, not-false}
+use lib.Dec.{ltb, eqb}
 use lib.ListN.{getD, replicate}
 use lib.Pow.{pow-pos, not-mod}
 use Rattle.isa.specs.declared.Register.{Register}

@@ -3,7 +3,7 @@
 -- polynomial is.
 use Prim.Native.Nat.{ℕ}
 use mathlib.Core.Path.{_≡_, _∙_}
-use mathlib.Core.Bool.{Bool, true, false, cond, xor}
+use mathlib.Core.Bool.{Bool, true, false, cond}
 use mathlib.Core.List.{[], _∷_}
 use native.Mathlib.Omega.{arith}
 use Rattle.expr.specs.Codes.{opEqual, opNotEqual}
@@ -14,7 +14,7 @@ use Rattle.poly.specs.Meaning.{bits, value}
 use Rattle.poly.proofs.Values.{value-sum, ascending-sum}
 use Rattle.poly.proofs.Unique.{one-everywhere}
 use Rattle.parity.specs.Parity.{parity, difference}
-use Rattle.parity.specs.LowBit.{lowBit, AlwaysDiffer}
+use Rattle.parity.specs.LowBit.{AlwaysDiffer}
 use Rattle.exact.specs.Exact.{exactSides}
 use Rattle.decide.specs.Decide.{orElse, equalSides, onExact, oddSides, equality, decide}
 use Rattle.verdict.specs.declared.Verdict.{Verdict}

@@ -1,7 +1,7 @@
 -- The laws that the verdict's code cites: an equality from its steps' answers, a condition by its root and its operator.
 use Prim.Native.Nat.{ℕ, _+_, _/_, _%_}
 use mathlib.Core.Path.{_≡_, refl, sym, ap, _∙_}
-use mathlib.Core.Bool.{Bool, true, false, cond, not, _&&_, _||_, false≢true}
+use mathlib.Core.Bool.{Bool, true, false, cond, _&&_, _||_}
 use mathlib.Core.List.{List, []}
 use mathlib.Core.Option.{Option, none, some}
 use native.Mathlib.Omega.{arith}
@@ -17,9 +17,9 @@ use Rattle.expr.proofs.Children.{cast-child}
 use Rattle.parity.specs.Parity.{parity, rightLow, difference, few}
 use Rattle.verdict.specs.declared.Reason.the-variants.{EqualSides, Truth, Parity}
 use Rattle.verdict.specs.declared.Verdict.{Verdict}
-use Rattle.verdict.specs.declared.Verdict.the-variants.{Always, Never, Undecided, NoBranch}
+use Rattle.verdict.specs.declared.Verdict.the-variants.{Always, Never, Undecided}
 use Rattle.exact.specs.Exact.{sameSides, isConstant, exact, written, exactFits, compared, isOne}
-use Rattle.decide.specs.Decide.{said, saidIf, asked, orElse, ofEqual, equalSides, oddSides, onExact, equality, unsignedCast, aboveZero, mirrored, unsignedZero, both, either, byOperator, decide, equalityFits, fits}
+use Rattle.decide.specs.Decide.{said, saidIf, asked, orElse, ofEqual, equalSides, onExact, equality, unsignedCast, aboveZero, mirrored, unsignedZero, both, either, decide, equalityFits, fits}
 use Rattle.exact.specs.declared.Known.{Known}
 use Rattle.exact.specs.declared.Parted as Parted
 use Rattle.decide.specs.declared.Decision as Decision

@@ -5,14 +5,13 @@ use Prim.Native.Nat.{ℕ, _%_, _^_, _<_, _≤_}
 use mathlib.Core.Path.{_≡_, refl, sym, ap, ap₂, _∙_}
 use mathlib.Core.Bool.{Bool, true, false, cond, not, xor, _&&_, _||_, false≢true}
 use mathlib.Core.List.{List, [], _∷_}
-use mathlib.Core.Logic.{_⊎_, inl, inr}
 use mathlib.Core.Option.{Option, none, some}
 use native.Mathlib.Nat.{lt-of-lt-of-le, pow-le-pow-right}
 use native.Mathlib.Omega.{arith}
-use lib.Dec.{eqb, leb, ltb}
+use lib.Dec.{eqb}
 use lib.IntN.{ℤ, pos, negsuc}
 use lib.Signed.{ltZ}
-use borrow.Author.Tests.{le-ltb, eq-eqb, ne-eqb, eqb-true, eqb-false}
+use borrow.Author.Tests.{le-ltb, eq-eqb, ne-eqb, eqb-true}
 use Rattle.expr.specs.Tree.{Expr}
 use Rattle.expr.specs.Tree.Expr.{variable, constant, conditionTrue, conditionFalse, effect, load, cast, binary, ternary}
 use Rattle.expr.specs.Types.{bits, signed, typeOf, together}
@@ -23,7 +22,7 @@ use Rattle.value.specs.declared.Value.the-variants.{Of, NoValue}
 use Rattle.value.specs.declared.Truth.{Truth}
 use Rattle.value.specs.declared.Truth.the-variants.{Holds, Fails, NoOutcome}
 use Rattle.value.specs.Operators.{flag, truthOf, arithmetics, shifts, comparisons, operators, bothHold, eitherHolds, operate}
-use Rattle.value.proofs.Laws.{ev-typed, truth-integer}
+use Rattle.value.proofs.Laws.{truth-integer}
 use Rattle.value.specs.Evaluation.{Values, Contents, Effects, under, shared, ev}
 use Rattle.verdict.specs.declared.Reason.{Reason}
 use Rattle.verdict.specs.declared.Reason.the-variants.{EqualSides, UnsignedZero, ExactSides, Parity}
@@ -39,7 +38,7 @@ use Rattle.parity.proofs.Choices.{poly-low, some-bits}
 use Rattle.parity.proofs.LowBits.{convert-low}
 use Rattle.parity.proofs.TypeLaws.{together-taken, wider-left, wider-right, unsigned-left, unsigned-right, constant-unsigned, small-plain}
 use Rattle.parity.proofs.Evaluation.{ev-low}
-use Rattle.exact.proofs.ExactValue.{Fitting, convert-plain, value-is, operands, typed-left, typed-right, one-value, constant-at, exact-value}
+use Rattle.exact.proofs.ExactValue.{Fitting, convert-plain, operands, typed-left, typed-right, one-value, constant-at, exact-value}
 
 -- An outcome does not go against a verdict.
 abbrev pub Meets : Verdict → Truth → Type 0

@@ -2,7 +2,7 @@
 -- refusal 11.
 use Prim.Native.Nat.{ℕ}
 use mathlib.Core.Bool.{Bool, true, false, cond, not, _&&_, _||_}
-use mathlib.Core.List.{List, [], _∷_}
+use mathlib.Core.List.{[]}
 use mathlib.Core.Option.{Option, none, some}
 use lib.Dec.{eqb}
 use Rattle.expr.specs.Codes.{opEqual, opGreater, opGreaterEqual, opLess, opLessEqual, opLogicalAnd, opLogicalOr, opNotEqual, pointer, unsigned16, unsigned32, unsigned64, unsigned8}

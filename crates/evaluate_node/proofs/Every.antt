@@ -1,29 +1,17 @@
 -- Evaluation is the run: whatever is free beside the values of the declared variables, a node's run has the outcome that its evaluation gives.
 -- Assumes nothing.
-use Prim.Native.Nat.{ℕ, suc, _≤_, _<_}
-use mathlib.Core.Path.{_≡_, refl, sym, ap, _∙_}
-use mathlib.Core.List.{List, [], _∷_}
-use mathlib.Core.Bool.{Bool, true, false, cond, _&&_, false≢true}
+use Prim.Native.Nat.{ℕ, _≤_}
+use mathlib.Core.Path.{_≡_, refl, sym, ap}
+use mathlib.Core.List.{List}
+use mathlib.Core.Bool.{Bool, true, false, cond, _&&_}
 use native.Mathlib.Omega.{arith}
-use lib.Dec.{eqb}
-use lib.ListN.{length, getD, take, drop, replicate, List·getD-append}
-use lib.Seq.{length-take-le, getD-take}
-use Rattle.expr.specs.Tree.{Expr}
+use lib.ListN.{length}
 use Rattle.expr.specs.Scan.{plainExpr}
-use Rattle.expr.specs.Statement.{Statement}
-use Rattle.expr.specs.Statement.Statement.{assignment, other}
 use Rattle.sheet_node.specs.Node.{Node}
-use Rattle.sheet_node.proofs.Variables.{Below, AllBelow, ReadsDeclared}
-use Rattle.value.specs.declared.Value.{Value}
-use Rattle.value.specs.declared.Value.the-variants.{Of, NoValue}
+use Rattle.sheet_node.proofs.Variables.{ReadsDeclared}
 use Rattle.value.specs.declared.Truth.{Truth}
 use Rattle.value.specs.declared.Truth.the-variants as truth
-use Rattle.value.specs.Operators.{truthOf}
-use Rattle.value.specs.Evaluation.{Values, Memory, Effects, shared, ev}
-use Rattle.value.specs.Run.{Choices, update, given, runFrom, run}
-use Rattle.value.proofs.Independence.{by-variables-read}
-use Rattle.value.proofs.Steps.{plain-ev}
-use Rattle.evaluate_node.specs.declared.Evaluation.{Evaluation}
+use Rattle.value.specs.Run.{Choices, run}
 use Rattle.evaluate_node.specs.declared.Evaluation.the-variants.{Holds, Fails, Refused}
 use Rattle.evaluate_node.specs.declared.Fit.{Fit}
 use Rattle.evaluate_node.specs.declared.Fit.the-variants.{AllFit, Unfit}

@@ -1,8 +1,8 @@
 -- Laws of plain statements and of fitting values.
-use Prim.Native.Nat.{ℕ, zero, suc, _+_, _-_, _*_, _≤_, _<_}
+use Prim.Native.Nat.{ℕ, suc, _+_, _-_, _*_, _≤_, _<_}
 use mathlib.Core.Path.{_≡_, refl, sym, ap, _∙_}
 use mathlib.Core.List.{List, [], _∷_, _++_}
-use mathlib.Core.Bool.{Bool, true, false, cond, not, _&&_, _||_, and-assoc, and-true, false≢true}
+use mathlib.Core.Bool.{Bool, true, false, false≢true}
 use native.Mathlib.Omega.{arith}
 use native.Mathlib.Numerals.{add-one}
 use native.Mathlib.Nat.{zero-add}
@@ -11,8 +11,7 @@ use lib.Seq.{drop-cons, paste, take-length, length-take-le}
 use Rattle.sheet_node.proofs.Statements.{took-words, took-assigned}
 use Rattle.sheet_field.specs.Field.{WentOn}
 use Rattle.sheet_field.specs.declared.Place.{Place}
-use Rattle.sheet_field.specs.declared.Place.the-variants.{At}
-use Rattle.expr.specs.Tree.{Wf, treeOf}
+use Rattle.expr.specs.Tree.{treeOf}
 use Rattle.expr.specs.Scan.{plainExpr}
 use Rattle.arith.specs.Numbers.{fits}
 use Rattle.expr.specs.Statement.{Statement}
@@ -21,7 +20,6 @@ use Rattle.sheet_node.specs.declared.StatementReading.{StatementReading}
 use Rattle.sheet_node.specs.Node.{statementAt, statementOf, statementsFrom, StatementRead}
 use Rattle.sheet_node.specs.Contracts.{TookStatement}
 use Rattle.sheet_node.proofs.Accepted.{statements-nth, statements-length}
-use Rattle.evaluate_node.specs.declared.Fit.{Fit}
 use Rattle.evaluate_node.specs.declared.Fit.the-variants.{AllFit, Unfit}
 use Rattle.evaluate_node.specs.Evaluate.{plainStatement, plainAll, unfitFrom}
 use Rattle.evaluate_node.specs.Contracts.{After, stateOf, goOn, afterStatement, assignedAll, StateIs, Stepped, isRefused, hasGone, progressOf}
@@ -30,8 +28,7 @@ use Rattle.evaluate_node.specs.declared.Progress.{Progress}
 use Rattle.evaluate_node.specs.declared.Progress.the-variants.{Went, Stopped, NotPlain}
 use Rattle.evaluate_node.specs.declared.Step.{Step}
 use Rattle.value.specs.declared.Value.{Value}
-use Rattle.value.specs.declared.Value.the-variants.{Of, NoValue}
-use Rattle.value.specs.Evaluation.{evaluated, settled}
+use Rattle.value.specs.Evaluation.{evaluated}
 use Rattle.value.specs.Contracts.{Ready}
 
 -- ---- values

@@ -6,14 +6,12 @@ use mathlib.Core.Bool.{Bool, true, false, cond, _&&_}
 use native.Mathlib.Omega.{arith}
 use lib.ListN.{length, set, take, drop, replicate, length-set, length-append, length-take, List·getD-append}
 use lib.Seq.{length-take-le, getD-take}
-use Rattle.sheet_field.specs.Field.{WentOn}
 use Rattle.sheet_field.specs.declared.Place.{Place}
 use Rattle.sheet_field.specs.declared.Place.the-variants.{At}
 use Rattle.expr.specs.Tree.{Expr, treeOf}
 use Rattle.expr.specs.Scan.{plainExpr}
 use Rattle.expr.specs.Statement.{Statement}
 use Rattle.expr.specs.Statement.Statement.{assignment, other}
-use Rattle.sheet_expression.specs.Expression.{expressionAt}
 use Rattle.sheet_node.specs.declared.NodeReading.{NodeReading}
 use Rattle.sheet_node.specs.Node.{statementAt, statementOf, statementsFrom, nodeOf}
 use Rattle.sheet_node.proofs.Accepted.{statement-on, assigned}
@@ -23,16 +21,16 @@ use Rattle.value.specs.declared.Truth.{Truth}
 use Rattle.value.specs.declared.Truth.the-variants.{NoOutcome}
 use Rattle.value.specs.Evaluation.{evaluated, settled}
 use Rattle.value.specs.Run.{Choices, runFrom, run}
-use Rattle.value.proofs.Steps.{Plain, lent, assigns, stops, ends}
+use Rattle.value.proofs.Steps.{lent, assigns, stops, ends}
 use Rattle.evaluate_node.specs.declared.Evaluation.{Evaluation}
 use Rattle.evaluate_node.specs.declared.Evaluation.the-variants.{Refused}
-use Rattle.evaluate_node.specs.Evaluate.{plainStatement, plainAll, unfitFrom, onValues, onFit, onTruth, evaluationOf}
+use Rattle.evaluate_node.specs.Evaluate.{plainAll, unfitFrom, onValues, onFit, onTruth, evaluationOf}
 use Rattle.evaluate_node.specs.declared.Fit.{Fit}
 use Rattle.evaluate_node.specs.declared.Fit.the-variants.{AllFit, Unfit}
 use Rattle.evaluate_node.specs.Contracts.{After, stateOf, assignedAll, Started, Running}
 use Rattle.evaluate_node.specs.Contracts.After.{went, stopped}
 use Rattle.evaluate_node.proofs.Laws.{rests}
-use Rattle.evaluate_node.proofs.Same.{is-plain, Same, same-run}
+use Rattle.evaluate_node.proofs.Same.{is-plain, same-run}
 use Rattle.evaluate_node.proofs.Whole.{fit-enough}
 use Rattle.sheet_node.proofs.Variables.{Below, AllBelow, ReadsDeclared, reads-declared}
 use Rattle.laws.proofs.Booleans.{and-left, and-right}

@@ -2,7 +2,7 @@
 use Prim.Native.Nat.{ℕ, suc, _<_}
 use mathlib.Core.Path.{_≡_, refl, ap, _∙_}
 use mathlib.Core.List.{List, [], _∷_}
-use mathlib.Core.Bool.{Bool, true, cond, false≢true}
+use mathlib.Core.Bool.{true, cond, false≢true}
 use lib.Dec.{eqb}
 use Rattle.expr.specs.Tree.{Expr}
 use Rattle.expr.specs.Scan.{plainExpr}

@@ -1,15 +1,12 @@
 -- A node that was read whole, and its evaluation from its parts.
-use Prim.Native.Nat.{ℕ, zero, suc, _+_, _*_, _≤_}
-use mathlib.Core.Path.{_≡_, refl, sym, ap, _∙_}
-use mathlib.Core.List.{List, [], _∷_, _++_}
-use mathlib.Core.Bool.{Bool, true, false, cond, not, _&&_, _||_}
+use Prim.Native.Nat.{ℕ, suc, _*_, _≤_}
+use mathlib.Core.Path.{_≡_, refl, sym, _∙_}
+use mathlib.Core.List.{List, [], _∷_}
+use mathlib.Core.Bool.{Bool, true, false, _&&_}
 use native.Mathlib.Omega.{arith}
-use lib.ListN.{length, take, drop}
-use lib.Dec.{eqb}
-use Rattle.sheet_field.specs.declared.Place.{Place}
-use Rattle.sheet_field.specs.declared.Place.the-variants.{At}
-use Rattle.sheet_field.specs.Field.{startOf, WentOn}
-use Rattle.expr.specs.Tree.{Expr, treeOf}
+use lib.ListN.{length, take}
+use Rattle.sheet_field.specs.Field.{WentOn}
+use Rattle.expr.specs.Tree.{treeOf}
 use Rattle.expr.specs.Scan.{plainExpr}
 use Rattle.arith.specs.Numbers.{fits}
 use Rattle.sheet_expression.specs.declared.Expression.{Expression}
@@ -18,12 +15,10 @@ use Rattle.sheet_expression.specs.Contracts.{Took}
 use Rattle.sheet_expression.proofs.Lists.{took-front}
 use Rattle.sheet_expression.proofs.Accepted.{took-tree}
 use Rattle.sheet_node.specs.declared.NodeReading.{NodeReading}
-use Rattle.sheet_node.specs.Node.{statementsFrom, nodeAt, typesIn, nodeOf}
+use Rattle.sheet_node.specs.Node.{typesIn, nodeOf}
 use Rattle.sheet_node.specs.Contracts.{ReadNode}
 use Rattle.sheet_node.proofs.Accepted.{parts}
-use Rattle.evaluate_node.specs.declared.Fit.{Fit}
 use Rattle.evaluate_node.specs.declared.Fit.the-variants.{AllFit, Unfit}
-use Rattle.evaluate_node.specs.declared.Evaluation.{Evaluation}
 use Rattle.evaluate_node.specs.declared.Evaluation.the-variants.{Refused}
 use Rattle.evaluate_node.specs.Evaluate.{unfitFrom, evaluationOf}
 use Rattle.evaluate_node.specs.Contracts.{Running}

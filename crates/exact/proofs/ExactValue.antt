@@ -1,15 +1,15 @@
 -- An exact side that has a value has the value that `exact` finds: a constant is its own number, as constants are below their
 -- width; 0 and 1 are the same number at every type; the other shapes follow from the low bit, or are 0 whatever their sides are.
-use Prim.Native.Nat.{ℕ, zero, suc, _+_, _*_, _-_, _%_, _^_, _<_, _≤_}
+use Prim.Native.Nat.{ℕ, _+_, _*_, _-_, _%_, _^_, _<_, _≤_}
 use mathlib.Core.Path.{_≡_, refl, sym, ap, ap₂, _∙_}
-use mathlib.Core.Bool.{Bool, true, false, cond, not, xor, _&&_, _||_, false≢true}
+use mathlib.Core.Bool.{Bool, true, false, cond, _&&_, _||_, false≢true}
 use mathlib.Core.List.{List, [], _∷_}
 use mathlib.Core.Logic.{_⊎_, inl, inr}
 use mathlib.Core.Option.{Option, none, some}
 use native.Mathlib.Nat.{mod-eq-of-lt, pow-le-pow-right, mod-self, zero-mul, mul-zero}
 use native.Mathlib.Omega.{arith}
-use lib.Bits.{bitAnd, bitXor, and-comm, and-zero-l, and-zero-r, xor-self, and-mask}
-use lib.Dec.{eqb, leb, ltb}
+use lib.Bits.{and-comm, and-zero-l, and-zero-r, xor-self, and-mask}
+use lib.Dec.{eqb, leb}
 use lib.IntN.{ℤ, pos, negsuc, negℤ, natAbs}
 use lib.Signed.{remZ}
 use borrow.Author.Tests.{not-true, ne-eqb, eqb-true, leb-true, lt-leb}
@@ -17,7 +17,7 @@ use Rattle.laws.proofs.Booleans.{and-left as left-holds, and-right as right-hol
 use Rattle.expr.specs.Tree.{Expr}
 use Rattle.expr.specs.Tree.Expr.{variable, constant, conditionTrue, conditionFalse, effect, load, cast, binary, ternary}
 use Rattle.expr.specs.Scan.{hasOwnValue, sameTree}
-use Rattle.expr.specs.Types.{bits, signed, typeOf, promoted, together, constantType}
+use Rattle.expr.specs.Types.{bits, signed, typeOf, together, constantType}
 use Rattle.arith.specs.Numbers.{negative, number, residue, convert, remainder}
 use Rattle.arith.proofs.Laws.{number-plain, convert-lt, some as positive}
 use Rattle.value.specs.declared.Value.{Value}
@@ -29,13 +29,13 @@ use Rattle.poly.proofs.Values.{value-one}
 use Rattle.parity.specs.Parity.{parity}
 use Rattle.exact.specs.Exact.{Shape, sameSides, isConstant, decidedBit, low as lowOf, shape, shapeValue, evenOnly, atMostOne, exact}
 use Rattle.exact.specs.Exact.Shape.{lowLeft, lowRight, even, vanishes, other}
-use Rattle.parity.specs.LowBit.{bit, lowBit, low, Has, sharedBits, ownBits}
+use Rattle.parity.specs.LowBit.{bit, low, sharedBits, ownBits}
 use Rattle.expr.proofs.Sameness.{sameTree-true}
 use Rattle.value.proofs.Laws.{ev-typed}
 use Rattle.value.proofs.Independence.{without-own-value}
 use Rattle.parity.proofs.Choices.{poly-low, part-bits}
 use Rattle.parity.proofs.LowBits.{by-two, convert-low, number-low, even-width}
-use Rattle.parity.proofs.TypeLaws.{constant-plain, small-plain, wider-left, wider-right, together-taken}
+use Rattle.parity.proofs.TypeLaws.{constant-plain, small-plain, together-taken}
 use Rattle.parity.proofs.Evaluation.{ev-low}
 
 -- every constant of a tree is below its width

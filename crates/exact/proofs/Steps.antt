@@ -1,27 +1,26 @@
 -- The laws that the code's steps cite: constants, shapes, low bits by their polynomials, exact sides by their roots.
-use Prim.Native.Nat.{ℕ, zero, suc, _+_, _-_, _%_, _≤_, _<_}
+use Prim.Native.Nat.{ℕ, _+_, _-_, _%_, _≤_}
 use mathlib.Core.Path.{_≡_, refl, sym, ap, _∙_}
-use mathlib.Core.Bool.{Bool, true, false, cond, not, _&&_, _||_}
+use mathlib.Core.Bool.{Bool, true, false, cond, _&&_, _||_}
 use mathlib.Core.List.{List, [], _∷_}
 use mathlib.Core.Option.{Option, none, some}
 use native.Mathlib.Omega.{arith}
 use lib.Dec.{eqb, leb}
-use lib.ListN.{length, getD, take, drop}
+use lib.ListN.{length, getD, take}
 use lib.Seq.{take-length}
-use borrow.Author.Tests.{eq-eqb, ne-eqb}
+use borrow.Author.Tests.{ne-eqb}
 use Rattle.expr.specs.Tree.{Expr, Wf, treeOf, tagOf}
 use Rattle.expr.specs.Tree.Expr.{variable, constant, conditionTrue, conditionFalse, effect, load, cast, binary, ternary}
 use Rattle.expr.proofs.Laws.{kind-of}
 use Rattle.expr.proofs.Parts.{root}
-use Rattle.parity.specs.Parity.{Low, parity, difference}
+use Rattle.parity.specs.Parity.{parity, difference}
 use Rattle.parity.specs.declared.Constant as Constant
 use Rattle.parity.specs.declared.Constant.the-variants as constants
 use Rattle.parity.specs.declared.Pair.the-variants.{Sum}
 use Rattle.parity.specs.declared.Size.{Size}
 use Rattle.parity.specs.declared.Size.the-variants as sizes
-use Rattle.parity.specs.Lent.{optionOf, pairOf, atomsAt, Parts, Lent, Given}
+use Rattle.parity.specs.Lent.{optionOf, pairOf, atomsAt, Lent, Given}
 use Rattle.parity.proofs.Steps.{Told, told, passed}
-use Rattle.exact.specs.Exact as Exact
 use Rattle.exact.specs.Exact.{sameSides, valued, isConstant, decidedBit, low, shape, atMostOne, evenOnly, shapeValue, exact, shapeWritten, written, shapeFits, exactFits, isOne}
 use Rattle.exact.specs.Exact.Shape.{lowLeft, lowRight, even, vanishes, other}
 use Rattle.exact.specs.declared.Known.{Known}

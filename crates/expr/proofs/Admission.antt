@@ -3,12 +3,11 @@ use mathlib.Core.Bool.{Bool, true, false, cond}
 use mathlib.Core.List.{List}
 use mathlib.Core.Logic.{⊎-elim}
 use mathlib.Core.Path.{_≡_, refl}
-use Prim.Native.Nat.{ℕ, _*_, _^_, _<_, _≤_}
-use native.Mathlib.Omega.{arith}
+use Prim.Native.Nat.{ℕ, _*_, _^_, _<_}
 use lib.Dec.{ltb, eqb, lit<}
 use lib.ListN.{length}
-use borrow.Author.Tests.{eqb-false, lt-ltb}
-use Rattle.expr.specs.Codes.{typeCount, signed32, unsigned64, pointer, opShl, opEqual, operatorCount, noType}
+use borrow.Author.Tests.{lt-ltb}
+use Rattle.expr.specs.Codes.{typeCount, signed32, unsigned64, pointer, opShl, opEqual, operatorCount}
 use Rattle.expr.specs.Tree.{Expr}
 use Rattle.expr.specs.Tree.Expr.{variable, constant, conditionTrue, conditionFalse, effect, load, cast, binary, ternary}
 use Rattle.expr.specs.Types.{bits, signed, plainType, promoted, common, together, constantType, binaryType, typeOf}

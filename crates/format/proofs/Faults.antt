@@ -1,6 +1,6 @@
 -- An instruction is modelled, and at fault, as reading tests it, exactly where the format says so. The tests go by tables: for given
 -- operands two functions of the mnemonic's number are compared number by number, so nothing here rests on how the tests are written.
-use Prim.Native.Nat.{ℕ, _+_, _*_, _/_, _%_, _<_, _≤_}
+use Prim.Native.Nat.{ℕ, _/_, _%_, _<_, _≤_}
 use mathlib.Core.Path.{_≡_, refl, sym, _∙_}
 use mathlib.Core.Logic.{_⊎_, inl, inr, ⊎-elim}
 use mathlib.Core.Option.{Option, none, some}

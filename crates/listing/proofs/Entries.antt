@@ -8,7 +8,7 @@ use Rattle.sheet_field.specs.Field.{little}
 use Rattle.format.specs.Write.{bytes, records}
 use Rattle.format.proofs.Spans.{Spans, Stands, bytes-length, spans-cut, spans-length}
 use Rattle.verdict_lines.specs.Lines.{Line, lineBytes}
-use Rattle.listing_text.specs.Digits.{digit, digits, decimal}
+use Rattle.listing_text.specs.Digits.{digits}
 use Rattle.listing_text.specs.Text.{lineText, entryText, entriesText}
 use Rattle.listing.specs.Program.{linesText}
 

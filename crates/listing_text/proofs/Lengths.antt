@@ -1,8 +1,7 @@
 -- How many digits there are.
-use Prim.Native.Nat.{ℕ, zero, suc, _+_, _*_, _/_, _^_, _≤_, _<_}
+use Prim.Native.Nat.{ℕ, zero, suc, _/_, _^_, _≤_, _<_}
 use mathlib.Core.Path.{_≡_, refl, sym, ap, _∙_}
 use mathlib.Core.Bool.{Bool, true, false, cond}
-use mathlib.Core.List.{List, [], _∷_, _++_}
 use native.Mathlib.Numerals.{add-one}
 use native.Mathlib.Nat.{pow-suc}
 use native.Mathlib.Omega.{arith}

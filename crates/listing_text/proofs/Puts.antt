@@ -5,7 +5,7 @@ use mathlib.Core.List.{List, [], _∷_, _++_}
 use native.Mathlib.Numerals.{add-one, sub-one}
 use native.Mathlib.Nat.{add-zero, zero-add, add-suc, suc-add}
 use native.Mathlib.Omega.{arith}
-use lib.ListN.{length, drop, take, set, getD, length-append, length-set}
+use lib.ListN.{length, drop, set, getD, length-append, length-set}
 use lib.Seq.{sets, sets-eq, length-sets, set-comm, drop-cons, drop-length}
 use Rattle.listing_text.specs.Digits.{digit, digits}
 use Rattle.listing_text.specs.Contracts.{Put, Written}

@@ -10,7 +10,7 @@ use Rattle.isa.specs.declared.Operand.the-variants.{Absent, Reg, Imm, Mem}
 use Rattle.isa.specs.declared.Instruction.{Instruction}
 use Rattle.alu.specs.Width.{widthOf}
 use Rattle.known.specs.declared.Value.{Value}
-use Rattle.known.specs.declared.Value.the-variants.{Known, Unknown}
+use Rattle.known.specs.declared.Value.the-variants.{Unknown}
 use Rattle.known.specs.declared.Slot.{Slot}
 use Rattle.known.specs.Registers.{unmarked, contents, partOf, withPart}
 use Rattle.known.specs.Operations.{noFlags, immediate, forgetFlags}

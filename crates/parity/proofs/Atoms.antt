@@ -1,17 +1,17 @@
 -- Atoms by number: the list grows at its end, and a number stays the number of its atom.
-use Prim.Native.Nat.{ℕ, zero, suc, _+_, _<_, _≤_}
+use Prim.Native.Nat.{suc, _+_, _<_, _≤_}
 use mathlib.Core.Path.{_≡_, refl, sym, ap, _∙_}
-use mathlib.Core.Bool.{Bool, true, false, cond, false≢true}
+use mathlib.Core.Bool.{Bool, true, false, cond}
 use mathlib.Core.List.{List, [], _∷_, _++_, append-assoc}
 use native.Mathlib.Omega.{arith}
 use lib.Dec.{eqb, ltb}
-use lib.ListN.{length, getD, length-append}
-use borrow.Author.Tests.{lt-ltb, le-ltb, ltb-true, ltb-false}
+use lib.ListN.{length, getD}
+use borrow.Author.Tests.{ltb-true, ltb-false}
 use Rattle.expr.specs.Tree.{Expr}
 use Rattle.expr.specs.Tree.Expr.{variable, constant, conditionTrue, conditionFalse, effect, load, cast, binary, ternary}
 use Rattle.expr.specs.Scan.{hasOwnValue, sameTree}
 use Rattle.expr.proofs.Sameness.{sameTree-true, sameTree-refl}
-use Rattle.parity.specs.Parity.{Entry, Low, entered, place, numberIn, noted, atomLow, lowOf, parity}
+use Rattle.parity.specs.Parity.{Entry, entered, place, numberIn, noted, atomLow, lowOf, parity}
 use Rattle.parity.specs.Parity.Entry.{adds, multiplies, joins, keeps, clears, atom}
 
 -- a list that has another one at its front

@@ -1,10 +1,9 @@
 -- The laws of the calls by which `parity` goes through a part: what a child is lent, and what a part's polynomial is by its root.
-use Prim.Native.Nat.{ℕ, _+_, _*_, _-_, _/_, _%_, _≤_, _<_}
-use mathlib.Core.Path.{_≡_, refl, sym, ap, ap₂, subst, _∙_}
-use mathlib.Core.Bool.{Bool, true, false, cond, _&&_}
-use mathlib.Core.List.{List, [], _∷_, _++_, append-cancel-left}
+use Prim.Native.Nat.{ℕ, _+_, _-_, _%_, _≤_}
+use mathlib.Core.Path.{_≡_, refl, sym, ap, subst, _∙_}
+use mathlib.Core.Bool.{true, false}
+use mathlib.Core.List.{List, _++_, append-cancel-left}
 use native.Mathlib.Omega.{arith}
-use lib.Dec.{eqb}
 use lib.ListN.{length, getD, take, drop, length-append, length-drop}
 use lib.Seq.{length-take-le, take-take, take-add, drop-drop, take-at, drop-at, take-append-le}
 use borrow.Author.Tests.{eq-eqb, ne-eqb}
@@ -12,18 +11,17 @@ use Rattle.expr.specs.Tree.{Expr, Wf, treeOf, tagOf, flat}
 use Rattle.expr.specs.Tree.Expr.{variable, constant, conditionTrue, conditionFalse, effect, load, cast, binary, ternary}
 use Rattle.expr.proofs.Laws.{kind-of, wf-two}
 use Rattle.expr.proofs.Parts.{root}
-use Rattle.expr.proofs.Children.{TwoChildren, root-kind}
-use Rattle.parity.specs.Parity as Spec
+use Rattle.expr.proofs.Children.{TwoChildren}
 use Rattle.parity.specs.Parity.{Low, constantPoly, entered, atomLow, lowOf, parity}
 use Rattle.parity.specs.declared.Pair.{Pair}
 use Rattle.parity.specs.declared.Pair.the-variants.{Sum, Product, Or}
 use Rattle.parity.specs.declared.Entry.{Entry}
-use Rattle.parity.specs.declared.Entry.the-variants.{Both, Keeps, Clears, Atom}
+use Rattle.parity.specs.declared.Entry.the-variants.{Both}
 use Rattle.parity.specs.declared.Size.{Size}
 use Rattle.parity.specs.declared.Size.the-variants.{Of, TooMany}
-use Rattle.parity.specs.Lent.{entryOf, pairPoly, pairFits, pairLow, pairOf, atomsAt, Parts, Lent, LentTwo, Sides, Made, Given}
+use Rattle.parity.specs.Lent.{entryOf, pairPoly, pairFits, pairLow, pairOf, atomsAt, Lent, LentTwo, Sides, Made, Given}
 use Rattle.parity.proofs.Ordered.{parity-ascending, parity-few, atoms-few}
-use Rattle.parity.proofs.Steps.{Told, told, passed, made-none, told-within, length-atoms, atoms-count}
+use Rattle.parity.proofs.Steps.{Told, told, passed, made-none, told-within, atoms-count}
 
 pub wf-length : (ws : List ℕ) → Wf ws → length (flat (treeOf ws)) ≡ length ws
 unfolding Wf

@@ -1,9 +1,9 @@
 -- Polynomials and choices of atom bits. Bits by number fit a choice where each atom's number has the bit that the choice gives
 -- the atom; then a part's polynomial at those bits is its low bit for that choice. Every choice has bits by number that fit it,
 -- and all bits by number fit some choice.
-use Prim.Native.Nat.{ℕ, zero, suc, _+_, _*_, _/_, _%_, _^_, _<_, _≤_}
+use Prim.Native.Nat.{ℕ, zero, suc, _+_, _/_, _%_, _^_, _<_}
 use mathlib.Core.Path.{_≡_, refl, sym, ap, _∙_}
-use mathlib.Core.Bool.{Bool, true, false, cond, not, xor, _&&_, _||_}
+use mathlib.Core.Bool.{Bool, true, false, cond, xor, _&&_, _||_}
 use mathlib.Core.List.{List, [], _∷_, _++_, append-assoc}
 use native.Mathlib.Nat.{two-pow-succ}
 use native.Mathlib.Omega.{arith}
@@ -20,10 +20,10 @@ use Rattle.poly.specs.Terms.{sum, product}
 use Rattle.poly.specs.Meaning.{holds, value}
 use Rattle.poly.proofs.Sets.{holds-step, holds-none}
 use Rattle.poly.proofs.Values.{value-sum, value-product, value-one, xor-none}
-use Rattle.parity.specs.Parity.{Entry, Low, entered, place, numberIn, noted, constantPoly, joined, atomLow, lowOf, parity}
+use Rattle.parity.specs.Parity.{Entry, Low, entered, place, numberIn, noted, atomLow, lowOf, parity}
 use Rattle.parity.specs.Parity.Entry.{adds, multiplies, joins, keeps, clears, atom}
 use Rattle.parity.specs.LowBit.{atomBit, bitOf, lowBit}
-use Rattle.parity.proofs.Atoms.{Extends, Noting, noting, before, number-upto, place-stays, place-new, atoms-grow, extends-refl, extends-trans}
+use Rattle.parity.proofs.Atoms.{Extends, Noting, noting, before, place-stays, place-new, atoms-grow, extends-refl, extends-trans}
 use Rattle.parity.proofs.Atoms.Noting.{known, new}
 
 -- bits by the number of an atom

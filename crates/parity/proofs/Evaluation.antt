@@ -2,8 +2,8 @@
 -- `parity` enters needs all its sides, so they have values too, and the value rules keep low bits as they are entered.
 use Prim.Native.Nat.{ℕ, zero, suc, _%_, _^_, _<_, _≤_}
 use mathlib.Core.Path.{_≡_, refl, sym, ap, _∙_}
-use mathlib.Core.Bool.{Bool, true, false, cond, not, xor, _&&_, _||_, false≢true}
-use mathlib.Core.List.{List, [], _∷_}
+use mathlib.Core.Bool.{Bool, true, false, cond, not, xor, _&&_, _||_}
+use mathlib.Core.List.{List, []}
 use mathlib.Core.Option.{Option, none, some}
 use native.Mathlib.Omega.{arith}
 use native.Mathlib.Nat.{mod-eq-of-lt, pow-le-pow-right}
@@ -23,8 +23,8 @@ use Rattle.value.proofs.Laws.{ev-typed}
 use Rattle.value.proofs.Independence.{without-own-value}
 use Rattle.arith.proofs.Laws.{convert-lt, count-is, cut-lt}
 use Rattle.parity.proofs.TypeLaws.{promoted-taken, together-taken, constant-wide}
-use Rattle.parity.specs.Parity.{Entry, constantOf, onRemainder, onShift, entered}
-use Rattle.parity.specs.Parity.Entry.{adds, multiplies, joins, keeps, clears, atom}
+use Rattle.parity.specs.Parity.{constantOf, onRemainder, onShift, entered}
+use Rattle.parity.specs.Parity.Entry.{keeps, clears, atom}
 use Rattle.parity.specs.LowBit.{bit, atomBit, bitOf, lowBit, low, Has, sharedBits, ownBits}
 use Rattle.parity.proofs.LowBits.{width-low, convert-low, sum-low, difference-low, product-low, xor-low, and-low, or-low, remainder-low, shift-none, shift-some}
 

@@ -2,15 +2,14 @@
 -- what it is converted to, for a type has at least one bit; only a conversion to bool can change it.
 use Prim.Native.Nat.{ℕ, zero, suc, _+_, _*_, _-_, _/_, _%_, _^_, _<_, _≤_, min, max}
 use mathlib.Core.Path.{_≡_, refl, sym, ap, _∙_}
-use mathlib.Core.Bool.{Bool, true, false, cond, xor, _&&_, _||_, false≢true}
-use native.Mathlib.Nat.{two-pow-succ, add-mul, mul-assoc, mul-add-mod-self-left, mul-mod-right, dvd-of-mod-eq-zero, mod-mod-of-dvd, dvd-mul-right, add-mod, mod-lt, mod-eq-of-lt}
+use mathlib.Core.Bool.{Bool, true, false, xor, _&&_, _||_, false≢true}
+use native.Mathlib.Nat.{two-pow-succ, add-mul, mul-assoc, mul-add-mod-self-left, mul-mod-right, dvd-of-mod-eq-zero, mod-mod-of-dvd, dvd-mul-right, add-mod, mod-lt}
 use native.Mathlib.Omega.{arith}
 use lib.Bits.{differ, bitAnd, bitOr, bitXor, and-step, or-step, xor-step}
 use lib.Dec.{eqb}
 use lib.IntN.{ℤ, pos, negsuc, negℤ, natAbs}
 use lib.Signed.{remZ}
-use borrow.Author.Tests.{eq-eqb}
-use Rattle.arith.specs.Numbers.{negative, number, residue, wrap, convert, sum, difference, product, remainder, shiftLeft}
+use Rattle.arith.specs.Numbers.{number, residue, convert, sum, difference, product, remainder, shiftLeft}
 use Rattle.expr.specs.Types.{bits}
 use Rattle.arith.proofs.Laws.{bits-pos, by-sign, some}
 use Rattle.parity.specs.LowBit.{bit}

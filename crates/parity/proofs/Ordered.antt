@@ -1,11 +1,11 @@
 -- Laws of `parity`'s result: the polynomial is in order; within the limits it has at most 256 terms; and a part numbers no more new
 -- atoms than it has room for, four words for each but the first.
 use Prim.Native.Nat.{ℕ, _+_, _*_, _%_, _^_, _≤_}
-use mathlib.Core.Path.{_≡_, refl, sym, ap, _∙_}
+use mathlib.Core.Path.{_≡_, _∙_}
 use mathlib.Core.Bool.{Bool, true, false, cond, _&&_}
 use mathlib.Core.List.{List, [], _∷_, _++_}
 use native.Mathlib.Omega.{arith}
-use lib.Dec.{eqb, leb}
+use lib.Dec.{eqb}
 use lib.ListN.{length, length-append}
 use borrow.Author.Tests.{leb-true}
 use Rattle.expr.specs.Tree.{Expr, flat, own}

@@ -1,12 +1,12 @@
 -- Types that operands are taken at: never bool, at least 32 bits wide, and with room for the values of both operands.
-use Prim.Native.Nat.{ℕ, zero, suc, _*_, _%_, _^_, _<_, _≤_}
-use mathlib.Core.Path.{_≡_, refl, sym, ap, _∙_}
+use Prim.Native.Nat.{ℕ, zero, suc, _*_, _^_, _<_, _≤_}
+use mathlib.Core.Path.{_≡_, refl, sym, _∙_}
 use mathlib.Core.Bool.{Bool, true, false, cond, _&&_, false≢true}
 use native.Mathlib.Nat.{pow-le-pow-right, mod-eq-of-lt, two-pow-succ}
 use native.Mathlib.Omega.{arith}
 use lib.Dec.{eqb, leb, ltb}
-use lib.IntN.{ℤ, pos}
-use borrow.Author.Tests.{eq-eqb, ne-eqb, eqb-true, eqb-false, ltb-true, ltb-false, le-ltb, lt-leb}
+use lib.IntN.{pos}
+use borrow.Author.Tests.{ne-eqb, eqb-true, ltb-true, ltb-false, lt-leb}
 use Rattle.expr.specs.Codes.{signed32, unsigned8, unsigned16, unsigned32, unsigned64, pointer, bool, noType}
 use Rattle.expr.specs.Types.{bits, signed, plainType, promoted, common, together, constantType}
 use Rattle.arith.specs.Numbers.{negative, number, residue, convert}

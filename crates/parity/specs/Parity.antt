@@ -1,7 +1,7 @@
 -- `parity`: the low bit of a part as a polynomial over the low bits of its atoms (both are terms of the scope document and
 -- the Rust). An atom is a part that is not entered. Each polynomial is an ascending list of monomials (crate poly).
 use Prim.Native.Nat.{ℕ, suc, _*_, _%_, _^_}
-use mathlib.Core.Bool.{Bool, true, false, cond, not, _&&_, _||_}
+use mathlib.Core.Bool.{Bool, true, cond, not, _&&_, _||_}
 use mathlib.Core.List.{List, [], _∷_, _++_}
 use mathlib.Core.Option.{Option, none, some}
 use lib.Dec.{eqb, leb, ltb}

@@ -1,6 +1,6 @@
 -- `Ascending` by recursion on the list: nothing, or a first term that is below the next one in an ascending rest. The laws of
 -- sums and products go by it.
-use Prim.Native.Nat.{ℕ, zero, suc, _+_, _<_}
+use Prim.Native.Nat.{ℕ, zero, suc, _<_}
 use mathlib.Core.List.{List, [], _∷_}
 use native.Mathlib.Numerals.{add-one}
 use native.Mathlib.Omega.{arith}

@@ -1,19 +1,18 @@
 -- A polynomial is known by its values: two ascending lists that are alike at the bits of every monomial are equal. With it
 -- every law of sums and products of polynomials is one of truth values.
-use Prim.Native.Nat.{ℕ, _≤_, _<_}
+use Prim.Native.Nat.{ℕ, _<_}
 use mathlib.Core.Path.{_≡_, refl, sym, ap, _∙_}
-use mathlib.Core.Logic.{_⊎_, inl, inr}
-use mathlib.Core.Bool.{Bool, true, false, not, _&&_, xor, true≢false, and-comm}
+use mathlib.Core.Bool.{Bool, true, false, xor, true≢false, and-comm}
 use mathlib.Core.List.{List, [], _∷_}
 use native.Mathlib.Decide.{decLt}
 use native.Mathlib.Omega.{arith}
 use Rattle.search.specs.Ascending.{Ascending}
 use Rattle.search.proofs.Laws.{ascending-none}
 use Rattle.poly.proofs.Order.{Below, none, first, Rising, empty, more, rising, ascending}
-use Rattle.poly.specs.Terms.{toggle, sum, product}
+use Rattle.poly.specs.Terms.{sum, product}
 use Rattle.poly.specs.Meaning.{bits, holds, value}
-use Rattle.poly.proofs.Sets.{holds-own, holds-greater, holds-none}
-use Rattle.poly.proofs.Values.{xor-none, none-xor, xor-comm, xor-assoc, xor-cancel, below-lower, value-sum, value-product, value-one, ascending-sum, ascending-product}
+use Rattle.poly.proofs.Sets.{holds-own, holds-greater}
+use Rattle.poly.proofs.Values.{xor-none, xor-comm, xor-assoc, xor-cancel, below-lower, value-sum, value-product, value-one, ascending-sum, ascending-product}
 
 -- At the bits of a monomial below all terms, an ascending list is zero,
 value-below : (m : ℕ) (l : List ℕ) → Below m l → Rising l → value (bits m) l ≡ false

@@ -1,6 +1,6 @@
 -- The cases of the block verdict, over plain values.
 use Prim.Native.Nat.{ℕ, _≤_, _<_}
-use mathlib.Core.Path.{_≡_, refl, sym}
+use mathlib.Core.Path.{_≡_}
 use mathlib.Core.List.{List}
 use borrow.Author.Tests.{lt-ltb, le-ltb}
 use Rattle.verdict.specs.declared.Verdict.{Verdict}

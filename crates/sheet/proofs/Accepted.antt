@@ -1,12 +1,12 @@
 -- An accepted sheet: reading went on through every section, and the addresses rise strictly.
 use Prim.Native.Nat.{ℕ, zero, suc, _+_, _-_, _*_, _≤_, _<_}
-use mathlib.Core.Path.{_≡_, refl, sym, ap, _∙_}
+use mathlib.Core.Path.{_≡_, refl, ap, _∙_}
 use mathlib.Core.List.{List, [], _∷_, _++_}
 use native.Mathlib.Omega.{arith}
 use lib.ListN.{length, getD}
 use Rattle.sheet_field.specs.declared.Place.{Place}
 use Rattle.sheet_field.specs.declared.Place.the-variants.{At, Refused}
-use Rattle.sheet_field.specs.Field.{fieldAt, startOf, countAt, WentOn}
+use Rattle.sheet_field.specs.Field.{startOf, countAt, WentOn}
 use Rattle.sheet_field.proofs.Fields.{judge-at, field-at, count-at, count-most, count-on}
 use native.Mathlib.Numerals.{add-one}
 use Rattle.sheet_node.specs.Node.{Node, nodeAt, nodeOf}

@@ -6,7 +6,7 @@ use mathlib.Core.List.{List, [], _∷_, _++_, map}
 use native.Mathlib.Omega.{arith}
 use native.Mathlib.Numerals.{add-one}
 use lib.Dec.{eqb}
-use lib.ListN.{length, set, take, length-append, length-map}
+use lib.ListN.{length, set, take, length-map}
 use Rattle.sheet_field.specs.declared.Place.{Place}
 use Rattle.sheet_field.specs.declared.Place.the-variants.{At}
 use Rattle.sheet_field.specs.declared.Field.{Field}
@@ -15,7 +15,6 @@ use Rattle.sheet_field.proofs.Counted.{counted}
 use Rattle.isa.specs.declared.Instruction.{Instruction}
 use Rattle.sheet_instruction.specs.declared.InstructionReading.{InstructionReading}
 use Rattle.sheet_instruction.specs.Instruction.{instructionAt}
-use Rattle.sheet_node.specs.Node.{nodeAt}
 use Rattle.sheet.specs.Sheet.{InstructionsRead, NodesRead, instructionsFrom, blocksFrom, nodesFrom, sheetAt, readingOf}
 use Rattle.sheet.specs.declared.Sheet.{Sheet}
 use Rattle.sheet.specs.declared.Reading.the-variants as reading

@@ -1,7 +1,7 @@
 -- The addresses of instructions that were read whole rise strictly.
-use Prim.Native.Nat.{ℕ, zero, suc, _+_, _-_, _≤_, _<_}
-use mathlib.Core.Path.{_≡_, refl, sym, ap, _∙_}
-use mathlib.Core.List.{List, [], _∷_, _++_}
+use Prim.Native.Nat.{ℕ, zero, suc, _-_, _≤_, _<_}
+use mathlib.Core.Path.{_≡_}
+use mathlib.Core.List.{List, []}
 use native.Mathlib.Omega.{arith}
 use lib.Dec.{eqb}
 use lib.ListN.{length, getD, length-map}
@@ -10,7 +10,6 @@ use borrow.Author.Tests.{ne-eqb}
 use Rattle.sheet_field.specs.declared.Place.{Place}
 use Rattle.sheet_field.specs.declared.Place.the-variants.{At}
 use Rattle.sheet_instruction.proofs.Accepted.{instruction-on}
-use Rattle.sheet_instruction.specs.Instruction.{instructionAt}
 use Rattle.sheet.specs.Sheet.{instructionsFrom}
 use Rattle.search.specs.Ascending.{Ascending}
 use Rattle.search.proofs.Laws.{ascending-none, ascending-more}

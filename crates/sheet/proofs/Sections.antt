@@ -1,8 +1,8 @@
 -- Laws of the sections: where reading is refused, and one record more.
-use Prim.Native.Nat.{ℕ, zero, suc, _+_, _≤_}
-use mathlib.Core.Path.{_≡_, refl}
+use Prim.Native.Nat.{ℕ, suc, _+_, _≤_}
+use mathlib.Core.Path.{_≡_}
 use mathlib.Core.List.{List}
-use mathlib.Core.Bool.{Bool, true, false, false≢true}
+use mathlib.Core.Bool.{true, false, false≢true}
 use native.Mathlib.Numerals.{add-one}
 use Rattle.sheet_field.specs.declared.Place.{Place}
 use Rattle.sheet_field.specs.declared.Place.the-variants.{At, Refused}
@@ -12,7 +12,6 @@ use Rattle.sheet_field.proofs.Counted.{stopped}
 use Rattle.sheet_instruction.specs.Instruction.{registersFrom, mapAt, addressAt, headAt, tailAt, instructionAt}
 use Rattle.sheet_expression.specs.Expression.{takenFrom, expressionAt}
 use Rattle.sheet_node.specs.Node.{typesFrom, statementsFrom, addressesFrom, nodeAt}
-use Rattle.sheet.specs.declared.Sheet.{Sheet}
 use Rattle.sheet.specs.declared.Reading.{Reading}
 use Rattle.sheet.specs.Sheet.{instructionsFrom, blockAt, blocksFrom, nodesFrom, ended, sheetAt, answerOf, readingOf}
 

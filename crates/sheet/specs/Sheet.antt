@@ -13,10 +13,8 @@
 --  8 | a constant fits its width | its value's last byte | its value's first byte | recordAt
 --  9 | an assigned value has its variable's type | the statement's last byte | its map byte | typedAt
 -- The first check that fails gives the refusal; of two at one byte, the one with the lower number (R2, R3, R4).
-use Prim.Native.Nat.{ℕ, zero, suc, _+_, _*_}
-use mathlib.Core.Path.{_≡_}
+use Prim.Native.Nat.{ℕ, zero, suc, _+_}
 use mathlib.Core.List.{List, [], _∷_, _++_}
-use mathlib.Core.Bool.{Bool}
 use lib.Dec.{eqb, leb}
 use lib.ListN.{length, getD}
 use Rattle.expr.specs.Tree.Expr.{conditionTrue}
@@ -25,9 +23,7 @@ use Rattle.sheet_field.specs.declared.Place.the-variants.{At, Refused}
 use Rattle.sheet_field.specs.Field.{fieldAt, startOf, judge, countAt}
 use Rattle.isa.specs.declared.Instruction.{Instruction}
 use Rattle.sheet_instruction.specs.Instruction.{instructionAt}
-use Rattle.sheet_node.specs.declared.NodeReading.{NodeReading}
 use Rattle.sheet_node.specs.Node.{Node, nodeAt, nodeOf}
-use Rattle.sheet.specs.declared.Section.{Section}
 use Rattle.sheet.specs.declared.Sheet.{Sheet}
 use Rattle.sheet.specs.declared.Reading.{Reading}
 use Rattle.sheet.specs.declared.Reading.the-variants as reading

@@ -1,19 +1,19 @@
 -- An expression that was read whole is exactly one tree.
-use Prim.Native.Nat.{ℕ, zero, suc, _+_, _-_, _*_, _≤_, _<_}
-use mathlib.Core.Path.{_≡_, refl, sym, ap, _∙_}
-use mathlib.Core.List.{List, [], _∷_, _++_}
+use Prim.Native.Nat.{ℕ, zero, suc, _+_, _-_, _*_, _≤_}
+use mathlib.Core.Path.{_≡_, refl, _∙_}
+use mathlib.Core.List.{List}
 use mathlib.Core.Bool.{Bool, true, false, not, _||_}
 use native.Mathlib.Omega.{arith}
-use lib.Dec.{leb, eqb}
+use lib.Dec.{eqb}
 use lib.ListN.{length, take}
 use borrow.Author.Tests.{leb-true, eqb-true, eq-eqb, ne-eqb}
 use Rattle.sheet_field.specs.declared.Place.{Place}
-use Rattle.sheet_field.specs.declared.Place.the-variants.{At, Refused}
-use Rattle.sheet_field.specs.Field.{fieldAt, startOf, judge, checkField, codeAt, countAt, WentOn}
+use Rattle.sheet_field.specs.declared.Place.the-variants.{At}
+use Rattle.sheet_field.specs.Field.{fieldAt, startOf, codeAt, countAt, WentOn}
 use Rattle.sheet_field.proofs.Fields.{judge-at, check-at, field-at, code-at, count-at}
 use Rattle.expr.specs.Tree.{arityOf, Formed, Trees, treeCount, Wf}
 use Rattle.expr.proofs.Laws.{formed, trees-nil, count-nil, trees-snoc, count-snoc, trees-wf}
-use Rattle.sheet_expression.specs.Expression.{hasArgument, argumentOk, argumentAt, constantAt, fitsWidth, depthAfter, recordAt, Taken, takenMore, takenFrom, expressionAt}
+use Rattle.sheet_expression.specs.Expression.{hasArgument, argumentAt, constantAt, recordAt, Taken, takenMore, takenFrom, expressionAt}
 use Rattle.sheet_field.proofs.Counted.{back}
 use Rattle.sheet_expression.specs.Contracts.{Took}
 use Rattle.sheet_expression.proofs.Lists.{taken-length, taken-keep, took-front}

@@ -1,5 +1,5 @@
 -- Laws of records read one after the other.
-use Prim.Native.Nat.{ℕ, zero, suc, _+_, _-_, _*_, _≤_, _<_}
+use Prim.Native.Nat.{ℕ, zero, suc, _+_, _-_, _*_, _≤_}
 use mathlib.Core.Path.{_≡_, refl, sym, ap, _∙_}
 use mathlib.Core.Bool.{true, false≢true}
 use mathlib.Core.List.{List, [], _∷_, _++_, append-assoc}
@@ -9,12 +9,11 @@ use lib.ListN.{length, take, drop, set, getD, length-append, length-drop}
 use lib.Seq.{take-at, set-at, drop-cons, append-snoc}
 use Rattle.sheet_field.specs.declared.Place.{Place}
 use Rattle.sheet_expression.specs.declared.RecordReading.{RecordReading}
-use Rattle.sheet_expression.specs.Expression.{depthAfter, argumentAt, constantAt, recordAt, Taken, takenMore, takenFrom, expressionAt}
+use Rattle.sheet_expression.specs.Expression.{argumentAt, constantAt, recordAt, Taken, takenMore, takenFrom, expressionAt}
 use Rattle.sheet_expression.specs.Contracts.{Took}
-use Rattle.sheet_field.specs.declared.Place.the-variants.{At, Refused}
+use Rattle.sheet_field.specs.declared.Place.the-variants.{Refused}
 use Rattle.sheet_field.specs.declared.Field.{Field}
 use Rattle.sheet_field.specs.Field.{fieldAt, checkField, codeAt, countAt, isRefused, WentOn}
-use Rattle.sheet_field.proofs.Fields.{count-most}
 use Rattle.sheet_field.proofs.Counted.{stopped}
 
 pub taken-length : (variables total : ℕ) (s : List ℕ) (p : Place) (k : ℕ) → length (takenFrom variables total s p k .words) ≡ 2 * k

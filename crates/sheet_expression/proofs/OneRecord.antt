@@ -1,6 +1,6 @@
 -- Laws of one record: its argument is small, and the record from its parts.
-use Prim.Native.Nat.{ℕ, zero, suc, _+_, _-_, _*_, _≤_, _<_}
-use mathlib.Core.Path.{_≡_, refl, sym}
+use Prim.Native.Nat.{ℕ, _+_, _-_, _*_, _≤_}
+use mathlib.Core.Path.{_≡_, refl}
 use mathlib.Core.Logic.{_⊎_, inl, inr, ⊎-elim}
 use mathlib.Core.List.{List}
 use mathlib.Core.Bool.{Bool, true, false, not, _&&_, _||_}
@@ -9,7 +9,7 @@ use native.Mathlib.Omega.{arith}
 use borrow.Author.Tests.{ltb-true, eqb-true, eq-eqb, ne-eqb}
 use Rattle.sheet_field.specs.declared.Place.{Place}
 use Rattle.sheet_field.specs.declared.Field.{Field}
-use Rattle.sheet_field.specs.Field.{fieldAt, startOf, judge, checkField, codeAt, countAt}
+use Rattle.sheet_field.specs.Field.{fieldAt, startOf, judge, checkField, codeAt}
 use Rattle.sheet_field.proofs.Fields.{check-below}
 use Rattle.expr.specs.Tree.{arityOf}
 use Rattle.sheet_expression.specs.declared.RecordReading.{RecordReading}

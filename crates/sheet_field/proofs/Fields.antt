@@ -1,13 +1,13 @@
 -- Laws of `little` and `fieldAt`.
 use Prim.Native.Nat.{ℕ, zero, suc, _+_, _*_, _^_, _≤_, _<_}
-use mathlib.Core.Path.{_≡_, refl, ap, sym, subst}
+use mathlib.Core.Path.{_≡_, refl}
 use mathlib.Core.List.{List}
 use lib.ListN.{length, getD}
 use native.Mathlib.Omega.{arith}
 use native.Mathlib.Numerals.{add-one}
 use native.Mathlib.Nat.{add-zero, zero-add, add-suc, suc-add, pow-suc}
 use borrow.Author.Tests.{le-leb, lt-leb}
-use mathlib.Core.Bool.{Bool, true, false, _&&_}
+use mathlib.Core.Bool.{Bool, true, false}
 use lib.Dec.{leb}
 use borrow.Author.Tests.{leb-true, ltb-true}
 use Rattle.sheet_field.specs.Field.{little, fieldAt, checkField, countAt, judge, keep, startOf, codeAt, WentOn}

@@ -1,8 +1,8 @@
 -- Where reading goes on after an instruction, it went on before it, and its address is above the one before.
-use Prim.Native.Nat.{ℕ, zero, suc, _+_, _<_}
+use Prim.Native.Nat.{ℕ, suc, _<_}
 use mathlib.Core.Path.{_≡_, refl, sym, _∙_}
 use mathlib.Core.List.{List}
-use mathlib.Core.Bool.{Bool, true, false, not, _||_}
+use mathlib.Core.Bool.{Bool, true, false, _||_}
 use native.Mathlib.Omega.{arith}
 use lib.Dec.{eqb, ltb}
 use borrow.Author.Tests.{ltb-true, not-true}
@@ -14,7 +14,7 @@ use Rattle.sheet_field.specs.declared.Place.{Place}
 use Rattle.sheet_field.specs.declared.Place.the-variants.{At, Refused}
 use Rattle.sheet_field.specs.declared.Field.{Field}
 use Rattle.sheet_field.specs.Field.{fieldAt, startOf, codeAt, countAt, checkField, judge, keep, WentOn}
-use Rattle.sheet_field.proofs.Fields.{judge-at, check-at, field-at, code-at, count-at, not-both, field-on, code-on}
+use Rattle.sheet_field.proofs.Fields.{judge-at, check-at, count-at, not-both, field-on, code-on}
 use Rattle.sheet_field.proofs.Counted.{back}
 use Rattle.sheet_instruction.specs.Instruction.{registerAt, operandAt, withRegister, registersFrom, registersAt, optionalRegisters, optionalOperand, optionalField, optionalCode, bitOf, mapAt, addressAt, headAt, tailAt, instructionAt}
 

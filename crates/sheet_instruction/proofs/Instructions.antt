@@ -1,6 +1,6 @@
 -- The cases of the definitions of instruction records, over plain values.
 use Prim.Native.Nat.{ℕ, zero, suc, _+_, _≤_, _<_}
-use mathlib.Core.Path.{_≡_, refl, ap, sym, subst, _∙_}
+use mathlib.Core.Path.{_≡_, refl, ap, sym, _∙_}
 use mathlib.Core.List.{List, _∷_}
 use mathlib.Core.Logic.{⊎-elim}
 use native.Mathlib.Nat.{eq-or-lt-of-le}
@@ -8,25 +8,24 @@ use lib.ListN.{set, replicate}
 use lib.Seq.{set-comm}
 use Rattle.isa.specs.declared.Register.{Register}
 use borrow.Author.Tests.{eq-eqb, ne-eqb}
-use Rattle.isa.specs.declared.Operand.the-variants.{Absent, Reg, Imm, Mem}
+use Rattle.isa.specs.declared.Operand.the-variants.{Reg, Imm, Mem}
 use Rattle.sheet_field.specs.declared.Place.{Place}
 use Rattle.sheet_field.specs.declared.Field.{Field}
 use Rattle.sheet_instruction.specs.declared.RegisterReading.{RegisterReading}
 use Rattle.sheet_instruction.specs.declared.OperandReading.{OperandReading}
 use Rattle.sheet_field.specs.Field.{fieldAt, codeAt}
-use Rattle.sheet_field.specs.Field.{checkField, countAt, judge, keep, startOf, isRefused}
+use Rattle.sheet_field.specs.Field.{judge, startOf, isRefused}
 use Rattle.sheet_field.proofs.Fields.{check-below}
 use Rattle.sheet_instruction.specs.Instruction.{registerAt, operandAt, withRegister, registersFrom, bitOf, optionalOperand, optionalRegisters, optionalCode, headAt, tailAt, instructionAt}
-use Rattle.isa.specs.declared.Instruction.{Instruction}
 use Rattle.isa.specs.Modelled.{atFault}
 use Rattle.sheet_instruction.specs.declared.Head.{Head}
 use Rattle.sheet_instruction.specs.declared.Tail.{Tail}
 use Rattle.sheet_instruction.specs.declared.InstructionReading.{InstructionReading}
 use native.Mathlib.Numerals.{add-one}
 use native.Mathlib.Omega.{arith}
-use mathlib.Core.Bool.{Bool, true, false, not, _&&_, false≢true}
-use lib.Dec.{leb, ltb}
-use borrow.Author.Tests.{leb-true, ltb-true}
+use mathlib.Core.Bool.{Bool, true, not, false≢true}
+use lib.Dec.{ltb}
+use borrow.Author.Tests.{ltb-true}
 use Rattle.sheet_field.specs.declared.Place.the-variants.{At, Refused}
 use Rattle.sheet_instruction.specs.declared.Registers.{Registers}
 

@@ -1,5 +1,5 @@
 -- Where reading goes on after a statement or a node, it went on before it.
-use Prim.Native.Nat.{ℕ, zero, suc, _+_, _≤_, _<_}
+use Prim.Native.Nat.{ℕ, suc, _+_, _≤_, _<_}
 use mathlib.Core.Path.{_≡_, refl, sym, ap, _∙_}
 use mathlib.Core.List.{List, [], _∷_, _++_}
 use native.Mathlib.Omega.{arith}
@@ -12,7 +12,7 @@ use Rattle.expr.specs.Statement.{Statement}
 use Rattle.sheet_field.specs.declared.Place.{Place}
 use Rattle.sheet_field.specs.declared.Place.the-variants.{At}
 use Rattle.sheet_field.specs.Field.{fieldAt, startOf, codeAt, countAt, WentOn}
-use Rattle.sheet_field.proofs.Fields.{judge-at, check-at, field-at, code-at, count-at, count-most, count-on}
+use Rattle.sheet_field.proofs.Fields.{judge-at, check-at, field-at, code-at, count-most, count-on}
 use Rattle.sheet_expression.specs.Expression.{expressionAt}
 use Rattle.sheet_expression.proofs.Accepted.{one-tree}
 use Rattle.sheet_field.proofs.Counted.{back, counted, nth}

@@ -3,14 +3,13 @@
 use Prim.Native.Nat.{ℕ, suc, _+_, _*_, _-_, _≤_, _<_}
 use mathlib.Core.Path.{_≡_, refl, sym, ap, subst, _∙_}
 use mathlib.Core.Bool.{Bool, true, false, cond, false≢true}
-use mathlib.Core.List.{List, [], _∷_, _++_}
+use mathlib.Core.List.{List, [], _∷_}
 use native.Mathlib.Omega.{arith}
 use native.Mathlib.Numerals.{add-one}
 use lib.ListN.{length, getD, take, drop, replicate, drop-of-length-le}
 use lib.Seq.{drop-cons}
 use Rattle.sheet_field.specs.Field.{WentOn}
 use Rattle.sheet_field.specs.declared.Place.{Place}
-use Rattle.sheet_field.specs.declared.Place.the-variants.{At}
 use Rattle.expr.specs.Tree.{Expr, Wf, treeOf}
 use Rattle.expr.proofs.Laws.{wf-flat, treeOf-flat}
 use Rattle.expr.specs.Statement.{Statement}

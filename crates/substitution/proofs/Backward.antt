@@ -8,7 +8,7 @@ use mathlib.Core.Bool.{Bool, true, false, cond, _&&_, false≢true}
 use mathlib.Core.List.{List, [], _∷_, _++_, map, append-assoc, append-nil}
 use native.Mathlib.Decide.{decLt}
 use native.Mathlib.Omega.{arith}
-use lib.Dec.{eqb, ltb, lit<}
+use lib.Dec.{eqb, lit<}
 use lib.ListN.{length, getD, take, drop, length-append, length-take, length-drop, List·getD-eq-default}
 use lib.Seq.{paste, take-add, take-length, take-append-add, drop-append-add, drop-length, drop-at, length-take-le}
 use borrow.Author.Tests.{eq-eqb, ne-eqb, eqb-true, lt-ltb, le-ltb}

@@ -1,13 +1,13 @@
 -- The held table in lent words: what an entry reads, and what ends, clears or stores an entry.
-use Prim.Native.Nat.{ℕ, zero, suc, _+_, _*_, _-_, _≤_, _<_}
-use mathlib.Core.Path.{_≡_, refl, sym, ap, ap₂, subst, fun-ext, _∙_}
+use Prim.Native.Nat.{ℕ, _+_, _*_, _-_, _≤_, _<_}
+use mathlib.Core.Path.{_≡_, refl, sym, ap, subst, fun-ext, _∙_}
 use mathlib.Core.Logic.{_⊎_, inl, inr}
-use mathlib.Core.Bool.{Bool, true, false, cond, not, _&&_, _||_, false≢true}
-use mathlib.Core.List.{List, [], _∷_, _++_, append-assoc}
+use mathlib.Core.Bool.{Bool, true, false, cond, not, _&&_, _||_}
+use mathlib.Core.List.{List, _++_, append-assoc}
 use native.Mathlib.Decide.{decLt, ℕ-discrete}
 use native.Mathlib.Omega.{arith}
 use lib.Dec.{eqb, lit<}
-use lib.ListN.{length, getD, take, drop, set, length-append, length-take, length-drop, length-set, take-append-drop, List·getD-eq-default, replicate, length-replicate, getD-replicate}
+use lib.ListN.{length, getD, take, drop, set, length-drop, length-set, take-append-drop, List·getD-eq-default, replicate, length-replicate, getD-replicate}
 use lib.Seq.{paste, drop-paste, length-paste, drop-drop, drop-append-le, take-append-le, take-length, drop-at, take-at, length-take-le, getD-set-same, getD-set-other, ext-getD}
 use borrow.Author.Tests.{eq-eqb, ne-eqb, eqb-true, eqb-false}
 use Rattle.expr.specs.Codes.{kindVariable}
@@ -16,7 +16,7 @@ use Rattle.expr.specs.Tree.Expr.{variable, constant, conditionTrue, conditionFa
 use Rattle.expr.specs.Scan.{anyNode, anyTag, plainExpr, reads}
 use Rattle.expr.proofs.Scans.{any-tree, any-here, any-on, any-end}
 use Rattle.expr.proofs.Laws.{kind-of, argument-of, wf-two}
-use Rattle.substitution.specs.Substitution.{Entry, free, held, Table, nothingHeld, entryReads, kept, ended, holdable, entryOf, assigned}
+use Rattle.substitution.specs.Substitution.{free, held, Table, nothingHeld, entryReads, kept, ended, holdable, entryOf, assigned}
 use Rattle.substitution.specs.Words.{slot, tableOf, Slots, Holds, endedTag, keptLength}
 use Rattle.substitution.proofs.Backward.{part, part-is, held-slot}
 

@@ -1,18 +1,16 @@
 -- Substitution keeps the static type, up to pointer and unsigned 64, and the value: where what stands for each variable evaluates to the variable's
 -- present value, the substituted expression evaluates to what the expression does at the present values. Loads are not substituted: their addresses are
 -- evaluated at the present values in both.
-use mathlib.Core.Path.{_≡_, refl, sym, ap, ap₂, _∙_}
-use mathlib.Core.List.{List, []}
+use mathlib.Core.Path.{_≡_, refl, ap, ap₂, _∙_}
+use mathlib.Core.List.{List}
 use Prim.Native.Nat.{ℕ}
 use lib.ListN.{getD}
 use Rattle.expr.specs.Tree.{Expr}
 use Rattle.expr.specs.Tree.Expr.{variable, constant, conditionTrue, conditionFalse, effect, load, cast, binary, ternary}
-use Rattle.expr.specs.Types.{plainType, promoted, together, binaryType, typeOf}
-use Rattle.value.specs.declared.Value.{Value}
-use Rattle.value.specs.declared.Truth.{Truth}
-use Rattle.value.specs.Operators.{chosen, taken, truthOf, operate, choose}
+use Rattle.expr.specs.Types.{plainType, together, typeOf}
+use Rattle.value.specs.Operators.{chosen, taken, operate}
 use Rattle.value.specs.Evaluation.{Values, Memory, Effects, under, ev}
-use Rattle.substitution.specs.Substitution.{Entry, free, held, Table, standing, substitute}
+use Rattle.substitution.specs.Substitution.{Table, standing, substitute}
 use Rattle.substitution.proofs.Alike.{Alike, taken-alike, together-alike, binary-alike, operate-alike}
 
 -- what stands for each variable has the variable's type

@@ -5,20 +5,19 @@
 -- their present value already. It may read a variable w that is held itself, by the value from before; what ends w must then end it too. That is why
 -- it reads all that w's expression reads (`closed`), and why a new value that reads a variable whose held value just ends is not held (N16).
 use mathlib.Core.Path.{_≡_, refl, sym, ap, _∙_}
-use mathlib.Core.Logic.{_⊎_, inl, inr}
-use mathlib.Core.Bool.{Bool, true, false, cond, not, _&&_, _||_, false≢true}
+use mathlib.Core.Bool.{Bool, true, false, cond, not, _||_, false≢true}
 use mathlib.Core.List.{List, [], _∷_}
-use Prim.Native.Nat.{ℕ, suc, _%_, _^_, _<_}
+use Prim.Native.Nat.{ℕ, suc, _^_, _<_}
 use native.Mathlib.Nat.{mod-eq-of-lt}
 use native.Mathlib.Omega.{arith}
-use lib.Dec.{eqb, ltb}
+use lib.Dec.{eqb}
 use lib.ListN.{getD}
 use borrow.Author.Tests.{eq-eqb, ne-eqb, eqb-true, eqb-false, not-true}
 use Rattle.expr.specs.Tree.{Expr}
 use Rattle.expr.specs.Tree.Expr.{variable, constant, conditionTrue, conditionFalse, effect, load, cast, binary, ternary}
 use Rattle.expr.specs.Statement.{Statement}
 use Rattle.expr.specs.Statement.Statement.{assignment, other}
-use Rattle.expr.specs.Scan.{anyNode, isVariable, isLoad, isEffect, hasLoad, plainExpr, reads}
+use Rattle.expr.specs.Scan.{anyNode, isVariable, isLoad, hasLoad, plainExpr, reads}
 use Rattle.expr.specs.Types.{typeOf}
 use Rattle.expr.specs.Admission.{AdmittedAll}
 use Rattle.expr.proofs.Plainness.{plain-parts}
@@ -27,13 +26,13 @@ use Rattle.value.specs.declared.Value.{Value}
 use Rattle.value.specs.declared.Value.the-variants.{Of, NoValue}
 use Rattle.value.specs.declared.Truth.{Truth}
 use Rattle.value.specs.declared.Truth.the-variants.{NoOutcome}
-use Rattle.value.specs.Operators.{Typed, chosen, truthOf}
+use Rattle.value.specs.Operators.{chosen, truthOf}
 use Rattle.value.specs.Evaluation.{Values, Contents, Memory, Effects, shared, ev}
 use Rattle.value.specs.Run.{Choices, update, given, runFrom, run}
 use Rattle.value.proofs.Laws.{ev-typed}
 use Rattle.value.proofs.Independence.{Agree, by-variables-read}
 use Rattle.value.proofs.Steps.{Plain, plain-ev}
-use Rattle.substitution.specs.Substitution.{Entry, free, held, Table, nothingHeld, standing, substitute, entryReads, kept, ended, holdable, entryOf, assigned, long, Substituted, tooLong, into, substituted, withAssignments}
+use Rattle.substitution.specs.Substitution.{Entry, free, held, Table, nothingHeld, standing, substitute, entryReads, kept, ended, holdable, entryOf, assigned, long, tooLong, into, substituted, withAssignments}
 use Rattle.substitution.proofs.Alike.{Alike, same-alike, bits-alike}
 use Rattle.substitution.proofs.Kept.{StandsTyped, StandsFor, type-kept, value-kept}
 use Rattle.laws.proofs.Booleans.{and-left, and-right, or-none}

@@ -1,6 +1,6 @@
 -- What a substitution has written, as the value of an assignment.
 use mathlib.Core.Path.{_≡_, refl, sym, ap, subst, _∙_}
-use mathlib.Core.Bool.{Bool, true, false}
+use mathlib.Core.Bool.{true, false}
 use mathlib.Core.List.{List}
 use Prim.Native.Nat.{ℕ, _-_, _≤_, _<_}
 use native.Mathlib.Omega.{arith}
@@ -10,7 +10,7 @@ use Rattle.expr.specs.Tree.{Expr, Wf, flat, treeOf}
 use Rattle.expr.proofs.Laws.{flat-two, wf-flat, treeOf-flat}
 use Rattle.substitution.specs.declared.Written.{Written}
 use Rattle.substitution.specs.declared.Written.the-variants.{From, TooLong}
-use Rattle.substitution.specs.Substitution.{Table, substitute, assigned, long}
+use Rattle.substitution.specs.Substitution.{Table, assigned, long}
 use Rattle.substitution.specs.Words.{Slots, tableOf, Holds, Made}
 
 -- the table as it stands holds what it holds

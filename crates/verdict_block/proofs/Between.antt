@@ -1,6 +1,6 @@
 -- Laws of stepping over a range of instructions.
-use Prim.Native.Nat.{ℕ, suc, _+_, _≤_, _<_}
-use mathlib.Core.Path.{_≡_, refl, sym, ap, _∙_}
+use Prim.Native.Nat.{ℕ, _+_, _≤_, _<_}
+use mathlib.Core.Path.{_≡_, refl, ap}
 use mathlib.Core.List.{List, [], _∷_, _++_}
 use native.Mathlib.Omega.{arith}
 use native.Mathlib.Numerals.{add-one}
@@ -9,7 +9,6 @@ use lib.Seq.{slice, slice-cons, length-take-le, take-suc, drop-append-le}
 use Rattle.isa.specs.declared.Instruction.{Instruction}
 use Rattle.machine.specs.declared.State.{State}
 use Rattle.machine.specs.Rules.{stepped, steppedAll}
-use Rattle.verdict_block.specs.declared.End.{End}
 use Rattle.verdict_block.specs.declared.Jump.{Jump}
 use Rattle.verdict_block.specs.declared.Jump.the-variants.{Nothing}
 use Rattle.verdict_block.specs.Verdict.{preceded, apart, jumpOf, endFrom}

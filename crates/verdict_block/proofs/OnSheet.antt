@@ -1,11 +1,11 @@
 -- A block of an accepted sheet, found by the index.
-use Prim.Native.Nat.{ℕ, _≤_, _<_}
-use mathlib.Core.Path.{_≡_, refl, sym, _∙_}
+use Prim.Native.Nat.{ℕ, _≤_}
+use mathlib.Core.Path.{_≡_, sym, _∙_}
 use mathlib.Core.List.{List}
 use lib.ListN.{length, getD, length-map}
 use lib.Seq.{slice}
 use Rattle.machine.specs.declared.State.{State}
-use Rattle.search.specs.Ascending.{Ascending, countBelow}
+use Rattle.search.specs.Ascending.{countBelow}
 use Rattle.search.proofs.Laws.{count-splits}
 use Rattle.sheet.specs.declared.Block.{Block}
 use Rattle.sheet.specs.declared.Sheet.{Sheet}

@@ -1,16 +1,16 @@
 -- In a list whose addresses rise, the instructions of a range are those between two counts.
-use Prim.Native.Nat.{ℕ, zero, suc, _+_, _-_, _≤_, _<_}
-use mathlib.Core.Path.{_≡_, refl, sym, ap, _∙_}
+use Prim.Native.Nat.{ℕ, suc, _-_, _≤_, _<_}
+use mathlib.Core.Path.{_≡_, refl, sym, ap}
 use mathlib.Core.List.{List, [], _∷_}
 use mathlib.Core.Bool.{Bool, true, false, cond, _&&_}
 use native.Mathlib.Omega.{arith}
 use lib.Dec.{leb, ltb}
-use lib.ListN.{length, getD, take, drop}
+use lib.ListN.{length, getD}
 use lib.Seq.{slice}
-use borrow.Author.Tests.{lt-ltb, le-ltb, le-leb, lt-leb, ltb-true, ltb-false, leb-true, leb-false}
+use borrow.Author.Tests.{le-ltb, le-leb, lt-leb, ltb-true, ltb-false}
 use Rattle.isa.specs.declared.Instruction.{Instruction}
 use Rattle.search.specs.Ascending.{Ascending, countBelow}
-use Rattle.search.proofs.Laws.{ascending-rest, ascending-below, count-is, Bracket}
+use Rattle.search.proofs.Laws.{ascending-rest, ascending-below, count-is}
 use Rattle.sheet.specs.Index.{addressesOf}
 use Rattle.verdict_block.specs.Verdict.{within}
 

@@ -10,7 +10,6 @@ use Rattle.verdict.specs.declared.Reason.{Reason}
 use Rattle.verdict.specs.declared.Reason.the-variants.{Flags, EqualSides, Truth, UnsignedZero, ExactSides, Parity, Halves}
 use Rattle.verdict.specs.declared.Verdict.{Verdict}
 use Rattle.verdict.specs.Numbers.{reasonNumber}
-use Rattle.verdict_lines.specs.Lines.{Line}
 use Rattle.verdict_lines.specs.Slots.{slotOf, keptSlot, kept, decidedOf, decidedIn, slotLine, linesIn}
 
 -- the numbers of reasons are 1 to 7

@@ -4,7 +4,7 @@ use mathlib.Core.Path.{_≡_, refl, sym, ap, _∙_}
 use mathlib.Core.List.{List, [], _∷_, _++_}
 use native.Mathlib.Omega.{arith}
 use native.Mathlib.Numerals.{add-one}
-use lib.ListN.{length, set, take, drop, length-set, take-append-drop}
+use lib.ListN.{length, set, length-set, take-append-drop}
 use Rattle.sheet.specs.Index.{over}
 use Rattle.format.specs.Write.{bytes}
 use Rattle.verdict_lines.specs.Slots.{putAt}

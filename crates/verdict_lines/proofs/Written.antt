@@ -6,7 +6,6 @@ use native.Mathlib.Omega.{arith}
 use native.Mathlib.Numerals.{add-one}
 use lib.ListN.{length, getD, set, drop, length-append, drop-of-length-le}
 use lib.Seq.{drop-cons}
-use Rattle.sheet.specs.Index.{over}
 use Rattle.format.specs.Write.{bytes, records}
 use Rattle.format.proofs.Spans.{bytes-length}
 use Rattle.verdict_lines.specs.Lines.{Line, lineBytes}

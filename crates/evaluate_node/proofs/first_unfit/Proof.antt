@@ -8,10 +8,6 @@ use Rattle.evaluate_node.specs.Evaluate.{unfitFrom}
 use Rattle.evaluate_node.proofs.Laws.{unfit-missing, unfit-here, unfit-next, unfit-none}
 use Rattle.evaluate_node.proofs.first_unfit.Statement.{statement}
 use Rattle.evaluate_node.proofs.first_unfit.Tie as tie
-use Rattle.evaluate_node.proofs.first_unfit.Reads as reads
-use Rattle.evaluate_node.proofs.first_unfit.Lts as lts
-use Rattle.arith.proofs.fits.Reads as fits-reads
-use Rattle.evaluate_node.proofs.wide.Reads as wide-reads
 
 abbrev Inv-loop : tie.InvT-loop
 Inv-loop types values v₀ v =

@@ -1,8 +1,6 @@
 use borrow.Author.Needs.{needs}
 use Rattle.evaluate_node.proofs.outcome.Statement.{statement}
 use Rattle.evaluate_node.proofs.outcome.Tie as tie
-use Rattle.evaluate_node.proofs.outcome.Reads as reads
-use Rattle.evaluate_node.proofs.outcome.Lts as lts
 
 enum-told : tie.Need-enum-told
 enum-told c = search needs

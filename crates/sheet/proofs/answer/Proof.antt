@@ -1,8 +1,6 @@
 use borrow.Author.Needs.{needs}
 use Rattle.sheet.proofs.answer.Statement.{statement}
 use Rattle.sheet.proofs.answer.Tie as tie
-use Rattle.sheet.proofs.answer.Reads as reads
-use Rattle.sheet.proofs.answer.Lts as lts
 
 enum-told : tie.Need-enum-told
 enum-told c = search needs

@@ -6,10 +6,6 @@ use mathlib.Core.Path.{_≡_, refl, sym, _∙_}
 use Prim.Native.Nat.{_≤_, _-_}
 use Rattle.sheet.proofs.check_blocks.Statement.{statement}
 use Rattle.sheet.proofs.check_blocks.Tie as tie
-use Rattle.sheet.proofs.check_blocks.Reads as reads
-use Rattle.sheet.proofs.check_blocks.Lts as lts
-use Rattle.sheet.proofs.take_block.Reads as take-block-reads
-use Rattle.sheet_field.proofs.is_refused.Reads as is-refused-reads
 
 abbrev Inv-loop : tie.InvT-loop
 Inv-loop s n next₀ i₀ next i =

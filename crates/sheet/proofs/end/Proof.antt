@@ -1,10 +1,6 @@
 use borrow.Author.Needs.{needs}
 use Rattle.sheet.proofs.end.Statement.{statement}
 use Rattle.sheet.proofs.end.Tie as tie
-use Rattle.sheet.proofs.end.Reads as reads
-use Rattle.sheet.proofs.end.Lts as lts
-use Rattle.sheet_field.proofs.judged.Reads as judged-reads
-use Rattle.sheet_field.proofs.start.Reads as start-reads
 
 start-requires : tie.Need-start-requires
 start-requires c κs = search needs

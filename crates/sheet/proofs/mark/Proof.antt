@@ -2,8 +2,6 @@ use Rattle.sheet.proofs.Fronts.{past}
 use borrow.Author.Needs.{needs}
 use Rattle.sheet.proofs.mark.Statement.{statement}
 use Rattle.sheet.proofs.mark.Tie as tie
-use Rattle.sheet.proofs.mark.Reads as reads
-use Rattle.sheet.proofs.mark.Lts as lts
 
 slice-write-list : tie.Need-slice-write-list
 slice-write-list c = search needs

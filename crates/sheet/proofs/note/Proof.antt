@@ -2,8 +2,6 @@ use Rattle.sheet.proofs.Fronts.{past}
 use borrow.Author.Needs.{needs}
 use Rattle.sheet.proofs.note.Statement.{statement}
 use Rattle.sheet.proofs.note.Tie as tie
-use Rattle.sheet.proofs.note.Reads as reads
-use Rattle.sheet.proofs.note.Lts as lts
 
 mul-list : tie.Need-mul-list
 mul-list c = search needs

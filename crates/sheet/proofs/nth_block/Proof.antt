@@ -4,9 +4,6 @@ use native.Mathlib.Omega.{arith}
 use borrow.Author.Needs.{needs}
 use Rattle.sheet.proofs.nth_block.Statement.{statement}
 use Rattle.sheet.proofs.nth_block.Tie as tie
-use Rattle.sheet.proofs.nth_block.Reads as reads
-use Rattle.sheet.proofs.nth_block.Lts as lts
-use Rattle.sheet.proofs.take_block.Reads as take-block-reads
 
 mul-t7 : tie.Need-mul-t7
 mul-t7 c = omega (arith, blocks-inside (c .before .before .args .s .now) (c .before .before .args .sheet) (c .before .before .pre .0), c .before .before .pre .1, c .before .before .good)

@@ -2,9 +2,6 @@ use Rattle.sheet.proofs.ByNumber.{nth-instruction-is}
 use borrow.Author.Needs.{needs}
 use Rattle.sheet.proofs.nth_instruction.Statement.{statement}
 use Rattle.sheet.proofs.nth_instruction.Tie as tie
-use Rattle.sheet.proofs.nth_instruction.Reads as reads
-use Rattle.sheet.proofs.nth_instruction.Lts as lts
-use Rattle.sheet_instruction.proofs.take_instruction.Reads as take-instruction-reads
 
 mul-at : tie.Need-mul-at
 mul-at c = search needs

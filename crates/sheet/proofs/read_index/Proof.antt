@@ -4,15 +4,6 @@ use Rattle.sheet.proofs.Sections.{reading-is}
 use borrow.Author.Needs.{needs}
 use Rattle.sheet.proofs.read_index.Statement.{statement}
 use Rattle.sheet.proofs.read_index.Tie as tie
-use Rattle.sheet.proofs.read_index.Reads as reads
-use Rattle.sheet.proofs.read_index.Lts as lts
-use Rattle.sheet.proofs.answer.Reads as answer-reads
-use Rattle.sheet.proofs.check_blocks.Reads as check-blocks-reads
-use Rattle.sheet.proofs.end.Reads as end-reads
-use Rattle.sheet.proofs.read_instructions.Reads as read-instructions-reads
-use Rattle.sheet.proofs.read_nodes.Reads as read-nodes-reads
-use Rattle.sheet_field.proofs.count.Reads as count-reads
-use Rattle.sheet_field.proofs.start.Reads as start-reads
 
 count-requires : tie.Need-count-requires
 count-requires c κs = search needs

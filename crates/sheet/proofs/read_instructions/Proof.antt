@@ -5,17 +5,10 @@ use mathlib.Core.Path.{ap}
 use lib.ListN.{length}
 use native.Mathlib.Omega.{arith}
 use borrow.Author.Needs.{needs}
-use mathlib.Core.Path.{_≡_, refl, sym, _∙_}
+use mathlib.Core.Path.{_≡_, sym, _∙_}
 use Prim.Native.Nat.{_≤_, _-_}
 use Rattle.sheet.proofs.read_instructions.Statement.{statement}
 use Rattle.sheet.proofs.read_instructions.Tie as tie
-use Rattle.sheet.proofs.read_instructions.Reads as reads
-use Rattle.sheet.proofs.read_instructions.Lts as lts
-use Rattle.sheet.proofs.mark.Reads as mark-reads
-use Rattle.sheet.proofs.note.Reads as note-reads
-use Rattle.sheet_field.proofs.is_refused.Reads as is-refused-reads
-use Rattle.sheet_field.proofs.start.Reads as start-reads
-use Rattle.sheet_instruction.proofs.take_instruction.Reads as take-instruction-reads
 
 abbrev Inv-loop : tie.InvT-loop
 Inv-loop s n addresses₀ places₀ targets₀ branches₀ last₀ next₀ i₀ addresses places targets branches last next i =

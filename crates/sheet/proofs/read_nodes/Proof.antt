@@ -10,12 +10,6 @@ use mathlib.Core.Path.{_≡_, refl, sym, _∙_}
 use Prim.Native.Nat.{_≤_, _-_}
 use Rattle.sheet.proofs.read_nodes.Statement.{statement}
 use Rattle.sheet.proofs.read_nodes.Tie as tie
-use Rattle.sheet.proofs.read_nodes.Reads as reads
-use Rattle.sheet.proofs.read_nodes.Lts as lts
-use Rattle.sheet.proofs.note.Reads as note-reads
-use Rattle.sheet_field.proofs.is_refused.Reads as is-refused-reads
-use Rattle.sheet_field.proofs.start.Reads as start-reads
-use Rattle.sheet_node.proofs.take_node.Reads as take-node-reads
 
 abbrev Inv-loop : tie.InvT-loop
 Inv-loop s n words₀ places₀ next₀ i₀ words places next i =

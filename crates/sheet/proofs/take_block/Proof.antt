@@ -2,9 +2,6 @@ use Rattle.sheet.specs.Sheet.{blockAt}
 use borrow.Author.Needs.{needs}
 use Rattle.sheet.proofs.take_block.Statement.{statement}
 use Rattle.sheet.proofs.take_block.Tie as tie
-use Rattle.sheet.proofs.take_block.Reads as reads
-use Rattle.sheet.proofs.take_block.Lts as lts
-use Rattle.sheet_field.proofs.take_field.Reads as take-field-reads
 
 take-field-requires : tie.Need-take-field-requires
 take-field-requires c κs = search needs

@@ -2,13 +2,6 @@ use Rattle.sheet_expression.proofs.OneRecord.{argument-there, argument-
 use borrow.Author.Needs.{needs}
 use Rattle.sheet_expression.proofs.take_argument.Statement.{statement}
 use Rattle.sheet_expression.proofs.take_argument.Tie as tie
-use Rattle.sheet_expression.proofs.take_argument.Reads as reads
-use Rattle.sheet_expression.proofs.take_argument.Lts as lts
-use Rattle.sheet_expression.proofs.argument_ok.Reads as argument-ok-reads
-use Rattle.sheet_expression.proofs.has_argument.Reads as has-argument-reads
-use Rattle.sheet_field.proofs.checked.Reads as checked-reads
-use Rattle.sheet_field.proofs.start.Reads as start-reads
-use Rattle.sheet_field.proofs.take_field.Reads as take-field-reads
 
 has-argument-requires : tie.Need-has-argument-requires
 has-argument-requires c κs = search needs

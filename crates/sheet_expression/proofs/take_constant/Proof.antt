@@ -2,9 +2,6 @@ use Rattle.sheet_expression.proofs.OneRecord.{constant-there, constant-
 use borrow.Author.Needs.{needs}
 use Rattle.sheet_expression.proofs.take_constant.Statement.{statement}
 use Rattle.sheet_expression.proofs.take_constant.Tie as tie
-use Rattle.sheet_expression.proofs.take_constant.Reads as reads
-use Rattle.sheet_expression.proofs.take_constant.Lts as lts
-use Rattle.sheet_field.proofs.take_field.Reads as take-field-reads
 
 take-field-requires : tie.Need-take-field-requires
 take-field-requires c κs = search needs

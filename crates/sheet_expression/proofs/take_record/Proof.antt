@@ -5,16 +5,6 @@ use Prim.Native.Nat.{_≤_}
 use borrow.Author.Needs.{needs}
 use Rattle.sheet_expression.proofs.take_record.Statement.{statement}
 use Rattle.sheet_expression.proofs.take_record.Tie as tie
-use Rattle.sheet_expression.proofs.take_record.Reads as reads
-use Rattle.sheet_expression.proofs.take_record.Lts as lts
-use Rattle.expr.proofs.arity.Reads as arity-reads
-use Rattle.sheet_expression.proofs.depth_after.Reads as depth-after-reads
-use Rattle.sheet_expression.proofs.fits_width.Reads as fits-width-reads
-use Rattle.sheet_expression.proofs.take_argument.Reads as take-argument-reads
-use Rattle.sheet_expression.proofs.take_constant.Reads as take-constant-reads
-use Rattle.sheet_field.proofs.code.Reads as code-reads
-use Rattle.sheet_field.proofs.judged.Reads as judged-reads
-use Rattle.sheet_field.proofs.start.Reads as start-reads
 
 code-requires : tie.Need-code-requires
 code-requires c κs = search needs

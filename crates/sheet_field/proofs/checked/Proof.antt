@@ -2,10 +2,6 @@ use Rattle.sheet_field.specs.Field.{checkField}
 use borrow.Author.Needs.{needs}
 use Rattle.sheet_field.proofs.checked.Statement.{statement}
 use Rattle.sheet_field.proofs.checked.Tie as tie
-use Rattle.sheet_field.proofs.checked.Reads as reads
-use Rattle.sheet_field.proofs.checked.Lts as lts
-use Rattle.sheet_field.proofs.judged.Reads as judged-reads
-use Rattle.sheet_field.proofs.kept.Reads as kept-reads
 
 judged-requires : tie.Need-judged-requires
 judged-requires c κs = search needs

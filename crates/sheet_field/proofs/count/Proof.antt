@@ -2,11 +2,6 @@ use Rattle.sheet_field.specs.Field.{countAt}
 use borrow.Author.Needs.{needs}
 use Rattle.sheet_field.proofs.count.Statement.{statement}
 use Rattle.sheet_field.proofs.count.Tie as tie
-use Rattle.sheet_field.proofs.count.Reads as reads
-use Rattle.sheet_field.proofs.count.Lts as lts
-use Rattle.sheet_field.proofs.checked.Reads as checked-reads
-use Rattle.sheet_field.proofs.start.Reads as start-reads
-use Rattle.sheet_field.proofs.take_field.Reads as take-field-reads
 
 take-field-requires : tie.Need-take-field-requires
 take-field-requires c κs = search needs

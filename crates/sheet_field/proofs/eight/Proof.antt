@@ -2,9 +2,6 @@ use Rattle.sheet_field.proofs.Fields.{little-add}
 use borrow.Author.Needs.{needs}
 use Rattle.sheet_field.proofs.eight.Statement.{statement}
 use Rattle.sheet_field.proofs.eight.Tie as tie
-use Rattle.sheet_field.proofs.eight.Reads as reads
-use Rattle.sheet_field.proofs.eight.Lts as lts
-use Rattle.sheet_field.proofs.four.Reads as four-reads
 
 four-requires : tie.Need-four-requires
 four-requires c κs = search needs

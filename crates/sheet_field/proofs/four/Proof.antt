@@ -1,12 +1,7 @@
 use Rattle.sheet_field.proofs.Fields.{little-add}
-use native.Mathlib.Omega.{arith}
-use Rattle.sheet_field.specs.Field.{little}
 use borrow.Author.Needs.{needs}
 use Rattle.sheet_field.proofs.four.Statement.{statement}
 use Rattle.sheet_field.proofs.four.Tie as tie
-use Rattle.sheet_field.proofs.four.Reads as reads
-use Rattle.sheet_field.proofs.four.Lts as lts
-use Rattle.sheet_field.proofs.two.Reads as two-reads
 
 two-requires : tie.Need-two-requires
 two-requires c κs = search needs

@@ -1,8 +1,6 @@
 use borrow.Author.Needs.{needs}
 use Rattle.sheet_field.proofs.judged.Statement.{statement}
 use Rattle.sheet_field.proofs.judged.Tie as tie
-use Rattle.sheet_field.proofs.judged.Reads as reads
-use Rattle.sheet_field.proofs.judged.Lts as lts
 
 enum-known-p : tie.Need-enum-known-p
 enum-known-p c = search needs

@@ -3,11 +3,6 @@ use native.Mathlib.Omega.{arith}
 use borrow.Author.Needs.{needs}
 use Rattle.sheet_field.proofs.number.Statement.{statement}
 use Rattle.sheet_field.proofs.number.Tie as tie
-use Rattle.sheet_field.proofs.number.Reads as reads
-use Rattle.sheet_field.proofs.number.Lts as lts
-use Rattle.sheet_field.proofs.eight.Reads as eight-reads
-use Rattle.sheet_field.proofs.two.Reads as two-reads
-use Rattle.sheet_field.proofs.wide.Reads as wide-reads
 
 enum-told : tie.Need-enum-told
 enum-told c = search needs

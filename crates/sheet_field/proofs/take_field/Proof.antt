@@ -3,10 +3,6 @@ use native.Mathlib.Omega.{arith}
 use borrow.Author.Needs.{needs}
 use Rattle.sheet_field.proofs.take_field.Statement.{statement}
 use Rattle.sheet_field.proofs.take_field.Tie as tie
-use Rattle.sheet_field.proofs.take_field.Reads as reads
-use Rattle.sheet_field.proofs.take_field.Lts as lts
-use Rattle.sheet_field.proofs.bytes.Reads as bytes-reads
-use Rattle.sheet_field.proofs.number.Reads as number-reads
 
 enum-known-p : tie.Need-enum-known-p
 enum-known-p c = search needs

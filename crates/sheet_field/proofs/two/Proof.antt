@@ -1,13 +1,7 @@
 use Rattle.sheet_field.proofs.Fields.{little-two}
-use native.Mathlib.Numerals.{add-one}
-use native.Mathlib.Omega.{arith}
-use Rattle.sheet_field.specs.Field.{little}
 use borrow.Author.Needs.{needs}
 use Rattle.sheet_field.proofs.two.Statement.{statement}
 use Rattle.sheet_field.proofs.two.Tie as tie
-use Rattle.sheet_field.proofs.two.Reads as reads
-use Rattle.sheet_field.proofs.two.Lts as lts
-use Rattle.sheet_field.proofs.wide.Reads as wide-reads
 
 shared-slice-read-wide : tie.Need-shared-slice-read-wide
 shared-slice-read-wide c = search needs

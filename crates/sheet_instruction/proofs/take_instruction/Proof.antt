@@ -1,5 +1,4 @@
 use Rattle.sheet_instruction.proofs.Instructions.{instruction-is}
-use Rattle.sheet_instruction.specs.Instruction.{instructionAt}
 use borrow.Author.Needs.{needs}
 use Rattle.sheet_instruction.proofs.take_instruction.Statement.{statement}
 use Rattle.sheet_instruction.proofs.take_instruction.Tie as tie

@@ -1,5 +1,4 @@
 use Rattle.sheet_instruction.proofs.Instructions.{tail-is}
-use Rattle.sheet_instruction.specs.Instruction.{tailAt}
 use borrow.Author.Needs.{needs}
 use Rattle.sheet_instruction.proofs.take_tail.Statement.{statement}
 use Rattle.sheet_instruction.proofs.take_tail.Tie as tie

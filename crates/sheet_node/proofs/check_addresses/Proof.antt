@@ -6,10 +6,6 @@ use mathlib.Core.Path.{_≡_, refl, sym, _∙_}
 use Prim.Native.Nat.{_≤_, _-_}
 use Rattle.sheet_node.proofs.check_addresses.Statement.{statement}
 use Rattle.sheet_node.proofs.check_addresses.Tie as tie
-use Rattle.sheet_node.proofs.check_addresses.Reads as reads
-use Rattle.sheet_node.proofs.check_addresses.Lts as lts
-use Rattle.sheet_field.proofs.is_refused.Reads as is-refused-reads
-use Rattle.sheet_field.proofs.take_field.Reads as take-field-reads
 
 abbrev Inv-loop : tie.InvT-loop
 Inv-loop s n next₀ i₀ next i =

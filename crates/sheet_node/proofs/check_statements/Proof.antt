@@ -7,10 +7,6 @@ use mathlib.Core.Path.{_≡_, refl, sym, _∙_}
 use Prim.Native.Nat.{_≤_, _-_}
 use Rattle.sheet_node.proofs.check_statements.Statement.{statement}
 use Rattle.sheet_node.proofs.check_statements.Tie as tie
-use Rattle.sheet_node.proofs.check_statements.Reads as reads
-use Rattle.sheet_node.proofs.check_statements.Lts as lts
-use Rattle.sheet_field.proofs.is_refused.Reads as is-refused-reads
-use Rattle.sheet_node.proofs.take_statement.Reads as take-statement-reads
 
 abbrev Inv-loop : tie.InvT-loop
 Inv-loop s types n words₀ next₀ i₀ words next i =

@@ -6,10 +6,6 @@ use mathlib.Core.Path.{_≡_, refl, sym, _∙_}
 use Prim.Native.Nat.{_≤_, _-_}
 use Rattle.sheet_node.proofs.check_types.Statement.{statement}
 use Rattle.sheet_node.proofs.check_types.Tie as tie
-use Rattle.sheet_node.proofs.check_types.Reads as reads
-use Rattle.sheet_node.proofs.check_types.Lts as lts
-use Rattle.sheet_field.proofs.code.Reads as code-reads
-use Rattle.sheet_field.proofs.is_refused.Reads as is-refused-reads
 
 abbrev Inv-loop : tie.InvT-loop
 Inv-loop s n next₀ i₀ next i =

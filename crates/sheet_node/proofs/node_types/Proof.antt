@@ -5,9 +5,6 @@ use Rattle.sheet_node.proofs.Accepted.{read-inside}
 use borrow.Author.Needs.{needs}
 use Rattle.sheet_node.proofs.node_types.Statement.{statement}
 use Rattle.sheet_node.proofs.node_types.Tie as tie
-use Rattle.sheet_node.proofs.node_types.Reads as reads
-use Rattle.sheet_node.proofs.node_types.Lts as lts
-use Rattle.sheet_field.proofs.start.Reads as start-reads
 
 start-requires : tie.Need-start-requires
 start-requires c κs = search needs

@@ -5,11 +5,6 @@ use Rattle.sheet_node.proofs.Statements.{assignment-typed, assignment-t
 use borrow.Author.Needs.{needs}
 use Rattle.sheet_node.proofs.take_assignment.Statement.{statement}
 use Rattle.sheet_node.proofs.take_assignment.Tie as tie
-use Rattle.sheet_node.proofs.take_assignment.Reads as reads
-use Rattle.sheet_node.proofs.take_assignment.Lts as lts
-use Rattle.sheet_expression.proofs.take_expression.Reads as take-expression-reads
-use Rattle.sheet_field.proofs.code.Reads as code-reads
-use Rattle.sheet_node.proofs.typed.Reads as typed-reads
 
 code-requires : tie.Need-code-requires
 code-requires c κs = search needs

@@ -2,11 +2,6 @@ use Rattle.sheet_node.specs.Node.{mapAt}
 use borrow.Author.Needs.{needs}
 use Rattle.sheet_node.proofs.take_map.Statement.{statement}
 use Rattle.sheet_node.proofs.take_map.Tie as tie
-use Rattle.sheet_node.proofs.take_map.Reads as reads
-use Rattle.sheet_node.proofs.take_map.Lts as lts
-use Rattle.sheet_field.proofs.checked.Reads as checked-reads
-use Rattle.sheet_field.proofs.start.Reads as start-reads
-use Rattle.sheet_field.proofs.take_field.Reads as take-field-reads
 
 take-field-requires : tie.Need-take-field-requires
 take-field-requires c κs = search needs

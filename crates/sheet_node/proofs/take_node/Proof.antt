@@ -1,17 +1,7 @@
-use mathlib.Core.Path.{sym, _∙_}
 use Rattle.sheet_node.proofs.Nodes.{types-inside, types-32, node-is}
 use borrow.Author.Needs.{needs}
 use Rattle.sheet_node.proofs.take_node.Statement.{statement}
 use Rattle.sheet_node.proofs.take_node.Tie as tie
-use Rattle.sheet_node.proofs.take_node.Reads as reads
-use Rattle.sheet_node.proofs.take_node.Lts as lts
-use Rattle.sheet_expression.proofs.take_expression.Reads as take-expression-reads
-use Rattle.sheet_field.proofs.count.Reads as count-reads
-use Rattle.sheet_field.proofs.start.Reads as start-reads
-use Rattle.sheet_node.proofs.check_addresses.Reads as check-addresses-reads
-use Rattle.sheet_node.proofs.check_statements.Reads as check-statements-reads
-use Rattle.sheet_node.proofs.check_types.Reads as check-types-reads
-use Rattle.sheet_node.proofs.types_of.Reads as types-of-reads
 
 count-requires : tie.Need-count-requires
 count-requires c κs = search needs

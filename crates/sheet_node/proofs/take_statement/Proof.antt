@@ -2,11 +2,6 @@ use Rattle.sheet_node.proofs.Statements.{statement-assignment, statemen
 use borrow.Author.Needs.{needs}
 use Rattle.sheet_node.proofs.take_statement.Statement.{statement}
 use Rattle.sheet_node.proofs.take_statement.Tie as tie
-use Rattle.sheet_node.proofs.take_statement.Reads as reads
-use Rattle.sheet_node.proofs.take_statement.Lts as lts
-use Rattle.sheet_field.proofs.start.Reads as start-reads
-use Rattle.sheet_node.proofs.take_assignment.Reads as take-assignment-reads
-use Rattle.sheet_node.proofs.take_map.Reads as take-map-reads
 
 take-map-requires : tie.Need-take-map-requires
 take-map-requires c κs = search needs

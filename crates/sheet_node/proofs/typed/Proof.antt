@@ -2,11 +2,6 @@ use native.Mathlib.Omega.{arith}
 use borrow.Author.Needs.{needs}
 use Rattle.sheet_node.proofs.typed.Statement.{statement}
 use Rattle.sheet_node.proofs.typed.Tie as tie
-use Rattle.sheet_node.proofs.typed.Reads as reads
-use Rattle.sheet_node.proofs.typed.Lts as lts
-use Rattle.expr.proofs.same_type.Reads as same-type-reads
-use Rattle.expr.proofs.static_type.Reads as static-type-reads
-use Rattle.sheet_field.proofs.judged.Reads as judged-reads
 
 enum-known-end : tie.Need-enum-known-end
 enum-known-end c = search needs

@@ -3,8 +3,6 @@ use native.Mathlib.Omega.{arith}
 use borrow.Author.Needs.{needs}
 use Rattle.sheet_node.proofs.types_of.Statement.{statement}
 use Rattle.sheet_node.proofs.types_of.Tie as tie
-use Rattle.sheet_node.proofs.types_of.Reads as reads
-use Rattle.sheet_node.proofs.types_of.Lts as lts
 
 enum-told : tie.Need-enum-told
 enum-told c = search needs

@@ -2,7 +2,6 @@ use Rattle.substitute_node.proofs.Passing.{Passing, passing-start, pass
 use borrow.Author.Tests.{not-true, not-false}
 use borrow.Author.Needs.{needs}
 use native.Mathlib.Omega.{arith}
-use mathlib.Core.Path.{sym, _∙_}
 use Prim.Native.Nat.{_-_}
 use Rattle.substitute_node.proofs.take_statements.Statement.{statement}
 use Rattle.substitute_node.proofs.take_statements.Tie as tie

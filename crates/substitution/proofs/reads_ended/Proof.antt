@@ -2,7 +2,6 @@ use Rattle.substitution.proofs.Entries.{scan-found, scan-on, scan-end}
 use Rattle.substitution.specs.Words.{tableOf, endedTag}
 use Rattle.expr.specs.Scan.{anyTag}
 use lib.ListN.{length, drop}
-use borrow.Author.Needs.{needs}
 use native.Mathlib.Omega.{arith}
 use mathlib.Core.Path.{_≡_, refl}
 use Prim.Native.Nat.{_-_}

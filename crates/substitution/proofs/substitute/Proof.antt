@@ -5,8 +5,6 @@ use borrow.Author.Needs.{needs}
 use mathlib.Core.Path.{sym, refl, _∙_}
 use native.Mathlib.Omega.{arith}
 use Prim.Native.Nat.{_-_, _*_}
-use mathlib.Core.Path.{_≡_}
-use lib.ListN.{length}
 use Rattle.substitution.proofs.substitute.Statement.{statement}
 use Rattle.substitution.proofs.substitute.Tie as tie
 

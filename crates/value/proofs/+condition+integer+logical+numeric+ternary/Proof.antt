@@ -1,8 +1,8 @@
 -- The proof of the cycle of calls {condition, integer, logical, numeric, ternary}. `integer` and `condition` call `logical` and `numeric` on the whole,
 -- `numeric` calls `ternary` on the whole, and all others call on parts that are shorter: the measures are three times the length, and one or two
 -- more. Assumes nothing.
-use mathlib.Core.Path.{_≡_, refl, sym, ap, _∙_}
-use Prim.Native.Nat.{_*_, _≤_, _-_, _/_, _%_, _+_}
+use mathlib.Core.Path.{_≡_, sym, ap, _∙_}
+use Prim.Native.Nat.{_*_, _-_, _/_, _+_}
 use native.Mathlib.Omega.{arith}
 use lib.ListN.{take, drop, length-take, length}
 use borrow.Author.Needs.{needs}

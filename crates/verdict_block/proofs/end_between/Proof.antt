@@ -5,11 +5,6 @@ use native.Mathlib.Omega.{arith}
 use borrow.Author.Needs.{needs}
 use Rattle.verdict_block.proofs.end_between.Statement.{statement}
 use Rattle.verdict_block.proofs.end_between.Tie as tie
-use Rattle.verdict_block.proofs.end_between.Reads as reads
-use Rattle.verdict_block.proofs.end_between.Lts as lts
-use Rattle.sheet.proofs.nth_instruction.Reads as nth-instruction-reads
-use Rattle.verdict_block.proofs.jump_of.Reads as jump-of-reads
-use Rattle.verdict_block.proofs.step_over.Reads as step-over-reads
 
 returns : tie.Need-returns
 returns c = end-none _ (c .before .before .before .args .first) (c .before .before .before .args .end) (c .before .before .before .args .start) (c .if1 .taken)

@@ -3,11 +3,6 @@ use Rattle.sheet.proofs.ByNumber.{addresses-rise}
 use borrow.Author.Needs.{needs}
 use Rattle.verdict_block.proofs.end_on.Statement.{statement}
 use Rattle.verdict_block.proofs.end_on.Tie as tie
-use Rattle.verdict_block.proofs.end_on.Reads as reads
-use Rattle.verdict_block.proofs.end_on.Lts as lts
-use Rattle.search.proofs.first_at_or_above.Reads as first-at-or-above-reads
-use Rattle.sheet.proofs.nth_block.Reads as nth-block-reads
-use Rattle.verdict_block.proofs.end_between.Reads as end-between-reads
 
 nth-block-requires : tie.Need-nth-block-requires
 nth-block-requires c κs = search needs

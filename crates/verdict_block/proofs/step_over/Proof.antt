@@ -9,10 +9,6 @@ use borrow.Author.Needs.{needs}
 use mathlib.Core.Path.{_≡_, refl, sym, _∙_}
 use Rattle.verdict_block.proofs.step_over.Statement.{statement}
 use Rattle.verdict_block.proofs.step_over.Tie as tie
-use Rattle.verdict_block.proofs.step_over.Reads as reads
-use Rattle.verdict_block.proofs.step_over.Lts as lts
-use Rattle.machine.proofs.step.Reads as step-reads
-use Rattle.sheet.proofs.nth_instruction.Reads as nth-instruction-reads
 
 abbrev Inv-loop : tie.InvT-loop
 Inv-loop s sheet places first end state₀ i₀ state i =
