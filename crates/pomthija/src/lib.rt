@@ -40,13 +40,8 @@ pub fn block_verdict(s: &[u8], number: u64) -> Answer
             }
             let section = sheet.instructions;
             let n = section.count as usize;
-            Answer::Given(verdict_block::verdict_on(
-                s,
-                sheet,
-                &addresses[..n],
-                &places[..n],
-                number,
-            ))
+            let v = verdict_block::verdict_on(s, sheet, &addresses[..n], &places[..n], number);
+            Answer::Given(v)
         }
     }
 }
