@@ -4,11 +4,12 @@ use Prim.Native.Nat.{ℕ, _+_, _-_, _*_, _/_, _%_, _^_, _≤_, _<_}
 use mathlib.Core.Path.{_≡_, refl, sym, ap, subst, _∙_}
 use mathlib.Core.Logic.{_≢_}
 use mathlib.Core.Bool.{Bool, true, false, cond, _&&_, _||_}
+use mathlib.Core.List.{List}
 use native.Mathlib.Nat.{mod-eq-of-lt, mod-lt}
 use native.Mathlib.Omega.{arith}
 use borrow.Author.Tests.{ltb-true, ltb-false, eqb-true, eqb-false, eq-eqb}
 use lib.Dec.{leb, ltb, eqb}
-use lib.ListN.{set, length, List·getD-eq-default, length-set}
+use lib.ListN.{set, getD, length, List·getD-eq-default, length-set}
 use lib.Pow.{pow-pos}
 use lib.Seq.{getD-set-same, getD-set-other}
 use Rattle.isa.specs.declared.Register.{Register}
@@ -22,7 +23,7 @@ use Rattle.known.specs.declared.Value.{Value}
 use Rattle.known.specs.declared.Value.the-variants.{Known, Unknown}
 use Rattle.known.specs.Values.{extracted, inserted, onValue, merged}
 use Rattle.known.specs.declared.Slot.{Slot}
-use Rattle.known.specs.Registers.{unmarked, contents, slotOf, partOf, withPart}
+use Rattle.known.specs.Registers.{contents, slotOf, partOf, withPart}
 use Rattle.machine.specs.States.{replaced}
 use Rattle.machine.specs.Registers.{slotAt, wholeOf, readOf, written}
 use Rattle.concrete.specs.Concrete.{Processor, value, part, stored, assign}
@@ -183,24 +184,48 @@ contents-slot : (v : Value) → contents (slotOf v) ≡ v
 contents-slot (Known x) = refl
 contents-slot Unknown = refl
 
+-- the words of the registers after one is replaced
+module _ (words : List ℕ) (index value marks : ℕ) where
+  abbrev put : List ℕ
+  put = set (set words index value) (16 + index) marks
+
+  value-there : index < length words → getD put index 0 ≡ value
+  value-there h =
+      rw (getD-set-other (set words index value) (16 + index) index marks 0 (λ e. omega arith)) (getD-set-same words index value 0 h)
+
+  marks-there : 16 + index < length words → getD put (16 + index) 0 ≡ marks
+  marks-there h = getD-set-same (set words index value) (16 + index) marks 0 (rw length-set h)
+
+  no-marks : length words ≤ 16 + index → getD put (16 + index) 0 ≡ 0
+  no-marks h = List·getD-eq-default put 0 (rw (length-set, length-set) h)
+
+  elsewhere : (k : ℕ) → k ≢ index → k ≢ 16 + index → getD put k 0 ≡ getD words k 0
+  elsewhere k one two = getD-set-other (set words index value) (16 + index) k marks 0 two ∙ getD-set-other words index k value 0 one
+
 -- a register that was set is what was put there, or does not exist and is unknown
 pub replaced-same : (s : State) (index : ℕ) (slot : Slot) (y : ℕ) → AllowsValue (contents slot) y → AllowsValue (wholeOf (replaced s index slot) index) y
 unfolding slotAt replaced
 replaced-same s index slot y h =
+    let words = s .registers in
     byTest (ltb index 16)
-    (λ t. byTest (ltb index (length (s .registers)))
-    (λ u. rw (t, getD-set-same (s .registers) index slot unmarked (ltb-true index (length (s .registers)) u)) h)
+    (λ t. byTest (ltb (16 + index) (length words))
     (λ u.
-    let past : length (set (s .registers) index slot) ≤ index =
-    rw length-set (ltb-false index (length (s .registers)) u) in
-    rw (t, List·getD-eq-default (set (s .registers) index slot) unmarked past) tt))
+    let inside : 16 + index < length words = ltb-true (16 + index) (length words) u in
+    rw (t, marks-there words index (slot .value) (slot .known) inside, value-there words index (slot .value) (slot .known) (omega arith)) h)
+    (λ u. rw (t, no-marks words index (slot .value) (slot .known) (ltb-false (16 + index) (length words) u)) tt))
     (λ t. rw t tt)
 
 pub replaced-other : (s : State) (index k : ℕ) (slot : Slot) → k ≢ index → slotAt (replaced s index slot) k ≡ slotAt s k
 unfolding slotAt replaced
 replaced-other s index k slot other =
     byTest (ltb index 16)
-    (λ t. rw (t, getD-set-other (s .registers) index k slot unmarked other))
+    (λ t. byTest (ltb k 16)
+    (λ u.
+    let low : index < 16 = ltb-true index 16 t in
+    let here : k < 16 = ltb-true k 16 u in
+    let kept = elsewhere (s .registers) index (slot .value) (slot .known) in
+    rw (t, u, kept k other (λ e. omega arith), kept (16 + k) (λ e. omega arith) (λ e. other (omega arith))))
+    (λ u. rw (t, u)))
     (λ t. rw t)
 
 pub replaced-flags : (s : State) (index : ℕ) (slot : Slot) → replaced s index slot .flags ≡ s .flags

@@ -1,7 +1,7 @@
 -- Step soundness: agreement of what is known with the concrete state is kept by every instruction that reading accepts,
 -- whatever is chosen for what is free. The theorem is `step-sound`, at the end.
 use Prim.{Unit, tt}
-use Prim.Native.Nat.{ℕ, zero, suc, min, _-_, _%_, _^_, _<_}
+use Prim.Native.Nat.{ℕ, zero, suc, min, _+_, _-_, _%_, _^_, _<_}
 use mathlib.Core.Path.{_≡_, refl, sym, ap, subst}
 use mathlib.Core.Logic.{inr}
 use mathlib.Core.Bool.{Bool, true, false, cond, not, _&&_, _||_}
@@ -39,7 +39,7 @@ use Rattle.known.specs.declared.Value.{Value}
 use Rattle.known.specs.declared.Value.the-variants.{Known, Unknown}
 use Rattle.known.specs.Operations.{withCarry, forgetFlag, forgetFlags, unknownCarry, carryRule, complement, arithEffect, unaryEffect, alone as performAlone}
 use Rattle.known.specs.Values.{onValue}
-use Rattle.known.specs.Registers.{unmarked, partOf}
+use Rattle.known.specs.Registers.{partOf}
 use Rattle.machine.specs.Registers.{nothingKnown, slotAt, wholeOf, readOf, written, operandOf, forgetRegisters, forgotten}
 use Rattle.machine.specs.Finish.{finished}
 use Rattle.machine.specs.Rules.{writes as writesResult, sameRegister, carryStep, arithStep, unaryUnknown, unaryOn, unaryStep, registerStep, onFirst, modelledStep, stepped, steppedAll}
@@ -355,7 +355,7 @@ module _ (s : State) (p : Processor) (free : Choice) (agrees : Agrees s p) (i : 
         declared = or-right (differ || other) lacking none;
       })
 
-replicated : (n k : ℕ) → getD (replicate n unmarked) k unmarked ≡ unmarked
+replicated : (n k : ℕ) → getD {A = ℕ} (replicate n 0) k 0 ≡ 0
 replicated zero k = refl
 replicated (suc n) zero = refl
 replicated (suc n) (suc k) = replicated n k
@@ -365,7 +365,7 @@ pub nothing-known : (p : Processor) → Agrees nothingKnown p
 unfolding nothingKnown slotAt
 nothing-known p =
     record {
-      registers = λ k. byTest (ltb k 16) (λ t. rw (t, replicated 16 k) tt) (λ t. rw t tt);
+      registers = λ k. byTest (ltb k 16) (λ t. rw (t, replicated 32 (16 + k)) tt) (λ t. rw t tt);
       flags = record { cf = tt; pf = tt; zf = tt; sf = tt; of = tt };
     }
 

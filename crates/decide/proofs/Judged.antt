@@ -24,17 +24,8 @@ use Rattle.exact.specs.declared.Known.{Known}
 use Rattle.exact.specs.declared.Parted as Parted
 use Rattle.decide.specs.declared.Decision as Decision
 use Rattle.decide.specs.declared.Decision.the-variants.{Of, TooMany}
-use Rattle.exact.specs.Answers.{Buffers, known, sumFits, parted}
+use Rattle.exact.specs.Answers.{known, sumFits, parted}
 use Rattle.decide.specs.Answers.{answered, exactVerdict, parityVerdict, knownFits, partedFits, firstStep, halvesOf}
-
--- lent lists stay as long
-pub buffers-kept : {atoms terms scratch atoms′ terms′ scratch′ : List ℕ} → Buffers atoms terms scratch
-    → length atoms′ ≡ length atoms → length terms′ ≡ length terms → length scratch′ ≡ length scratch → Buffers atoms′ terms′ scratch′
-buffers-kept b l k m = record {
-  table = omega (arith, b .table, l);
-  space = omega (arith, b .space, k);
-  products = omega (arith, b .products, m);
-}
 
 -- equal sides, by the operator
 module _ (o : ℕ) (a b : Expr) where

@@ -4,3 +4,5 @@ pub mod Complete
 pub mod Sound
 -- laws of the code's steps
 pub mod Judged
+-- room for an equality
+pub mod Rooms

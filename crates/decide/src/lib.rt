@@ -4,7 +4,8 @@ use exact::Parted;
 use verdict::Reason;
 use verdict::Verdict;
 ghost use mathlib.Core.Path.{_≡_};
-ghost use Prim.Native.Nat.{_≤_};
+ghost use mathlib.Core.List.{List};
+ghost use Prim.Native.Nat.{ℕ, _+_, _≤_};
 ghost use lib.Dec.{eqb};
 ghost use lib.ListN.{length};
 ghost use Rattle.expr.specs.Codes.{opEqual};
@@ -243,7 +244,7 @@ fn equality(
     scratch: &mut [u64],
 ) -> Decision
     requires { ⌜ LentTwo (now whole) 0 (now left) (now right) (now atoms) 0 (now terms) ⌝ }
-    requires { ⌜ Buffers (now atoms) (now terms) (now scratch) ⌝ }
+    requires { ⌜ Buffers (length (now left) + length (now right) + 2) (now atoms) (now terms) (now scratch) ⌝ }
     ensures { λ r. ⌜ r ≡ answered (equalityFits (treeOf (now (left .entry))) (treeOf (now (right .entry)))) (orElse (equalSides operator (treeOf (now (left .entry))) (treeOf (now (right .entry)))) (equalityOf (eqb operator opEqual) (treeOf (now (left .entry))) (treeOf (now (right .entry))))) ⌝ }
 {
     let same = equal_sides(operator, left, right);
@@ -252,6 +253,44 @@ fn equality(
     let a = exact::exact(left, atoms, terms, scratch);
     let b = exact::exact(right, atoms, terms, scratch);
     first_step(same, operator == expr::EQUAL, a, b, as_written, sides)
+}
+
+// Room for the terms of the sides of an equality of 128 records.
+pub fn terms_room() -> [u64; 2320]
+    ensures { λ r. ⌜ 2320 ≡ length r ⌝ }
+{
+    [0; 2320]
+}
+
+// Room for the terms of a product.
+pub fn products_room() -> [u64; 4096]
+    ensures { λ r. ⌜ 4096 ≡ length r ⌝ }
+{
+    [0; 4096]
+}
+
+// == or !=, with room of its own.
+fn equality_apart(
+    operator: u64,
+    whole: &[u64],
+    left: &[u64],
+    right: &[u64],
+    atoms: &mut [u64],
+) -> Decision
+    requires { ⌜ ((ts : List ℕ) → 2320 ≡ length ts → LentTwo (now whole) 0 (now left) (now right) (now atoms) 0 ts) ⌝ }
+    ensures { λ r. ⌜ r ≡ answered (equalityFits (treeOf (now (left .entry))) (treeOf (now (right .entry)))) (orElse (equalSides operator (treeOf (now (left .entry))) (treeOf (now (right .entry)))) (equalityOf (eqb operator opEqual) (treeOf (now (left .entry))) (treeOf (now (right .entry))))) ⌝ }
+{
+    let mut terms = terms_room();
+    let mut scratch = products_room();
+    equality(
+        operator,
+        whole,
+        left,
+        right,
+        atoms,
+        &mut terms,
+        &mut scratch,
+    )
 }
 
 // A cast to an unsigned type or to a pointer.
@@ -298,11 +337,12 @@ fn relation(operator: u64, left: &[u64], right: &[u64]) -> Verdict
     )
 }
 
-// The verdict on a condition: && and || are decided half by half.
+// The verdict on a condition: && and || are decided half by half. Room for equalities of 18 records is lent, or for all; an equality
+// that needs more makes its own.
 pub fn decide(rs: &[u64], atoms: &mut [u64], terms: &mut [u64], scratch: &mut [u64]) -> Decision
     requires { ⌜ Wf (now rs) ⌝ }
     requires { ⌜ length (now rs) ≤ 256 ⌝ }
-    requires { ⌜ Buffers (now atoms) (now terms) (now scratch) ⌝ }
+    requires { ⌜ Buffers 36 (now atoms) (now terms) (now scratch) ⌝ }
     ensures { λ r. ⌜ r ≡ answered (fits (treeOf (now (rs .entry)))) (decideOf (treeOf (now (rs .entry)))) ⌝ }
 {
     let n = rs.len() - 2;
@@ -327,6 +367,9 @@ pub fn decide(rs: &[u64], atoms: &mut [u64], terms: &mut [u64], scratch: &mut [u
         return halves(operator == expr::LOGICAL_AND, a, b);
     }
     if (operator == expr::EQUAL) | (operator == expr::NOT_EQUAL) {
+        if (36 < rs.len()) & ((terms.len() < 2320) | (scratch.len() < 4096)) {
+            return equality_apart(operator, rs, left, right, atoms);
+        }
         return equality(operator, rs, left, right, atoms, terms, scratch);
     }
     Decision::Of(relation(operator, left, right))

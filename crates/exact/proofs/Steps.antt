@@ -19,7 +19,8 @@ use Rattle.parity.specs.declared.Constant.the-variants as constants
 use Rattle.parity.specs.declared.Pair.the-variants.{Sum}
 use Rattle.parity.specs.declared.Size.{Size}
 use Rattle.parity.specs.declared.Size.the-variants as sizes
-use Rattle.parity.specs.Lent.{optionOf, pairOf, atomsAt, Lent, Given}
+use Rattle.parity.specs.Lent.{termsRoom, optionOf, pairOf, atomsAt, Lent, Given}
+use Rattle.parity.proofs.Rooms.{products-lent}
 use Rattle.parity.proofs.Steps.{Told, told, passed}
 use Rattle.exact.specs.Exact.{sameSides, valued, isConstant, decidedBit, low, shape, atMostOne, evenOnly, shapeValue, exact, shapeWritten, written, shapeFits, exactFits, isOne}
 use Rattle.exact.specs.Exact.Shape.{lowLeft, lowRight, even, vanishes, other}
@@ -96,17 +97,26 @@ no-terms : (p : List ℕ) → length p ≡ 0 → decidedBit p ≡ some 0
 no-terms [] h = refl
 no-terms (m ∷ l) h = absurd (omega (arith, h))
 
+-- the same room serves a smaller part
+pub buffers-lent : {u w : ℕ} {atoms terms scratch atoms′ terms′ scratch′ : List ℕ} → Buffers w atoms terms scratch → u ≤ w
+    → length atoms′ ≡ length atoms → length terms′ ≡ length terms → length scratch′ ≡ length scratch → Buffers u atoms′ terms′ scratch′
+buffers-lent b h l k m = record {
+  table = omega (arith, b .table, l);
+  space = omega (arith, b .space, k);
+  products = products-lent (b .products) h m;
+}
+
 -- a part by itself, with no atoms before it
-pub lent-whole : {part atoms terms scratch : List ℕ} → Wf part → length part ≤ 256 → Buffers atoms terms scratch → Lent part 0 part atoms 0 terms
-lent-whole {part} {atoms} {terms} w h b = record {
+pub lent-whole : {part atoms terms : List ℕ} → Wf part → length part ≤ 256 → 64 ≤ length atoms → termsRoom (length part) ≤ length terms → Lent part 0 part atoms 0 terms
+lent-whole {part} {atoms} {terms} w h table space = record {
   wf = w;
   stands = sym (take-length part);
   within = omega arith;
   small = h;
   room = omega arith;
-  table = b .table;
+  table = table;
   parts = record { each = λ i l. absurd (omega arith) };
-  space = omega (arith, b .space);
+  space = space;
 }
 
 none-yet : (whole : List ℕ) → atomsAt whole [] ≡ []

@@ -7,7 +7,7 @@ use lib.Dec.{eqb, leb}
 use lib.ListN.{length}
 use Rattle.expr.specs.Tree.{Expr}
 use Rattle.parity.specs.declared.Pair.the-variants.{Sum}
-use Rattle.parity.specs.Lent.{pairOf}
+use Rattle.parity.specs.Lent.{termsRoom, ProductsRoom, pairOf}
 use Rattle.exact.specs.declared.Known.{Known}
 use Rattle.exact.specs.declared.Known.the-variants.{Value, Open, TooMany}
 use Rattle.exact.specs.declared.Parted as Parted
@@ -16,11 +16,11 @@ use Rattle.exact.specs.declared.Shape as Shape
 use Rattle.exact.specs.declared.Shape.the-variants.{LowLeft, LowRight, Even, Vanishes, Other}
 use Rattle.exact.specs.Exact as Exact
 
--- room for the atoms and the terms of two sides of 128 records together, and for 4,096 products
-pub record Buffers (atoms terms scratch : List ℕ) : Type 0 where
+-- room for the atoms, the terms and the products of a part of w words
+pub record Buffers (w : ℕ) (atoms terms scratch : List ℕ) : Type 0 where
   pub table : 64 ≤ length atoms
-  pub space : 16896 ≤ length terms
-  pub products : 4096 ≤ length scratch
+  pub space : termsRoom w ≤ length terms
+  pub products : ProductsRoom w scratch
 
 -- the code's shapes
 abbrev pub shapeOf : Shape.Shape → Exact.Shape

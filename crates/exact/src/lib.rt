@@ -5,7 +5,7 @@ use parity::Pair;
 use parity::Size;
 ghost use mathlib.Core.Path.{_≡_};
 ghost use mathlib.Core.List.{[]};
-ghost use Prim.Native.Nat.{_≤_};
+ghost use Prim.Native.Nat.{_+_, _≤_};
 ghost use lib.ListN.{length};
 ghost use Rattle.expr.specs.Tree.{Wf, treeOf};
 ghost use Rattle.parity.specs.Parity.{parity as parityOf, difference};
@@ -86,7 +86,7 @@ fn shape_of(operator: u64, left: &[u64], right: &[u64]) -> Shape
 fn low_bit(part: &[u64], atoms: &mut [u64], terms: &mut [u64], scratch: &mut [u64]) -> Known
     requires { ⌜ Wf (now part) ⌝ }
     requires { ⌜ length (now part) ≤ 256 ⌝ }
-    requires { ⌜ Buffers (now atoms) (now terms) (now scratch) ⌝ }
+    requires { ⌜ Buffers (length (now part)) (now atoms) (now terms) (now scratch) ⌝ }
     ensures { λ r. ⌜ r ≡ known (parityOf [] (treeOf (now (part .entry))) .fits) (low (treeOf (now (part .entry)))) ⌝ }
 {
     match parity::parity(part, 0, part, atoms, 0, terms, scratch) {
@@ -113,7 +113,7 @@ pub fn parted_sides(
     scratch: &mut [u64],
 ) -> Parted
     requires { ⌜ LentTwo (now whole) 0 (now left) (now right) (now atoms) 0 (now terms) ⌝ }
-    requires { ⌜ Buffers (now atoms) (now terms) (now scratch) ⌝ }
+    requires { ⌜ Buffers (length (now left) + length (now right) + 2) (now atoms) (now terms) (now scratch) ⌝ }
     ensures { λ r. ⌜ r ≡ parted (sumFits (treeOf (now (left .entry))) (treeOf (now (right .entry)))) (isOne (difference (treeOf (now (left .entry))) (treeOf (now (right .entry))))) ⌝ }
 {
     match parity::sides(Pair::Sum, whole, 0, left, right, atoms, 0, terms, scratch) {
@@ -153,7 +153,7 @@ fn even_value(v: Known) -> Known
 pub fn exact(rs: &[u64], atoms: &mut [u64], terms: &mut [u64], scratch: &mut [u64]) -> Known
     requires { ⌜ Wf (now rs) ⌝ }
     requires { ⌜ length (now rs) ≤ 256 ⌝ }
-    requires { ⌜ Buffers (now atoms) (now terms) (now scratch) ⌝ }
+    requires { ⌜ Buffers (length (now rs)) (now atoms) (now terms) (now scratch) ⌝ }
     ensures { λ r. ⌜ r ≡ known (exactFits (treeOf (now (rs .entry)))) (exactOf (treeOf (now (rs .entry)))) ⌝ }
 {
     let n = rs.len() - 2;

@@ -173,16 +173,17 @@ pub fn reads(rs: &[u64], v: u64) -> bool
     false
 }
 
-const BITS: [u64; 10] = [8, 16, 32, 64, 8, 16, 32, 64, 64, 1];
-
 // How many bits a value of the type has.
 pub fn width(t: u64) -> u64
     ensures { λ r. ⌜ r ≡ bits t ⌝ }
 {
-    if t < TYPES {
-        return BITS[t as usize];
+    match t {
+        SIGNED_8 | UNSIGNED_8 => 8,
+        SIGNED_16 | UNSIGNED_16 => 16,
+        SIGNED_32 | UNSIGNED_32 => 32,
+        BOOL => 1,
+        _ => 64,
     }
-    64
 }
 
 // A type with pointer read as unsigned 64.

@@ -103,51 +103,48 @@ pub struct Instruction {
     pub flags: u64,
 }
 
-const MNEMONICS: [Mnemonic; 35] = [
-    Mnemonic::Other,
-    Mnemonic::Carry(CarryChange::Stc),
-    Mnemonic::Carry(CarryChange::Clc),
-    Mnemonic::Carry(CarryChange::Cmc),
-    Mnemonic::Mov,
-    Mnemonic::Not,
-    Mnemonic::TwoOperand(Binary::Add),
-    Mnemonic::TwoOperand(Binary::Sub),
-    Mnemonic::TwoOperand(Binary::Cmp),
-    Mnemonic::TwoOperand(Binary::And),
-    Mnemonic::TwoOperand(Binary::Or),
-    Mnemonic::TwoOperand(Binary::Xor),
-    Mnemonic::TwoOperand(Binary::Test),
-    Mnemonic::OneOperand(Unary::Inc),
-    Mnemonic::OneOperand(Unary::Dec),
-    Mnemonic::OneOperand(Unary::Neg),
-    Mnemonic::Jump(Condition::E),
-    Mnemonic::Jump(Condition::Ne),
-    Mnemonic::Jump(Condition::L),
-    Mnemonic::Jump(Condition::Ge),
-    Mnemonic::Jump(Condition::Le),
-    Mnemonic::Jump(Condition::G),
-    Mnemonic::Jump(Condition::B),
-    Mnemonic::Jump(Condition::Ae),
-    Mnemonic::Jump(Condition::Be),
-    Mnemonic::Jump(Condition::A),
-    Mnemonic::Jump(Condition::S),
-    Mnemonic::Jump(Condition::Ns),
-    Mnemonic::Jump(Condition::P),
-    Mnemonic::Jump(Condition::Np),
-    Mnemonic::Jump(Condition::O),
-    Mnemonic::Jump(Condition::No),
-    Mnemonic::CountJump(Counter::Rcx),
-    Mnemonic::CountJump(Counter::Ecx),
-    Mnemonic::CountJump(Counter::Cx),
-];
-
 // The mnemonic of a number.
 pub fn mnemonic_of(number: u64) -> Mnemonic
     requires { ⌜ number < 35 ⌝ }
     ensures { λ r. ⌜ r ≡ named number ⌝ }
 {
-    let table = MNEMONICS;
-    table[number as usize]
+    match number {
+        0 => Mnemonic::Other,
+        1 => Mnemonic::Carry(CarryChange::Stc),
+        2 => Mnemonic::Carry(CarryChange::Clc),
+        3 => Mnemonic::Carry(CarryChange::Cmc),
+        4 => Mnemonic::Mov,
+        5 => Mnemonic::Not,
+        6 => Mnemonic::TwoOperand(Binary::Add),
+        7 => Mnemonic::TwoOperand(Binary::Sub),
+        8 => Mnemonic::TwoOperand(Binary::Cmp),
+        9 => Mnemonic::TwoOperand(Binary::And),
+        10 => Mnemonic::TwoOperand(Binary::Or),
+        11 => Mnemonic::TwoOperand(Binary::Xor),
+        12 => Mnemonic::TwoOperand(Binary::Test),
+        13 => Mnemonic::OneOperand(Unary::Inc),
+        14 => Mnemonic::OneOperand(Unary::Dec),
+        15 => Mnemonic::OneOperand(Unary::Neg),
+        16 => Mnemonic::Jump(Condition::E),
+        17 => Mnemonic::Jump(Condition::Ne),
+        18 => Mnemonic::Jump(Condition::L),
+        19 => Mnemonic::Jump(Condition::Ge),
+        20 => Mnemonic::Jump(Condition::Le),
+        21 => Mnemonic::Jump(Condition::G),
+        22 => Mnemonic::Jump(Condition::B),
+        23 => Mnemonic::Jump(Condition::Ae),
+        24 => Mnemonic::Jump(Condition::Be),
+        25 => Mnemonic::Jump(Condition::A),
+        26 => Mnemonic::Jump(Condition::S),
+        27 => Mnemonic::Jump(Condition::Ns),
+        28 => Mnemonic::Jump(Condition::P),
+        29 => Mnemonic::Jump(Condition::Np),
+        30 => Mnemonic::Jump(Condition::O),
+        31 => Mnemonic::Jump(Condition::No),
+        32 => Mnemonic::CountJump(Counter::Rcx),
+        33 => Mnemonic::CountJump(Counter::Ecx),
+        _ => Mnemonic::CountJump(Counter::Cx),
+    }
 }
 
 // The bits of the declared flags.

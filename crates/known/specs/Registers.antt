@@ -1,6 +1,7 @@
 -- What is known of a register, and of its parts.
-use Prim.Native.Nat.{ℕ}
-use mathlib.Core.Bool.{true, false, cond}
+use Prim.Native.Nat.{ℕ, _-_, _^_}
+use mathlib.Core.Bool.{cond}
+use lib.Dec.{eqb}
 use Rattle.alu.specs.declared.Size.{Size}
 use Rattle.alu.specs.declared.Size.the-variants.{Of, NoWidth}
 use Rattle.known.specs.declared.Value.{Value}
@@ -10,14 +11,18 @@ use Rattle.known.specs.Values.{extracted, onValue, merged}
 
 -- a register that is not known; it holds 0 (M2)
 abbrev pub unmarked : Slot
-unmarked = record { known = false; value = 0 }
+unmarked = record { known = 0; value = 0 }
 
--- a register is known whole, by its mark, or not at all (M2)
+-- all marks of a register: 255 for each of its eight bytes
+abbrev pub allMarks : ℕ
+allMarks = 2 ^ 64 - 1
+
+-- a register is known whole, by its marks, or not at all (M2)
 abbrev pub contents : Slot → Value
-contents s = cond (s .known) (Known (s .value)) Unknown
+contents s = cond (eqb (s .known) allMarks) (Known (s .value)) Unknown
 
 abbrev pub slotOf : Value → Slot
-slotOf (Known x) = record { known = true; value = x }
+slotOf (Known x) = record { known = allMarks; value = x }
 slotOf Unknown = unmarked
 
 -- a read: a part is known where the whole is; of a part that has no width nothing is known (M2)

@@ -22,11 +22,15 @@ pub enum Value {
     Unknown,
 }
 
-// What is known of a register: its value, which means nothing where it is not marked as known; then it is 0.
+// What is known of a register: its marks, which are all set where it is known and else 0; and its value, which means nothing
+// where it is not known; then it is 0.
 pub struct Slot {
-    pub known: bool,
+    pub known: u64,
     pub value: u64,
 }
+
+// All marks: 255 for each of eight bytes.
+const MARKS: u64 = 18446744073709551615;
 
 // The part of a whole register that a width and an offset name. Offset 8 counts at 8 bits alone.
 fn extract(w: Width, offset: u8, x: u64) -> u64
@@ -96,16 +100,13 @@ fn merge(w: Width, offset: u8, old: Value, v: Value) -> Value
 pub fn unknown() -> Slot
     ensures { λ r. ⌜ r ≡ unmarked ⌝ }
 {
-    Slot {
-        known: false,
-        value: 0,
-    }
+    Slot { known: 0, value: 0 }
 }
 
 fn contents_of(s: Slot) -> Value
     ensures { λ r. ⌜ r ≡ contents s ⌝ }
 {
-    if s.known {
+    if s.known == MARKS {
         Value::Known(s.value)
     } else {
         Value::Unknown
@@ -116,7 +117,10 @@ fn slot_of(v: Value) -> Slot
     ensures { λ r. ⌜ r ≡ slotOf v ⌝ }
 {
     match v {
-        Value::Known(value) => Slot { known: true, value },
+        Value::Known(value) => Slot {
+            known: MARKS,
+            value,
+        },
         Value::Unknown => unknown(),
     }
 }

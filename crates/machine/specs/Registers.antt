@@ -1,5 +1,5 @@
 -- What is known of registers, each as a whole, and of flags, each by itself; reads, writes and forgetting.
-use Prim.Native.Nat.{ℕ, zero, suc, min}
+use Prim.Native.Nat.{ℕ, zero, suc, min, _+_}
 use mathlib.Core.Bool.{cond}
 use mathlib.Core.List.{List}
 use lib.ListN.{getD, replicate}
@@ -15,16 +15,19 @@ use Rattle.known.specs.declared.Slot.{Slot}
 use Rattle.known.specs.Registers.{unmarked, contents, partOf, withPart}
 use Rattle.known.specs.Operations.{noFlags, immediate, forgetFlags}
 use Rattle.machine.specs.declared.State.{State}
-use Rattle.machine.specs.States.{replaced, withFlags, noRegister}
+use Rattle.machine.specs.States.{stateOf, replaced, withFlags, noRegister}
 
 -- At the start nothing is known: of sixteen registers, nor of the five flags, each of which is known by itself (M3, M4).
 unfoldable pub nothingKnown : State
-nothingKnown = record { registers = replicate 16 unmarked; flags = noFlags }
+nothingKnown = stateOf (replicate 32 0) noFlags
 
--- What is known of the register of that index. There are sixteen; an index from 16 on, which no well-formed register has,
--- names none (M2).
+-- What is known of the register of that index: its value and, sixteen words on, its marks. There are sixteen registers; an
+-- index from 16 on, which no well-formed register has, names none (M2).
 unfoldable pub slotAt : State → ℕ → Slot
-slotAt s index = cond (ltb index 16) (getD (s .registers) index unmarked) unmarked
+slotAt s index =
+    cond (ltb index 16)
+    (record { known = getD (s .registers) (16 + index) 0; value = getD (s .registers) index 0 })
+    unmarked
 
 -- its value, whole (M2)
 abbrev pub wholeOf : State → ℕ → Value

@@ -1,6 +1,7 @@
 -- States with a part replaced: shorthands of the rules, which say nothing by themselves.
-use Prim.Native.Nat.{ℕ}
+use Prim.Native.Nat.{ℕ, _+_}
 use mathlib.Core.Bool.{cond}
+use mathlib.Core.List.{List}
 use lib.ListN.{set}
 use lib.Dec.{ltb}
 use Rattle.isa.specs.declared.Register.{Register}
@@ -8,14 +9,20 @@ use Rattle.alu.specs.declared.Flags.{Flags}
 use Rattle.known.specs.declared.Slot.{Slot}
 use Rattle.machine.specs.declared.State.{State}
 
--- the state with something else known of a register
+-- the state of lent registers and flags
+abbrev pub stateOf : List ℕ → Flags → State
+stateOf registers flags = record { registers = registers; flags = flags }
+
+-- the state with something else known of a register: its value and its marks
 unfoldable pub replaced : State → ℕ → Slot → State
 replaced s index slot =
-    cond (ltb index 16) (record { registers = set (s .registers) index slot; flags = s .flags }) s
+    cond (ltb index 16)
+    (stateOf (set (set (s .registers) index (slot .value)) (16 + index) (slot .known)) (s .flags))
+    s
 
 -- the state with other flags
 abbrev pub withFlags : State → Flags → State
-withFlags s f = record { registers = s .registers; flags = f }
+withFlags s f = stateOf (s .registers) f
 
 -- past the end of a list
 abbrev pub noRegister : Register

@@ -1,4 +1,5 @@
-// A state of registers and flags, as far as they are known; stepping over an instruction; what is known of a jump.
+// What is known of registers and flags; stepping over an instruction; what is known of a jump. The registers are lent as the
+// words of a state, the flags go in and come back: a state is not copied from call to call.
 use alu::Flag;
 use alu::Flags;
 use isa::Binary;
@@ -14,15 +15,19 @@ use known::Slot;
 use known::Value;
 ghost use mathlib.Core.Path.{_≡_};
 ghost use mathlib.Core.Bool.{cond};
-ghost use Prim.Native.Nat.{min, _≤_};
+ghost use mathlib.Core.List.{List};
+ghost use Prim.Native.Nat.{ℕ, min, _≤_};
 ghost use Rattle.machine.specs.Registers.{nothingKnown, slotAt, readOf, written, operandOf, forgetRegister, forgetRegisters, forgotten};
-ghost use Rattle.machine.specs.States.{replaced, withFlags};
+ghost use Rattle.machine.specs.States.{stateOf, replaced};
 ghost use Rattle.machine.specs.Finish.{finished};
 ghost use Rattle.machine.specs.Rules.{writes, sameRegister, carryStep, arithStep, unaryUnknown, unaryOn, unaryStep, registerStep, onFirst, modelledStep, stepped};
 ghost use Rattle.machine.specs.Conditions.{countSize, conditionOf};
 
+// The values of the registers, then the marks of each.
+pub type Registers = [u64; 2 * State::REGISTERS];
+
 pub struct State {
-    pub registers: [Slot; State::REGISTERS],
+    pub registers: Registers,
     pub flags: Flags,
 }
 
@@ -33,48 +38,46 @@ impl State {
     pub fn unknown() -> Self
         ensures { λ r. ⌜ r ≡ nothingKnown ⌝ }
     {
-        let slot = known::unknown();
         let flags = known::no_flags();
         State {
-            registers: [slot; Self::REGISTERS],
+            registers: [0; 2 * Self::REGISTERS],
             flags,
         }
     }
 }
 
 // What is known of the register of that index.
-fn slot_at(s: State, index: u8) -> Slot
-    ensures { λ r. ⌜ r ≡ slotAt s index ⌝ }
+fn slot_at(registers: &Registers, index: u8) -> Slot
+    ensures { λ r. ⌜ ((f : Flags) → r ≡ slotAt (stateOf (now (registers .entry)) f) index) ⌝ }
 {
-    let registers = s.registers;
     if index < 16 {
-        registers[index as usize]
+        let k = index as usize;
+        let known = registers[State::REGISTERS + k];
+        let value = registers[k];
+        Slot { known, value }
     } else {
         known::unknown()
     }
 }
 
-// The state with something else known of a register.
-fn replace(s: State, index: u8, slot: Slot) -> State
-    ensures { λ r. ⌜ r ≡ replaced s index slot ⌝ }
+// Something else is known of a register.
+fn replace(registers: &mut Registers, index: u8, slot: Slot)
+    ensures { λ _. ⌜ ((f : Flags) → stateOf (now (registers .exit)) f ≡ replaced (stateOf (now (registers .entry)) f) index slot) ⌝ }
 {
     if index < 16 {
-        let mut registers = s.registers;
-        let flags = s.flags;
-        registers[index as usize] = slot;
-        State { registers, flags }
-    } else {
-        s
+        let k = index as usize;
+        registers[k] = slot.value;
+        registers[State::REGISTERS + k] = slot.known;
     }
 }
 
 // A register of another class than 1 is unknown.
-fn read(s: State, r: Register) -> Value
-    ensures { λ v. ⌜ v ≡ readOf s r ⌝ }
+fn read(registers: &Registers, r: Register) -> Value
+    ensures { λ v. ⌜ ((f : Flags) → v ≡ readOf (stateOf (now (registers .entry)) f) r) ⌝ }
 {
     if r.class == 1 {
         let w = alu::width_of(r.size);
-        let slot = slot_at(s, r.index);
+        let slot = slot_at(registers, r.index);
         known::read(w, r.offset, slot)
     } else {
         Value::Unknown
@@ -82,39 +85,30 @@ fn read(s: State, r: Register) -> Value
 }
 
 // To a register of another class than 1 nothing is written.
-fn write(s: State, r: Register, v: Value) -> State
-    ensures { λ t. ⌜ t ≡ written s r v ⌝ }
+fn write(registers: &mut Registers, r: Register, v: Value)
+    ensures { λ _. ⌜ ((f : Flags) → stateOf (now (registers .exit)) f ≡ written (stateOf (now (registers .entry)) f) r v) ⌝ }
 {
     if r.class == 1 {
         let w = alu::width_of(r.size);
-        let old = slot_at(s, r.index);
+        let old = slot_at(registers, r.index);
         let new = known::write(w, r.offset, old, v);
-        replace(s, r.index, new)
-    } else {
-        s
+        replace(registers, r.index, new);
     }
 }
 
 // The value of an operand beside a register of that size.
-fn operand(s: State, size: u8, o: Operand) -> Value
-    ensures { λ v. ⌜ v ≡ operandOf s size o ⌝ }
+fn operand(registers: &Registers, size: u8, o: Operand) -> Value
+    ensures { λ v. ⌜ ((f : Flags) → v ≡ operandOf (stateOf (now (registers .entry)) f) size o) ⌝ }
 {
     match o {
         Operand::Absent => Value::Unknown,
-        Operand::Reg(r) => read(s, r),
+        Operand::Reg(r) => read(registers, r),
         Operand::Imm(x) => {
             let w = alu::width_of(size);
             known::immediate_of(w, x)
         }
         Operand::Mem => Value::Unknown,
     }
-}
-
-fn with_flags(s: State, flags: Flags) -> State
-    ensures { λ t. ⌜ t ≡ withFlags s flags ⌝ }
-{
-    let registers = s.registers;
-    State { registers, flags }
 }
 
 fn at_most_eight(count: u64) -> u64
@@ -124,41 +118,45 @@ fn at_most_eight(count: u64) -> u64
 }
 
 // Forget a register that is declared as written, whole.
-fn forget_register(s: State, r: Register) -> State
-    ensures { λ t. ⌜ t ≡ forgetRegister s r ⌝ }
+fn forget_register(registers: &mut Registers, r: Register)
+    ensures { λ _. ⌜ ((f : Flags) → stateOf (now (registers .exit)) f ≡ forgetRegister (stateOf (now (registers .entry)) f) r) ⌝ }
 {
     if r.class == 1 {
-        replace(s, r.index, known::unknown())
-    } else {
-        s
+        replace(registers, r.index, known::unknown());
     }
 }
 
 // Forget the first n of some registers.
-fn forget_registers(s: State, registers: [Register; 8], n: u64) -> State
+fn forget_registers(registers: &mut Registers, declared: [Register; 8], n: u64)
     requires { ⌜ n ≤ 8 ⌝ }
-    ensures { λ t. ⌜ t ≡ forgetRegisters s registers n ⌝ }
+    ensures { λ _. ⌜ ((f : Flags) → stateOf (now (registers .exit)) f ≡ forgetRegisters (stateOf (now (registers .entry)) f) declared n) ⌝ }
 {
-    let mut state = s;
     let mut i: u64 = 0;
     while i < n {
-        let r = registers[i as usize];
-        state = forget_register(state, r);
+        let r = declared[i as usize];
+        forget_register(registers, r);
         i += 1;
     }
-    state
 }
 
 // Forget what the instruction declares as written.
-fn forget(s: State, i: Instruction) -> State
-    ensures { λ t. ⌜ t ≡ forgotten s i ⌝ }
+fn forget(registers: &mut Registers, flags: Flags, i: Instruction) -> Flags
+    ensures { λ r. ⌜ stateOf (now (registers .exit)) r ≡ forgotten (stateOf (now (registers .entry)) flags) i ⌝ }
 {
-    let registers = i.written;
+    let declared = i.written;
     let n = at_most_eight(i.count);
-    let after = forget_registers(s, registers, n);
-    let flags = after.flags;
-    let left = known::forget_flags(i.flags, flags);
-    with_flags(after, left)
+    forget_registers(registers, declared, n);
+    known::forget_flags(i.flags, flags)
+}
+
+// Forget all.
+fn forget_all(registers: &mut Registers) -> Flags
+    ensures { λ r. ⌜ stateOf (now (registers .exit)) r ≡ nothingKnown ⌝ }
+{
+    let start = State::unknown();
+    let words = start.registers;
+    *registers = words;
+    start.flags
 }
 
 // Whether the operand is that very register.
@@ -177,29 +175,29 @@ fn is_same(d: Register, o: Operand) -> bool
 }
 
 // stc, clc, cmc.
-fn carry(s: State, c: CarryChange) -> State
-    ensures { λ t. ⌜ t ≡ carryStep s c ⌝ }
+fn carry(flags: Flags, c: CarryChange) -> Flags
+    ensures { λ r. ⌜ ((w : List ℕ) → stateOf w r ≡ carryStep (stateOf w flags) c) ⌝ }
 {
-    let flags = s.flags;
     let cf = flags.cf;
     let new = known::carry_rule(c, cf);
-    with_flags(s, known::with_carry(flags, new))
+    known::with_carry(flags, new)
 }
 
-fn write_if(s: State, there: bool, d: Register, v: Value) -> State
-    ensures { λ t. ⌜ t ≡ cond there (written s d v) s ⌝ }
+fn write_if(registers: &mut Registers, there: bool, d: Register, v: Value)
+    ensures { λ _. ⌜ ((f : Flags) → stateOf (now (registers .exit)) f ≡ cond there (written (stateOf (now (registers .entry)) f) d v) (stateOf (now (registers .entry)) f)) ⌝ }
 {
-    if there { write(s, d, v) } else { s }
+    if there {
+        write(registers, d, v);
+    }
 }
 
-// Write the value, if the instruction writes, and set the flags.
-fn finish(s: State, there: bool, d: Register, e: Effect) -> State
-    ensures { λ t. ⌜ t ≡ finished s there d e ⌝ }
+// Write the value, if the instruction writes; its flags come back.
+fn finish(registers: &mut Registers, there: bool, d: Register, e: Effect) -> Flags
+    ensures { λ r. ⌜ ((f : Flags) → stateOf (now (registers .exit)) r ≡ finished (stateOf (now (registers .entry)) f) there d e) ⌝ }
 {
     let value = e.value;
-    let flags = e.flags;
-    let after = write_if(s, there, d, value);
-    with_flags(after, flags)
+    write_if(registers, there, d, value);
+    e.flags
 }
 
 // cmp and test write no result.
@@ -218,115 +216,133 @@ fn is_writing(op: Binary) -> bool
 }
 
 // add, sub, cmp, and, or, xor, test.
-fn arith(s: State, op: Binary, d: Register, o: Operand) -> State
-    ensures { λ t. ⌜ t ≡ arithStep s op d o ⌝ }
+fn arith(registers: &mut Registers, op: Binary, d: Register, o: Operand) -> Flags
+    ensures { λ r. ⌜ ((f : Flags) → stateOf (now (registers .exit)) r ≡ arithStep (stateOf (now (registers .entry)) f) op d o) ⌝ }
 {
     let size = d.size;
     let w = alu::width_of(size);
     let same = is_same(d, o);
-    let a = read(s, d);
-    let b = operand(s, size, o);
+    let a = read(registers, d);
+    let b = operand(registers, size, o);
     let e = known::arith_effect(op, w, same, a, b);
-    finish(s, is_writing(op), d, e)
+    finish(registers, is_writing(op), d, e)
 }
 
 // inc, dec, neg of an unknown register.
-fn unary_unknown(s: State, i: Instruction, op: Unary) -> State
-    ensures { λ t. ⌜ t ≡ unaryUnknown s i op ⌝ }
+fn unary_unknown(registers: &mut Registers, flags: Flags, i: Instruction, op: Unary) -> Flags
+    ensures { λ r. ⌜ stateOf (now (registers .exit)) r ≡ unaryUnknown (stateOf (now (registers .entry)) flags) i op ⌝ }
 {
-    let before = s.flags;
-    let cf = before.cf;
-    let after = forget(s, i);
-    let flags = after.flags;
+    let cf = flags.cf;
+    let after = forget(registers, flags, i);
     let carry = known::unknown_carry(op, cf);
-    with_flags(after, known::with_carry(flags, carry))
+    known::with_carry(after, carry)
 }
 
-fn unary_on(s: State, i: Instruction, op: Unary, d: Register, v: Value) -> State
-    ensures { λ t. ⌜ t ≡ unaryOn s i op d v ⌝ }
+fn unary_on(
+    registers: &mut Registers,
+    flags: Flags,
+    i: Instruction,
+    op: Unary,
+    d: Register,
+    v: Value,
+) -> Flags
+    ensures { λ r. ⌜ stateOf (now (registers .exit)) r ≡ unaryOn (stateOf (now (registers .entry)) flags) i op d v ⌝ }
 {
     match v {
         Value::Known(a) => {
             let w = alu::width_of(d.size);
-            let flags = s.flags;
             let cf = flags.cf;
             let e = known::unary_effect(op, w, cf, a);
-            finish(s, true, d, e)
+            finish(registers, true, d, e)
         }
-        Value::Unknown => unary_unknown(s, i, op),
+        Value::Unknown => unary_unknown(registers, flags, i, op),
     }
 }
 
 // inc, dec, neg.
-fn unary(s: State, i: Instruction, op: Unary, d: Register) -> State
-    ensures { λ t. ⌜ t ≡ unaryStep s i op d ⌝ }
+fn unary(registers: &mut Registers, flags: Flags, i: Instruction, op: Unary, d: Register) -> Flags
+    ensures { λ r. ⌜ stateOf (now (registers .exit)) r ≡ unaryStep (stateOf (now (registers .entry)) flags) i op d ⌝ }
 {
-    let v = read(s, d);
-    unary_on(s, i, op, d, v)
+    let v = read(registers, d);
+    unary_on(registers, flags, i, op, d, v)
 }
 
 // A modelled instruction with a register first; any other forgets what it declares.
-fn on_register(s: State, i: Instruction, m: Mnemonic, d: Register) -> State
-    ensures { λ t. ⌜ t ≡ registerStep s i m d ⌝ }
+fn on_register(
+    registers: &mut Registers,
+    flags: Flags,
+    i: Instruction,
+    m: Mnemonic,
+    d: Register,
+) -> Flags
+    ensures { λ r. ⌜ stateOf (now (registers .exit)) r ≡ registerStep (stateOf (now (registers .entry)) flags) i m d ⌝ }
 {
     let second = i.second;
     match m {
-        Mnemonic::Other => forget(s, i),
-        Mnemonic::Carry(_) => forget(s, i),
+        Mnemonic::Other => forget(registers, flags, i),
+        Mnemonic::Carry(_) => forget(registers, flags, i),
         Mnemonic::Mov => {
-            let v = operand(s, d.size, second);
-            write(s, d, v)
+            let v = operand(registers, d.size, second);
+            write(registers, d, v);
+            flags
         }
         Mnemonic::Not => {
-            let v = known::complement_of(read(s, d));
-            write(s, d, v)
+            let v = known::complement_of(read(registers, d));
+            write(registers, d, v);
+            flags
         }
-        Mnemonic::TwoOperand(op) => arith(s, op, d, second),
-        Mnemonic::OneOperand(op) => unary(s, i, op, d),
-        Mnemonic::Jump(_) => forget(s, i),
-        Mnemonic::CountJump(_) => forget(s, i),
+        Mnemonic::TwoOperand(op) => arith(registers, op, d, second),
+        Mnemonic::OneOperand(op) => unary(registers, flags, i, op, d),
+        Mnemonic::Jump(_) => forget(registers, flags, i),
+        Mnemonic::CountJump(_) => forget(registers, flags, i),
     }
 }
 
-fn on_first(s: State, i: Instruction, m: Mnemonic, first: Operand) -> State
-    ensures { λ t. ⌜ t ≡ onFirst s i m first ⌝ }
+fn on_first(
+    registers: &mut Registers,
+    flags: Flags,
+    i: Instruction,
+    m: Mnemonic,
+    first: Operand,
+) -> Flags
+    ensures { λ r. ⌜ stateOf (now (registers .exit)) r ≡ onFirst (stateOf (now (registers .entry)) flags) i m first ⌝ }
 {
     match first {
-        Operand::Absent => forget(s, i),
-        Operand::Reg(d) => on_register(s, i, m, d),
-        Operand::Imm(_) => forget(s, i),
-        Operand::Mem => forget(s, i),
+        Operand::Absent => forget(registers, flags, i),
+        Operand::Reg(d) => on_register(registers, flags, i, m, d),
+        Operand::Imm(_) => forget(registers, flags, i),
+        Operand::Mem => forget(registers, flags, i),
     }
 }
 
-fn step_modelled(s: State, i: Instruction) -> State
-    ensures { λ t. ⌜ t ≡ modelledStep s i (i .mnemonic) ⌝ }
+fn step_modelled(registers: &mut Registers, flags: Flags, i: Instruction) -> Flags
+    ensures { λ r. ⌜ stateOf (now (registers .exit)) r ≡ modelledStep (stateOf (now (registers .entry)) flags) i (i .mnemonic) ⌝ }
 {
     let m = i.mnemonic;
     let first = i.first;
     match m {
-        Mnemonic::Other => forget(s, i),
-        Mnemonic::Carry(c) => carry(s, c),
-        Mnemonic::Mov => on_first(s, i, Mnemonic::Mov, first),
-        Mnemonic::Not => on_first(s, i, Mnemonic::Not, first),
-        Mnemonic::TwoOperand(op) => on_first(s, i, Mnemonic::TwoOperand(op), first),
-        Mnemonic::OneOperand(op) => on_first(s, i, Mnemonic::OneOperand(op), first),
-        Mnemonic::Jump(_) => forget(s, i),
-        Mnemonic::CountJump(_) => forget(s, i),
+        Mnemonic::Other => forget(registers, flags, i),
+        Mnemonic::Carry(c) => carry(flags, c),
+        Mnemonic::Mov => on_first(registers, flags, i, Mnemonic::Mov, first),
+        Mnemonic::Not => on_first(registers, flags, i, Mnemonic::Not, first),
+        Mnemonic::TwoOperand(op) => on_first(registers, flags, i, Mnemonic::TwoOperand(op), first),
+        Mnemonic::OneOperand(op) => on_first(registers, flags, i, Mnemonic::OneOperand(op), first),
+        Mnemonic::Jump(_) => forget(registers, flags, i),
+        Mnemonic::CountJump(_) => forget(registers, flags, i),
     }
 }
 
-// What is known after an instruction.
-pub fn step(s: State, i: Instruction) -> State
-    ensures { λ t. ⌜ t ≡ stepped s i ⌝ }
+// What is known after an instruction: the registers are left so, the flags come back.
+pub fn step(registers: &mut Registers, flags: Flags, i: Instruction) -> Flags
+    ensures { λ r. ⌜ stateOf (now (registers .exit)) r ≡ stepped (stateOf (now (registers .entry)) flags) i ⌝ }
 {
     if i.call {
-        return State::unknown();
+        return forget_all(registers);
     }
     if isa::is_modelled(i) {
-        return step_modelled(s, i);
+        return step_modelled(registers, flags, i);
     }
-    forget(s, i)
+    forget(registers, flags, i)
 }
 
 // The bits of register 1 that a count-register jump reads.
@@ -341,8 +357,8 @@ fn count_size(c: Counter) -> u8
 }
 
 // What is known of a conditional branch of that mnemonic: whether it jumps.
-pub fn condition(s: State, m: Mnemonic) -> Flag
-    ensures { λ r. ⌜ r ≡ conditionOf s m ⌝ }
+pub fn condition(registers: &Registers, flags: Flags, m: Mnemonic) -> Flag
+    ensures { λ r. ⌜ r ≡ conditionOf (stateOf (now (registers .entry)) flags) m ⌝ }
 {
     match m {
         Mnemonic::Other => Flag::Unknown,
@@ -351,10 +367,7 @@ pub fn condition(s: State, m: Mnemonic) -> Flag
         Mnemonic::Not => Flag::Unknown,
         Mnemonic::TwoOperand(_) => Flag::Unknown,
         Mnemonic::OneOperand(_) => Flag::Unknown,
-        Mnemonic::Jump(c) => {
-            let flags = s.flags;
-            known::holds(c, flags)
-        }
+        Mnemonic::Jump(c) => known::holds(c, flags),
         Mnemonic::CountJump(c) => {
             let r = Register {
                 class: 1,
@@ -362,7 +375,7 @@ pub fn condition(s: State, m: Mnemonic) -> Flag
                 size: count_size(c),
                 offset: 0,
             };
-            known::is_zero(read(s, r))
+            known::is_zero(read(registers, r))
         }
     }
 }

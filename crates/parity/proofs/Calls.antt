@@ -1,5 +1,5 @@
 -- The laws of the calls by which `parity` goes through a part: what a child is lent, and what a part's polynomial is by its root.
-use Prim.Native.Nat.{ℕ, _+_, _-_, _%_, _≤_}
+use Prim.Native.Nat.{ℕ, _+_, _*_, _-_, _%_, _≤_, _<_}
 use mathlib.Core.Path.{_≡_, refl, sym, ap, subst, _∙_}
 use mathlib.Core.Bool.{true, false}
 use mathlib.Core.List.{List, _++_, append-cancel-left}
@@ -19,13 +19,18 @@ use Rattle.parity.specs.declared.Entry.{Entry}
 use Rattle.parity.specs.declared.Entry.the-variants.{Both}
 use Rattle.parity.specs.declared.Size.{Size}
 use Rattle.parity.specs.declared.Size.the-variants.{Of, TooMany}
-use Rattle.parity.specs.Lent.{entryOf, pairPoly, pairFits, pairLow, pairOf, atomsAt, Lent, LentTwo, Sides, Made, Given}
+use Rattle.parity.specs.Lent.{entryOf, pairPoly, pairFits, pairLow, pairOf, atomsAt, ProductsRoom, Lent, LentTwo, Sides, Made, Given}
 use Rattle.parity.proofs.Ordered.{parity-ascending, parity-few, atoms-few}
+use Rattle.parity.proofs.Rooms.{leaves, parity-terms, eight-each, pairs-room}
 use Rattle.parity.proofs.Steps.{Told, told, passed, made-none, told-within, atoms-count}
 
 pub wf-length : (ws : List ℕ) → Wf ws → length (flat (treeOf ws)) ≡ length ws
 unfolding Wf
 wf-length ws w = ap length w
+
+-- how many terms a part has, by its words
+side-terms : (l : List Expr) (ws : List ℕ) → Wf ws → {n : ℕ} → n ≡ length (parity l (treeOf ws) .poly) → n < leaves (length ws)
+side-terms l ws w e = rw (e, ← wf-length ws w) (parity-terms l (treeOf ws))
 
 -- both children and the root's record are the whole part
 pub two-length : (part : List ℕ) (n m : ℕ) {make : Expr → Expr → Expr} → n + 2 ≡ length part → TwoChildren part n m make
@@ -177,6 +182,12 @@ module _ {whole : List ℕ} {at : ℕ} {left right table : List ℕ} {count : �
     pub left-few : n ≤ 256
     left-few = omega (arith, x-told .count, parity-few (atomsAt whole (take count table)) (treeOf left) (x-told .fit))
 
+    left-terms : n < leaves (length left)
+    left-terms = side-terms (atomsAt whole (take count table)) left (two .leftWf) (x-told .count)
+
+    left-each : n ≤ 8 * (length left + 2)
+    left-each = eight-each n (length left) (wf-two left (two .leftWf)) left-few left-terms
+
     pub left-within : n ≤ length terms₁
     left-within = told-within x-told
 
@@ -203,7 +214,7 @@ module _ {whole : List ℕ} {at : ℕ} {left right table : List ℕ} {count : �
           );
       table = omega (arith, two .table);
       parts = rw (x-told .all) (g .parts (x-told .fit));
-      space = omega (arith, two .space, left-few, rest-length, wf-two left (two .leftWf));
+      space = omega (arith, two .space, left-each, rest-length);
     }
 
     right-atoms : atomsAt whole (take noted table₁) ≡ parity (atomsAt whole (take count table)) (treeOf left) .atoms
@@ -226,6 +237,13 @@ module _ {whole : List ℕ} {at : ℕ} {left right table : List ℕ} {count : �
             (length (parity (parity (atomsAt whole (take count table)) (treeOf left) .atoms) (treeOf right) .atoms)) rest₂ k all
         y-told = told (h′ .made) f
 
+        right-few : k ≤ 256
+        right-few =
+            omega (arith, y-told .count, parity-few (parity (atomsAt whole (take count table)) (treeOf left) .atoms) (treeOf right) (y-told .fit))
+
+        right-terms : k < leaves (length right)
+        right-terms = side-terms (parity (atomsAt whole (take count table)) (treeOf left) .atoms) right (two .rightWf) (y-told .count)
+
         module _ (tail : List ℕ) where
           first : take n (take n terms₁ ++ (rest₂ ++ tail)) ≡ parity (atomsAt whole (take count table)) (treeOf left) .poly
           first = take-at (take n terms₁) (rest₂ ++ tail) n (length-take-le n terms₁ left-within) ∙ x-told .stands
@@ -237,24 +255,25 @@ module _ {whole : List ℕ} {at : ℕ} {left right table : List ℕ} {count : �
               ∙ y-told .stands
 
           pub two-sides : length terms₁ ≡ length terms → length rest₂ ≡ length (take (length terms₁ - n) (drop n terms₁))
-              → (scratch : List ℕ) → 4096 ≤ length scratch → Sides (take n terms₁ ++ (rest₂ ++ tail)) n k scratch
+              → (scratch : List ℕ) → ProductsRoom (length left + length right + 2) scratch → Sides (take n terms₁ ++ (rest₂ ++ tail)) n k scratch
           two-sides ls lr scratch room = record {
             left = left-few;
-            right = omega (arith, y-told .count, parity-few (parity (atomsAt whole (take count table)) (treeOf left) .atoms) (treeOf right) (y-told .fit));
+            right = right-few;
             ordered = rw first (parity-ascending (atomsAt whole (take count table)) (treeOf left));
             space =
                 omega (
                   arith,
                   two .space,
-                  wf-two left (two .leftWf),
-                  wf-two right (two .rightWf),
+                  left-each,
+                  eight-each k (length right) (wf-two right (two .rightWf)) right-few right-terms,
                   rest-length,
                   left-within,
                   length-append (take n terms₁) (rest₂ ++ tail),
                   length-append rest₂ tail,
                   length-take-le n terms₁ left-within,
                 );
-            products = room;
+            copies = room .least;
+            products = pairs-room (length left) (length right) n k scratch room left-terms right-terms;
           }
 
           pub two-given : (pair : Pair) (new : List ℕ) (r : Size)

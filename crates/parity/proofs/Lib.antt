@@ -9,4 +9,5 @@ pub mod TypeLaws
 pub mod Evaluation
 -- laws of the code's steps
 pub mod Steps
+pub mod Rooms
 pub mod Calls

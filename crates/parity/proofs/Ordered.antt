@@ -107,11 +107,11 @@ noted-few l e = go (noting l e)
     go (known h is) = rw is (omega arith)
     go (new h is) = rw (is, length-append l (e ∷ [])) (omega (arith, flat-two e))
 
-flat-binary : (o : ℕ) (a b : Expr) → length (flat (binary o a b)) ≡ length (flat a) + length (flat b) + 2
+pub flat-binary : (o : ℕ) (a b : Expr) → length (flat (binary o a b)) ≡ length (flat a) + length (flat b) + 2
 unfolding flat
 flat-binary o a b = length-append (flat a) (flat b ++ own (binary o a b)) ∙ omega (arith, length-append (flat b) (own (binary o a b)))
 
-flat-cast : (t : ℕ) (a : Expr) → length (flat (cast t a)) ≡ length (flat a) + 2
+pub flat-cast : (t : ℕ) (a : Expr) → length (flat (cast t a)) ≡ length (flat a) + 2
 unfolding flat
 flat-cast t a = length-append (flat a) (own (cast t a))
 

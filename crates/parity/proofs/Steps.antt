@@ -191,7 +191,7 @@ module _ (terms : List ℕ) (n k : ℕ) (scratch : List ℕ) (s : Sides terms n 
   sum-made copy new count room atoms r e w l =
       let right : take k copy ≡ take k (drop n terms) =
       rw (behind terms n k (n + k) refl) at (ap (take k) e)
-      ∙ copied-part scratch (take k (drop n terms)) 0 k right-count (omega (arith, s .right, s .products)) in
+      ∙ copied-part scratch (take k (drop n terms)) 0 k right-count (omega (arith, s .right, s .copies)) in
       limited-made (rw right at w) l
 
   -- the product
@@ -199,7 +199,7 @@ module _ (terms : List ℕ) (n k : ℕ) (scratch : List ℕ) (s : Sides terms n 
   pairs-past b h = rw (left-count, right-count, lt-leb (n * k) 4096 h)
 
   pub product-room : n * k ≤ 4096 → 0 + length (take n terms) * length (take (n + k - n) (drop n terms)) ≤ length scratch
-  product-room h = rw (behind terms n k (n + k) refl, left-count, right-count) (omega (arith, s .products))
+  product-room h = rw (behind terms n k (n + k) refl, left-count, right-count) (omega (arith, s .products h))
 
   pub product-made : (new : List ℕ) (count room atoms : ℕ) (r : Size) → n * k ≤ 4096
       → Written (sumProduct (take 0 scratch) (take n terms) (take (n + k - n) (drop n terms))) count room scratch new
@@ -249,15 +249,15 @@ module _ (terms : List ℕ) (n k : ℕ) (scratch : List ℕ) (s : Sides terms n 
     join-right =
         behind copy count k (count + k) refl
         ∙ rw (behind terms n k (n + k) refl) at (ap (λ (l : List ℕ). take k (drop count l)) e)
-        ∙ copied-part from (take k (drop n terms)) count k (right-count terms n k scratch s) (omega (arith, join-count, s .right, s .products))
+        ∙ copied-part from (take k (drop n terms)) count k (right-count terms n k scratch s) (omega (arith, join-count, s .right, s .copies))
 
     join-sum : Written (sum (take n terms) (take k (drop n terms))) sums room terms mid
     join-sum = rw join-right at w
 
-    -- the sum on the way has few terms, in order
-    pub join-few : sums ≤ 512
+    -- the sum on the way has no more terms than the sides, in order
+    pub join-few : sums ≤ n + k
     join-few =
-        omega (arith, join-sum .count, length-sum (take n terms) (take k (drop n terms)), left-count terms n k scratch s, right-count terms n k scratch s, s .left, s .right)
+        omega (arith, join-sum .count, length-sum (take n terms) (take k (drop n terms)), left-count terms n k scratch s, right-count terms n k scratch s)
 
     pub join-ordered : Ascending (take sums mid)
     join-ordered = written-ordered join-sum (ascending-sum (take n terms) (take k (drop n terms)) (s .ordered))

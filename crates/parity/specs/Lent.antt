@@ -74,9 +74,19 @@ pub record Part (whole : List ℕ) (w : ℕ) : Type 0 where
 pub record Parts (whole ws : List ℕ) : Type 0 where
   pub each : (i : ℕ) → i < length ws → Part whole (getD ws i 0)
 
+-- Room for the terms of a part of w words: eight for each word hold the left sides' terms, which stand before what is being made,
+-- and 272 more let the sides of an `or`, and their product, be added up.
+abbrev pub termsRoom : ℕ → ℕ
+termsRoom w = 8 * w + 272
+
+-- Room for a product within a part of w words, and for a copy of a right side behind it. A part of 36 words has at most nine leaves,
+-- and then no more than 512 pairs to multiply.
+pub record ProductsRoom (w : ℕ) (scratch : List ℕ) : Type 0 where
+  pub least : 512 ≤ length scratch
+  pub most : 36 < w → 4096 ≤ length scratch
+
 -- A part of the whole from a place on, and room for its atoms and its terms. Each atom takes two words or more, and each side
--- of an operator leaves two for the operator itself, so 64 places suffice for 256 words. While a right side is made, at most 256
--- terms of the left one stand before it.
+-- of an operator leaves two for the operator itself, so 64 places suffice for 256 words.
 pub record Lent (whole : List ℕ) (at : ℕ) (part atoms : List ℕ) (count : ℕ) (terms : List ℕ) : Type 0 where
   pub wf : Wf part
   pub stands : part ≡ take (length part) (drop at whole)
@@ -85,7 +95,7 @@ pub record Lent (whole : List ℕ) (at : ℕ) (part atoms : List ℕ) (count : �
   pub room : 4 * count + length part ≤ 256
   pub table : 64 ≤ length atoms
   pub parts : Parts whole (take count atoms)
-  pub space : 64 * length part + 512 ≤ length terms
+  pub space : termsRoom (length part) ≤ length terms
 
 -- the same for two sides, one after the other
 pub record LentTwo (whole : List ℕ) (at : ℕ) (left right atoms : List ℕ) (count : ℕ) (terms : List ℕ) : Type 0 where
@@ -98,15 +108,16 @@ pub record LentTwo (whole : List ℕ) (at : ℕ) (left right atoms : List ℕ) (
   pub room : 4 * count + (length left + length right + 2) ≤ 256
   pub table : 64 ≤ length atoms
   pub parts : Parts whole (take count atoms)
-  pub space : 64 * (length left + length right + 2) + 512 ≤ length terms
+  pub space : termsRoom (length left + length right + 2) ≤ length terms
 
 -- The first n terms and the k after them are the sides' polynomials, and there is room to put them together.
 pub record Sides (terms : List ℕ) (n k : ℕ) (scratch : List ℕ) : Type 0 where
   pub left : n ≤ 256
   pub right : k ≤ 256
   pub ordered : Ascending (take n terms)
-  pub space : 768 ≤ length terms
-  pub products : 4096 ≤ length scratch
+  pub space : n + k + 256 ≤ length terms
+  pub copies : 512 ≤ length scratch
+  pub products : n * k ≤ 4096 → n * k ≤ length scratch
 
 -- A polynomial within the limits stands at the front, and its size is told; else that it passes them.
 pub record Made (fits : Bool) (poly : List ℕ) (atoms : ℕ) (terms : List ℕ) (r : Size) : Type 0 where

@@ -3,13 +3,13 @@
 // front, the right side's after it, and the two are put together at the front.
 ghost use mathlib.Core.Path.{_≡_};
 ghost use mathlib.Core.Bool.{true, cond, _&&_};
-ghost use Prim.Native.Nat.{_≤_};
+ghost use Prim.Native.Nat.{_+_, _≤_};
 ghost use lib.Dec.{leb};
 ghost use lib.ListN.{length, take, drop};
 ghost use Rattle.expr.specs.Tree.{Wf, treeOf};
 ghost use Rattle.poly.specs.Terms.{sum as sumOf, product as productOf};
 ghost use Rattle.parity.specs.Parity.{constantOf, onRemainder, onShift, entered as enteredOf, place as placeIn, numberIn, parity as parityOf, few, fewPairs, constantPoly, joined as joinedOf, atomLow};
-ghost use Rattle.parity.specs.Lent.{optionOf, entryOf, pairPoly, pairFits, pairOf, atomsAt, Parts, Lent, LentTwo, Sides, Made, Given};
+ghost use Rattle.parity.specs.Lent.{optionOf, entryOf, pairPoly, pairFits, pairOf, atomsAt, Parts, ProductsRoom, Lent, LentTwo, Sides, Made, Given};
 
 // A constant's value as it is written, or that a part is something else.
 pub enum Constant {
@@ -260,7 +260,7 @@ pub fn sides(
     scratch: &mut [u64],
 ) -> Size
     requires { ⌜ LentTwo (now whole) at (now left) (now right) (now atoms) count (now terms) ⌝ }
-    requires { ⌜ 4096 ≤ length (now scratch) ⌝ }
+    requires { ⌜ ProductsRoom (length (now left) + length (now right) + 2) (now scratch) ⌝ }
     ensures { λ r. ⌜ Given (pairOf pair (atomsAt (now (whole .entry)) (take count (now (atoms .entry)))) (treeOf (now (left .entry))) (treeOf (now (right .entry)))) (now (whole .entry)) (now (atoms .exit)) (now (terms .exit)) r ⌝ }
 {
     match parity(whole, at, left, atoms, count, terms, scratch) {
@@ -294,7 +294,7 @@ pub fn parity(
     scratch: &mut [u64],
 ) -> Size
     requires { ⌜ Lent (now whole) at (now part) (now atoms) count (now terms) ⌝ }
-    requires { ⌜ 4096 ≤ length (now scratch) ⌝ }
+    requires { ⌜ ProductsRoom (length (now part)) (now scratch) ⌝ }
     ensures { λ r. ⌜ Given (parityOf (atomsAt (now (whole .entry)) (take count (now (atoms .entry)))) (treeOf (now (part .entry)))) (now (whole .entry)) (now (atoms .exit)) (now (terms .exit)) r ⌝ }
 {
     let n = part.len() - 2;

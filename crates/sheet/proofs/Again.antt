@@ -1,34 +1,43 @@
--- The instructions of a sheet, read again where the index says that they stand.
-use Prim.Native.Nat.{ℕ, zero, suc}
-use mathlib.Core.Path.{_≡_, refl, ap, _∙_}
-use mathlib.Core.List.{List, [], _∷_, _++_, map}
+-- An instruction of a sheet, where the index says that it stands: its record is whole there too, and holds that instruction.
+use Prim.Native.Nat.{ℕ, suc, _<_}
+use mathlib.Core.Path.{_≡_, sym}
+use mathlib.Core.List.{List}
 use mathlib.Core.Bool.{true}
+use native.Mathlib.Omega.{arith}
 use lib.Dec.{eqb}
+use lib.ListN.{getD}
 use Rattle.sheet_field.specs.declared.Place.{Place}
 use Rattle.sheet_field.specs.declared.Place.the-variants.{At}
-use Rattle.sheet_field.specs.Field.{startOf}
+use Rattle.sheet_field.specs.Field.{startOf, WentOn}
+use Rattle.sheet_field.proofs.Counted.{back}
 use Rattle.isa.specs.declared.Instruction.{Instruction}
+use Rattle.sheet_instruction.specs.declared.InstructionReading.{InstructionReading}
 use Rattle.sheet_instruction.specs.Instruction.{instructionAt}
 use Rattle.sheet_instruction.proofs.Accepted.{instruction-on}
 use Rattle.sheet.specs.Sheet.{instructionsFrom}
+use Rattle.sheet.proofs.Sections.{instructions-keep}
+use Rattle.sheet.proofs.Fronts.{instructions-nth, places-nth}
 
-abbrev pub reread : List ℕ → ℕ → Instruction
-reread s p = instructionAt true 0 s (At p) .instruction
+module _ (s : List ℕ) (p : Place) (k j : ℕ) (on : WentOn (instructionsFrom s p k .next)) (below : j < k) where
+  -- where it was read
+  here : InstructionReading
+  here = instructionAt (eqb j 0) (instructionsFrom s p j .last) s (instructionsFrom s p j .next)
 
-map-append : (f : ℕ → Instruction) (l m : List ℕ) → map f (l ++ m) ≡ map f l ++ map f m
-map-append f [] m = refl
-map-append f (x ∷ l) m = ap (λ (t : List Instruction). f x ∷ t) (map-append f l m)
+  here-on : WentOn (here .next)
+  unfolding here instructionsFrom
+  here-on = back (λ j. instructionsFrom s p j .next) (instructions-keep s p) k (suc j) (on .1) (omega (arith, below))
 
-pub again : (s : List ℕ) (p : Place) (k : ℕ) {a : ℕ} → instructionsFrom s p k .next ≡ At a
-    → map (reread s) (instructionsFrom s p k .places) ≡ instructionsFrom s p k .list
-unfolding instructionsFrom
-again s p zero e = refl
-again s p (suc k) e =
-    let t = instructionsFrom s p k in
-    let taken = instruction-on (eqb k 0) (t .last) s (t .next) e in
-    let here : At (startOf (t .next)) ≡ t .next = rw (taken .there) in
-    let one : reread s (startOf (t .next)) ≡ instructionAt (eqb k 0) (t .last) s (t .next) .instruction =
-    ap (λ (q : Place). instructionAt true 0 s q .instruction) here ∙ rw (taken .again) in
-    map-append (reread s) (t .places) (startOf (t .next) ∷ [])
-    ∙ ap (λ (l : List Instruction). l ++ (reread s (startOf (t .next)) ∷ [])) (again s p k (taken .there))
-    ∙ ap (λ (i : Instruction). t .list ++ (i ∷ [])) one
+  again : instructionAt true 0 s (At (getD (instructionsFrom s p k .places) j 0)) ≡ here
+  unfolding here
+  again =
+      let before = instructionsFrom s p j in
+      let taken = instruction-on (eqb j 0) (before .last) s (before .next) (here-on .1) in
+      let stands : At (startOf (before .next)) ≡ before .next = rw (taken .there) in
+      rw (places-nth s p k j below, stands) (taken .again)
+
+  pub again-on : WentOn (instructionAt true 0 s (At (getD (instructionsFrom s p k .places) j 0)) .next)
+  again-on = rw again here-on
+
+  pub again-is : (none : Instruction) → instructionAt true 0 s (At (getD (instructionsFrom s p k .places) j 0)) .instruction ≡ getD (instructionsFrom s p k .list) j none
+  unfolding here
+  again-is none = rw again (sym (instructions-nth s p k j none below))

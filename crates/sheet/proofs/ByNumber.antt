@@ -1,15 +1,14 @@
 -- A block, an instruction and a node of an accepted sheet, found by number.
-use Prim.Native.Nat.{ℕ, zero, suc, _+_, _*_, _≤_, _<_}
-use mathlib.Core.Path.{_≡_, refl, sym, ap, _∙_}
-use mathlib.Core.List.{List, [], _∷_, map}
+use Prim.Native.Nat.{ℕ, _+_, _*_, _≤_, _<_}
+use mathlib.Core.Path.{_≡_, sym, ap, _∙_}
+use mathlib.Core.List.{List}
 use mathlib.Core.Bool.{Bool, true}
 use native.Mathlib.Omega.{arith}
-use lib.ListN.{length, getD, length-map, List·getD-map}
+use lib.ListN.{length, getD, length-map}
 use Rattle.sheet_field.specs.declared.Place.{Place}
 use Rattle.sheet_field.specs.declared.Place.the-variants.{At}
 use Rattle.sheet_field.specs.Field.{startOf, WentOn}
 use Rattle.isa.specs.declared.Instruction.{Instruction}
-use Rattle.sheet_instruction.specs.declared.InstructionReading.{InstructionReading}
 use Rattle.sheet_instruction.specs.Instruction.{instructionAt}
 use Rattle.sheet_node.specs.declared.NodeReading.{NodeReading}
 use Rattle.sheet_node.specs.Node.{Node, nodeAt, nodeOf}
@@ -18,18 +17,12 @@ use Rattle.search.specs.Ascending.{Ascending}
 use Rattle.sheet.specs.declared.BlockReading.{BlockReading}
 use Rattle.sheet.specs.declared.Sheet.{Sheet}
 use Rattle.sheet.specs.declared.Reading.the-variants as reading
-use Rattle.sheet.specs.Sheet.{noBlock, blockAt, nodesFrom, sheetAt, readingOf}
+use Rattle.sheet.specs.Sheet.{noBlock, blockAt, instructionsFrom, nodesFrom, sheetAt, readingOf}
 use Rattle.sheet.specs.Index.{over, addressesOf, targetsOf, branchesOf, Indexed, InFront}
 use Rattle.sheet.proofs.Accepted.{accepted, blockOf, block-at, nodes-back, nodes-next, nodes-nth, node-places-nth, node-places-length}
 use Rattle.sheet.proofs.Fronts.{instructions-length, places-length, over-length, over-front}
 use Rattle.sheet.proofs.Rising.{rising}
-use Rattle.sheet.proofs.Again.{reread, again}
-
--- within a list no default is asked for
-any-default : {A : Type 0} (l : List A) (i : ℕ) (d e : A) → i < length l → getD l i d ≡ getD l i e
-any-default [] i d e lt = absurd (omega arith)
-any-default (x ∷ l) zero d e lt = refl
-any-default (x ∷ l) (suc i) d e lt = any-default l i d e (omega arith)
+use Rattle.sheet.proofs.Again.{again-on, again-is}
 
 module _ (s : List ℕ) (sheet : Sheet) (read : readingOf s ≡ reading.Accepted sheet) where
   pub nth-block-is : (number : ℕ) {b : BlockReading} → number < sheet .blocks .count → b ≡ blockAt s (At (sheet .blocks .at + 16 * number))
@@ -55,16 +48,27 @@ module _ (s : List ℕ) (sheet : Sheet) (read : readingOf s ≡ reading.Accepted
   pub node-places-count : length (sheetAt s .nodes .places) ≡ sheet .nodes .count
   node-places-count = rw (← accepted s sheet read .nodes) (node-places-length s (At (sheet .nodes .at)) (sheet .nodes .count))
 
-  pub nth-instruction-is : (number : ℕ) {places : List ℕ} {r : InstructionReading} → places ≡ sheetAt s .instructions .places
-      → number < length places → r ≡ instructionAt true 0 s (At (getD places number 0))
-      → (d : Instruction) → r .instruction ≡ getD (sheetAt s .instructions .list) number d
-  nth-instruction-is number {places} places-are below r-is d =
-      let acc = accepted s sheet read in
-      let whole : map (reread s) places ≡ sheetAt s .instructions .list =
-      rw (places-are, ← acc .instructions)
-      (again s (At (sheet .instructions .at)) (sheet .instructions .count) {a = acc .afterInstructions .0} (rw (acc .instructions) (acc .afterInstructions .1))) in
-      rw (r-is, ← whole)
-      (sym (List·getD-map (reread s) places number 0) ∙ any-default (map (reread s) places) number (reread s 0) d (rw length-map below))
+  module _ (number : ℕ) {places : List ℕ} (places-are : places ≡ sheetAt s .instructions .places) (below : number < length places) where
+    numbered : number < sheet .instructions .count
+    numbered = rw (places-are, places-count) at below
+
+    code : Place
+    code = At (sheet .instructions .at)
+
+    code-on : WentOn (instructionsFrom s code (sheet .instructions .count) .next)
+    unfolding code
+    code-on = let acc = accepted s sheet read in rw (acc .instructions) (acc .afterInstructions)
+
+    pub nth-instruction-on : WentOn (instructionAt true 0 s (At (getD places number 0)) .next)
+    unfolding code
+    nth-instruction-on =
+        rw (places-are, ← accepted s sheet read .instructions) (again-on s code (sheet .instructions .count) number code-on numbered)
+
+    pub nth-instruction-is : {i : Instruction} → i ≡ instructionAt true 0 s (At (getD places number 0)) .instruction
+        → (d : Instruction) → i ≡ getD (sheetAt s .instructions .list) number d
+    unfolding code
+    nth-instruction-is i-is d =
+        rw (i-is, places-are, ← accepted s sheet read .instructions) (again-is s code (sheet .instructions .count) number code-on numbered d)
 
   module _ (number : ℕ) {places : List ℕ} {r : NodeReading} (places-are : places ≡ sheetAt s .nodes .places) (below : number < length places)
       (r-is : r ≡ nodeAt s (At (getD places number 0))) where

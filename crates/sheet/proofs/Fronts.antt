@@ -1,17 +1,17 @@
 -- Entries at the front of a lent list, and the index that the loops keep.
-use Prim.Native.Nat.{ℕ, zero, suc, _+_, _≤_}
+use Prim.Native.Nat.{ℕ, zero, suc, _+_, _≤_, _<_}
 use mathlib.Core.Path.{_≡_, refl, sym, ap, _∙_}
 use mathlib.Core.Bool.{Bool}
 use mathlib.Core.List.{List, [], _∷_, _++_, map}
 use native.Mathlib.Omega.{arith}
 use native.Mathlib.Numerals.{add-one}
 use lib.Dec.{eqb}
-use lib.ListN.{length, set, take, length-map}
+use lib.ListN.{length, getD, set, take, length-map}
 use Rattle.sheet_field.specs.declared.Place.{Place}
 use Rattle.sheet_field.specs.declared.Place.the-variants.{At}
 use Rattle.sheet_field.specs.declared.Field.{Field}
 use Rattle.sheet_field.specs.Field.{countAt, startOf, WentOn}
-use Rattle.sheet_field.proofs.Counted.{counted}
+use Rattle.sheet_field.proofs.Counted.{counted, nth}
 use Rattle.isa.specs.declared.Instruction.{Instruction}
 use Rattle.sheet_instruction.specs.declared.InstructionReading.{InstructionReading}
 use Rattle.sheet_instruction.specs.Instruction.{instructionAt}
@@ -69,6 +69,11 @@ module _ (s : List ℕ) (p : Place) where
   pub instructions-length : (k : ℕ) → length (instructionsFrom s p k .list) ≡ k
   instructions-length = counted (λ j. instructionsFrom s p j .list) nth-instruction no-instructions more-instructions
 
+  pub instructions-nth : (k j : ℕ) (none : Instruction) → j < k
+      → getD (instructionsFrom s p k .list) j none ≡ instructionAt (eqb j 0) (instructionsFrom s p j .last) s (instructionsFrom s p j .next) .instruction
+  unfolding nth-instruction
+  instructions-nth = nth (λ j. instructionsFrom s p j .list) nth-instruction no-instructions more-instructions
+
   nth-place : ℕ → ℕ
   nth-place k = startOf (instructionsFrom s p k .next)
 
@@ -82,6 +87,10 @@ module _ (s : List ℕ) (p : Place) where
 
   pub places-length : (k : ℕ) → length (instructionsFrom s p k .places) ≡ k
   places-length = counted (λ j. instructionsFrom s p j .places) nth-place no-places more-places
+
+  pub places-nth : (k j : ℕ) → j < k → getD (instructionsFrom s p k .places) j 0 ≡ startOf (instructionsFrom s p j .next)
+  unfolding nth-place
+  places-nth k j lt = nth (λ j. instructionsFrom s p j .places) nth-place no-places more-places k j 0 lt
 
 -- an entry more, at the place of its number
 entry : {A : Type 0} {list : List A} (before entries : List A) (x : A) (k : ℕ) → list ≡ over entries before → length entries ≡ k

@@ -56,7 +56,7 @@ pub enum Width {
     Eight,
 }
 
-fn bytes(w: Width) -> usize
+pub fn bytes(w: Width) -> usize
     ensures { λ r. ⌜ r ≡ bytesOf w ⌝ }
 {
     match w {
@@ -67,7 +67,7 @@ fn bytes(w: Width) -> usize
 }
 
 // The number in as many bytes.
-fn number(s: &[u8], at: usize, w: Width) -> u64
+pub fn number(s: &[u8], at: usize, w: Width) -> u64
     requires { ⌜ at + bytesOf w ≤ length (now s) ⌝ }
     ensures { λ r. ⌜ r ≡ little (now (s .entry)) at (bytesOf w) ⌝ }
 {

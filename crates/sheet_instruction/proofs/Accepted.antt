@@ -17,6 +17,7 @@ use Rattle.sheet_field.specs.Field.{fieldAt, startOf, codeAt, countAt, checkFie
 use Rattle.sheet_field.proofs.Fields.{judge-at, check-at, count-at, not-both, field-on, code-on}
 use Rattle.sheet_field.proofs.Counted.{back}
 use Rattle.sheet_instruction.specs.Instruction.{registerAt, operandAt, withRegister, registersFrom, registersAt, optionalRegisters, optionalOperand, optionalField, optionalCode, bitOf, mapAt, addressAt, headAt, tailAt, instructionAt}
+use Rattle.sheet_instruction.specs.Contracts.{operandsAt}
 
 register-on : (s : List ℕ) (p : Place) {a : ℕ} → registerAt s p .next ≡ At a → WentOn p
 unfolding registerAt
@@ -50,21 +51,25 @@ operand-well s p e = zero-or (eqb (codeAt 3 s p .value) 0) (eqb (codeAt 3 s p .v
     zero-or false true q r = rw (q, r) tt
     zero-or false false q r = rw (q, r) tt
 
-operand-on : (s : List ℕ) (p : Place) {a : ℕ} → operandAt s p .next ≡ At a → WentOn p
+-- reading went on behind an operand's code
+pub operand-kind-on : (s : List ℕ) (p : Place) {a : ℕ} → operandAt s p .next ≡ At a → WentOn (codeAt 3 s p .next)
 unfolding operandAt
-operand-on s p e = zero-or (eqb (codeAt 3 s p .value) 0) (eqb (codeAt 3 s p .value) 1) refl refl
+operand-kind-on s p {a} e = zero-or (eqb (codeAt 3 s p .value) 0) (eqb (codeAt 3 s p .value) 1) refl refl
   where
-    zero-or : (t u : Bool) → eqb (codeAt 3 s p .value) 0 ≡ t → eqb (codeAt 3 s p .value) 1 ≡ u → WentOn p
-    zero-or true u q r = code-on 3 s p (register-on s (codeAt 3 s p .next) (rw q at e) .1)
-    zero-or false true q r = code-on 3 s p (field-on 8 s (codeAt 3 s p .next) (rw (q, r) at e) .1)
-    zero-or false false q r = code-on 3 s p (rw (q, r) at e)
+    zero-or : (t u : Bool) → eqb (codeAt 3 s p .value) 0 ≡ t → eqb (codeAt 3 s p .value) 1 ≡ u → WentOn (codeAt 3 s p .next)
+    zero-or true u q r = register-on s (codeAt 3 s p .next) (rw q at e)
+    zero-or false true q r = field-on 8 s (codeAt 3 s p .next) (rw (q, r) at e)
+    zero-or false false q r = (a, rw (q, r) at e)
+
+operand-on : (s : List ℕ) (p : Place) {a : ℕ} → operandAt s p .next ≡ At a → WentOn p
+operand-on s p e = code-on 3 s p (operand-kind-on s p e .1)
 
 -- a register that is read where reading was refused leaves the refusal
-registers-keep : (s : List ℕ) (p : Place) (j k at : ℕ) → registersFrom s p j .next ≡ Refused k at → registersFrom s p (suc j) .next ≡ Refused k at
+pub registers-keep : (s : List ℕ) (p : Place) (j k at : ℕ) → registersFrom s p j .next ≡ Refused k at → registersFrom s p (suc j) .next ≡ Refused k at
 unfolding registersFrom withRegister registerAt fieldAt
 registers-keep s p j k at e = rw e
 
-registers-from-on : (s : List ℕ) (p : Place) (k : ℕ) {a : ℕ} → registersFrom s p k .next ≡ At a → WentOn p
+pub registers-from-on : (s : List ℕ) (p : Place) (k : ℕ) {a : ℕ} → registersFrom s p k .next ≡ At a → WentOn p
 unfolding registersFrom
 registers-from-on s p k e = back (λ j. registersFrom s p j .next) (registers-keep s p) k 0 e (omega arith)
 
@@ -95,22 +100,55 @@ optional-code-on : (there : Bool) (limit : ℕ) (s : List ℕ) (p : Place) {a : 
 optional-code-on true limit s p e = code-on limit s p e
 optional-code-on false limit s p {a} e = (a, e)
 
-tail-on : (map : ℕ) (s : List ℕ) (p : Place) {a : ℕ} → tailAt map s p .next ≡ At a → WentOn p
+-- reading went on at each stage of a tail
+pub record TailOn (map : ℕ) (s : List ℕ) (p : Place) : Type 0 where
+  pub from : WentOn p
+  pub one : WentOn (optionalOperand (bitOf map 4) s p .next)
+  pub two : WentOn (operandsAt map s p .next)
+  pub written : WentOn (optionalRegisters (bitOf map 16) s (operandsAt map s p .next) .next)
+
+pub tail-on : (map : ℕ) (s : List ℕ) (p : Place) {a : ℕ} → tailAt map s p .next ≡ At a → TailOn map s p
 unfolding tailAt
 tail-on map s p e =
     let written = optional-code-on (bitOf map 32) 32 s _ e in
     let two = optional-registers-on (bitOf map 16) s _ (written .1) in
     let one = optional-operand-on (bitOf map 8) s _ (two .1) in
-    optional-operand-on (bitOf map 4) s p (one .1)
+    record { from = optional-operand-on (bitOf map 4) s p (one .1); one = one; two = two; written = written }
 
-tail-well : (map : ℕ) (s : List ℕ) (p : Place) {a : ℕ} → tailAt map s p .next ≡ At a
+tail-well : (map : ℕ) (s : List ℕ) (p : Place) → TailOn map s p
     → Well (tailAt map s p .first) × Well (tailAt map s p .second)
 unfolding tailAt
-tail-well map s p e =
-    let written = optional-code-on (bitOf map 32) 32 s _ e in
-    let two = optional-registers-on (bitOf map 16) s _ (written .1) in
-    let one = optional-operand-on (bitOf map 8) s _ (two .1) in
-    (optional-operand-well (bitOf map 4) s p (one .1), optional-operand-well (bitOf map 8) s _ (two .1))
+tail-well map s p on = (optional-operand-well (bitOf map 4) s p (on .one .1), optional-operand-well (bitOf map 8) s _ (on .two .1))
+
+-- reading went on at each stage of a head
+pub record HeadOn (opens : Bool) (last : ℕ) (s : List ℕ) (p : Place) : Type 0 where
+  pub from : WentOn p
+  pub map : WentOn (mapAt s p .next)
+  pub address : WentOn (addressAt opens last s (mapAt s p .next) .next)
+  pub number : WentOn (codeAt 35 s (addressAt opens last s (mapAt s p .next) .next) .next)
+
+pub head-on : (opens : Bool) (last : ℕ) (s : List ℕ) (p : Place) {a : ℕ} → headAt opens last s p .next ≡ At a → HeadOn opens last s p
+unfolding headAt mapAt addressAt
+head-on opens last s p e =
+    let map = mapAt s p in
+    let number = optional-field-on (bitOf (map .value) 1) s _ e in
+    let address = code-on 35 s (addressAt opens last s (map .next) .next) (number .1) in
+    let mapped = field-on 8 s (map .next) (check-at _ 4 (startOf (map .next)) (fieldAt 8 s (map .next)) (address .1) .1) in
+    record {
+      from = field-on 1 s p (check-at _ 2 (startOf p) (fieldAt 1 s p) (mapped .1) .1);
+      map = mapped;
+      address = address;
+      number = number;
+    }
+
+-- reading went on behind the head and the tail of an instruction
+pub behind-on : (opens : Bool) (last : ℕ) (s : List ℕ) (p : Place) {a : ℕ} → instructionAt opens last s p .next ≡ At a
+    → (tailAt (headAt opens last s p .map) s (headAt opens last s p .next) .next ≡ At a) × WentOn (headAt opens last s p .next)
+unfolding instructionAt
+behind-on opens last s p e =
+    let head = headAt opens last s p in
+    let tail = judge-at _ 6 (startOf p) _ e .1 in
+    (tail, tail-on (head .map) s (head .next) tail .from)
 
 -- what an instruction that was read whole is
 pub record Taken (opens : Bool) (last : ℕ) (s : List ℕ) (p : Place) : Type 0 where
@@ -145,23 +183,20 @@ other-true false b e q = e
 
 pub instruction-on : (opens : Bool) (last : ℕ) (s : List ℕ) (p : Place) {a : ℕ} → instructionAt opens last s p .next ≡ At a
     → Taken opens last s p
-unfolding instructionAt headAt mapAt addressAt
+unfolding instructionAt headAt addressAt
 instruction-on opens last s p e =
     let map = mapAt s p in
-    let address = addressAt opens last s (map .next) in
     let head = headAt opens last s p in
-    let behind = tail-on (head .map) s (head .next) (judge-at _ 6 (startOf p) _ e .1) in
-    let target = optional-field-on (bitOf (map .value) 1) s _ (behind .1) in
-    let mnemonic = code-on 35 s (address .next) (target .1) in
-    let rises = check-at (opens || ltb last (fieldAt 8 s (map .next) .value)) 4 (startOf (map .next)) (fieldAt 8 s (map .next)) (mnemonic .1) in
-    let mapped = field-on 8 s (map .next) (rises .1) in
-    let w = field-on 1 s p (check-at _ 2 (startOf p) (fieldAt 1 s p) (mapped .1) .1) in
+    let behind = behind-on opens last s p e in
+    let on = head-on opens last s p (behind .1 .1) in
+    let rises = check-at (opens || ltb last (fieldAt 8 s (map .next) .value)) 4 (startOf (map .next)) (fieldAt 8 s (map .next)) (on .address .1) in
+    let well = tail-well (head .map) s (head .next) (tail-on (head .map) s (head .next) (behind .0)) in
     record {
-      from = w .0;
-      there = w .1;
+      from = on .from .0;
+      there = on .from .1;
       above = λ q. rw (rises .2) (ltb-true last _ (other-true opens _ (rises .0) q));
-      one = tail-well (head .map) s (head .next) (judge-at _ 6 (startOf p) _ e .1) .0;
-      two = tail-well (head .map) s (head .next) (judge-at _ 6 (startOf p) _ e .1) .1;
+      one = well .0;
+      two = well .1;
       sound = not-true _ (judge-at _ 6 (startOf p) (tailAt (head .map) s (head .next) .next) e .0);
-      again = rw (address-again opens last s (map .next) (mnemonic .1));
+      again = rw (address-again opens last s (map .next) (on .address .1));
     }

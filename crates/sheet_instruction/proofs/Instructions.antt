@@ -1,5 +1,5 @@
 -- The cases of the definitions of instruction records, over plain values.
-use Prim.Native.Nat.{ℕ, zero, suc, _+_, _≤_, _<_}
+use Prim.Native.Nat.{ℕ, zero, suc, _+_, _*_, _≤_, _<_}
 use mathlib.Core.Path.{_≡_, refl, ap, sym, _∙_}
 use mathlib.Core.List.{List, _∷_}
 use mathlib.Core.Logic.{⊎-elim}
@@ -8,7 +8,8 @@ use lib.ListN.{set, replicate}
 use lib.Seq.{set-comm}
 use Rattle.isa.specs.declared.Register.{Register}
 use borrow.Author.Tests.{eq-eqb, ne-eqb}
-use Rattle.isa.specs.declared.Operand.the-variants.{Reg, Imm, Mem}
+use Rattle.isa.specs.declared.Operand.{Operand}
+use Rattle.isa.specs.declared.Operand.the-variants.{Absent, Reg, Imm, Mem}
 use Rattle.sheet_field.specs.declared.Place.{Place}
 use Rattle.sheet_field.specs.declared.Field.{Field}
 use Rattle.sheet_instruction.specs.declared.RegisterReading.{RegisterReading}
@@ -17,7 +18,9 @@ use Rattle.sheet_field.specs.Field.{fieldAt, codeAt}
 use Rattle.sheet_field.specs.Field.{judge, startOf, isRefused}
 use Rattle.sheet_field.proofs.Fields.{check-below}
 use Rattle.sheet_instruction.specs.Instruction.{registerAt, operandAt, withRegister, registersFrom, bitOf, optionalOperand, optionalRegisters, optionalCode, headAt, tailAt, instructionAt}
+use Rattle.sheet_instruction.specs.Contracts.{operandsAt}
 use Rattle.isa.specs.Modelled.{atFault}
+use Rattle.sheet_instruction.specs.declared.Operands.{Operands}
 use Rattle.sheet_instruction.specs.declared.Head.{Head}
 use Rattle.sheet_instruction.specs.declared.Tail.{Tail}
 use Rattle.sheet_instruction.specs.declared.InstructionReading.{InstructionReading}
@@ -107,18 +110,37 @@ pub registers-stopped : (s : List ℕ) (p : Place) (n j : ℕ) {list : List Regi
 registers-stopped s p n j (At at) list-is q-is r le = absurd (false≢true r)
 registers-stopped s p n j (Refused k at) list-is q-is r le = rw list-is (registers-stay s p j k at n q-is le)
 
+-- how far the operands are read, by the bit of the one that is next
+pub data Turned (map : ℕ) (s : List ℕ) (p : Place) (first second : Operand) (next : Place) (unit : ℕ) : Type 0 where
+  none : unit ≡ 4 → second ≡ Absent → next ≡ p → Turned map s p first second next unit
+  one : unit ≡ 8 → second ≡ optionalOperand (bitOf map 4) s p .operand → next ≡ optionalOperand (bitOf map 4) s p .next → Turned map s p first second next unit
+  both : unit ≡ 16 → _≡_ {A = Operands} (record { first = first; second = second; next = next }) (operandsAt map s p) → Turned map s p first second next unit
+
+module _ (map : ℕ) (s : List ℕ) (p : Place) {first second : Operand} {next : Place} {unit : ℕ} where
+  pub turned-more : {there : Bool} {o : OperandReading} → Turned map s p first second next unit → unit ≤ 8
+      → there ≡ bitOf map unit → o ≡ optionalOperand there s next → Turned map s p second (o .operand) (o .next) (unit * 2)
+  turned-more (none u second-is next-is) small there-is o-is =
+      one (omega (arith, u)) (rw (o-is, there-is, u, next-is)) (rw (o-is, there-is, u, next-is))
+  turned-more (one u second-is next-is) small there-is o-is =
+      both (omega (arith, u)) (rw (o-is, there-is, u, second-is, next-is))
+  turned-more (both u are) small there-is o-is = absurd (omega (arith, u, small))
+
+  pub turned-both : Turned map s p first second next unit → 8 < unit
+      → _≡_ {A = Operands} (record { first = first; second = second; next = next }) (operandsAt map s p)
+  turned-both (none u second-is next-is) large = absurd (omega (arith, u, large))
+  turned-both (one u second-is next-is) large = absurd (omega (arith, u, large))
+  turned-both (both u are) large = are
+
 -- a tail from its parts
-pub tail-is : (map : ℕ) (s : List ℕ) (p : Place) {b4 b8 b16 b32 : Bool} {one two : OperandReading} {written : Registers} {flags : Field}
-    → b4 ≡ bitOf map 4 → one ≡ optionalOperand b4 s p
-    → b8 ≡ bitOf map 8 → two ≡ optionalOperand b8 s (one .next)
-    → b16 ≡ bitOf map 16 → written ≡ optionalRegisters b16 s (two .next)
+pub tail-is : (map : ℕ) (s : List ℕ) (p : Place) {b16 b32 : Bool} {both : Operands} {written : Registers} {flags : Field}
+    → both ≡ operandsAt map s p
+    → b16 ≡ bitOf map 16 → written ≡ optionalRegisters b16 s (both .next)
     → b32 ≡ bitOf map 32 → flags ≡ optionalCode b32 32 s (written .next)
     → _≡_ {A = Tail}
-    (record { first = one .operand; second = two .operand; written = written .list; count = written .count; flags = flags .value; next = flags .next })
+    (record { first = both .first; second = both .second; written = written .list; count = written .count; flags = flags .value; next = flags .next })
     (tailAt map s p)
 unfolding tailAt
-tail-is map s p e4 one-is e8 two-is e16 written-is e32 flags-is =
-    rw (flags-is, written-is, two-is, one-is, e4, e8, e16, e32)
+tail-is map s p both-is e16 written-is e32 flags-is = rw (flags-is, written-is, both-is, e16, e32)
 
 -- an instruction from its parts
 pub instruction-is : (opens : Bool) (last : ℕ) (s : List ℕ) (p : Place) {head : Head} {tail : Tail} {branch call fault : Bool} {start : ℕ} {next : Place}

@@ -9,6 +9,7 @@ use sheet_field::Width;
 ghost use mathlib.Core.Path.{_≡_};
 ghost use Prim.Native.Nat.{_<_, _≤_};
 ghost use Rattle.sheet_instruction.specs.Instruction.{registerAt, operandAt, registersFrom, registersAt, optionalRegisters, bitOf, mapOk, mapAt, addressAt, optionalField, optionalCode, optionalOperand, headAt, tailAt, instructionAt};
+ghost use Rattle.sheet_instruction.specs.Contracts.{operandsAt};
 
 struct RegisterReading {
     register: Register,
@@ -32,6 +33,13 @@ struct Head {
     address: u64,
     mnemonic: Mnemonic,
     target: u64,
+    next: Place,
+}
+
+// Both operands, and the place after them.
+struct Operands {
+    first: Operand,
+    second: Operand,
     next: Place,
 }
 
@@ -188,7 +196,7 @@ fn code_if(there: bool, s: &[u8], p: Place, limit: u64) -> Field
 }
 
 // Whether the bit whose value is `unit` stands in the map.
-fn bit(map: u64, unit: u64) -> bool
+pub fn bit(map: u64, unit: u64) -> bool
     requires { ⌜ 0 < unit ⌝ }
     ensures { λ r. ⌜ r ≡ bitOf map unit ⌝ }
 {
@@ -239,19 +247,39 @@ fn take_head(s: &[u8], p: Place, opens: bool, last: u64) -> Head
     }
 }
 
+// The first operand where bit 2 is set, the second where bit 3 is: a turn for each, which moves the one before to the front.
+fn take_operands(s: &[u8], p: Place, map: u64) -> Operands
+    ensures { λ r. ⌜ r ≡ operandsAt map (now (s .entry)) p ⌝ }
+{
+    let mut first = Operand::Absent;
+    let mut second = Operand::Absent;
+    let mut next = p;
+    let mut unit: u64 = 4;
+    while unit <= 8 {
+        let o = operand_if(bit(map, unit), s, next);
+        first = second;
+        second = o.operand;
+        next = o.next;
+        unit = unit * 2;
+    }
+    Operands {
+        first,
+        second,
+        next,
+    }
+}
+
 fn take_tail(s: &[u8], p: Place, map: u64) -> Tail
     ensures { λ r. ⌜ r ≡ tailAt map (now (s .entry)) p ⌝ }
 {
-    let a = operand_if(bit(map, 4), s, p);
-    let after_a = a.next;
-    let b = operand_if(bit(map, 8), s, after_a);
-    let after_b = b.next;
-    let w = registers_if(bit(map, 16), s, after_b);
+    let both = take_operands(s, p, map);
+    let after_both = both.next;
+    let w = registers_if(bit(map, 16), s, after_both);
     let after_w = w.next;
     let f = code_if(bit(map, 32), s, after_w, 32);
     let next = f.next;
-    let first = a.operand;
-    let second = b.operand;
+    let first = both.first;
+    let second = both.second;
     let written = w.list;
     Tail {
         first,

@@ -6,7 +6,7 @@ use mathlib.Core.Bool.{Bool, true, false, cond, false≢true}
 use mathlib.Core.List.{List, [], _∷_}
 use native.Mathlib.Omega.{arith}
 use native.Mathlib.Numerals.{add-one}
-use lib.ListN.{length, getD, take, drop, replicate, drop-of-length-le}
+use lib.ListN.{length, getD, take, drop, replicate, length-replicate, drop-of-length-le}
 use lib.Seq.{drop-cons}
 use Rattle.sheet_field.specs.Field.{WentOn}
 use Rattle.sheet_field.specs.declared.Place.{Place}
@@ -35,7 +35,7 @@ pub stepped-other : {table lengths lengths′ : List ℕ} → Slots table length
     → r .assigned ≡ false → Stepped true table lengths′ h (statementOf r)
 unfolding substituted
 stepped-other {table} {lengths} {lengths′} slots is h r unassigned =
-    let b : Holds table lengths′ nothingHeld = rw (is, slots .places) (cleared table (slots .room)) in
+    let b : Holds table lengths′ nothingHeld = rw is (cleared table (length lengths) (slots .room) (slots .places)) in
     record {
       slots = b .slots;
       same = λ rest c. rw unassigned (ap (λ (t : Table). substituted t rest c) (sym (b .holds)));
@@ -72,18 +72,24 @@ stepped-assigned {fits} {table} {lengths} h r {v} {ws} yes-assigned number words
 pub record Passing (types s : List ℕ) (p : Place) (n : ℕ) (table lengths words out : List ℕ) (next : Place) (i : ℕ) : Type 0 where
   pub within : i ≤ n
   pub place : next ≡ statementsFrom types s p i .next
-  pub lent : Lent types table lengths words out
+  pub held : 0 < n → length types ≤ length lengths
+  pub slots : Slots table lengths
+  pub wordsRoom : length words ≡ 256
+  pub outRoom : length out ≡ 256
   pub due : (c : Expr) → withAssignments (statementsFrom types s p n .list) c ≡ substituted (tableOf table lengths) (drop i (statementsFrom types s p n .list)) c
 
-pub passing-start : (types s : List ℕ) (p : Place) (n : ℕ) {table lengths lengths′ words out : List ℕ} → Room types table lengths words out
+pub passing-start : (types s : List ℕ) (p : Place) (n : ℕ) {table lengths lengths′ words out : List ℕ} → Room n types table lengths words out
     → lengths′ ≡ replicate (length lengths) 0 → Passing types s p n table lengths′ words out p 0
 unfolding statementsFrom
 passing-start types s p n {table} {lengths} {lengths′} {words} {out} l is =
-    let b : Holds table lengths′ nothingHeld = rw (is, l .lengthsRoom) (cleared table (l .tableRoom)) in
+    let b : Holds table lengths′ nothingHeld = rw is (cleared table (length lengths) (l .tableRoom) (l .lengthsRoom)) in
     record {
       within = omega arith;
       place = refl;
-      lent = record { few = l .few; slots = b .slots; wordsRoom = l .wordsRoom; outRoom = l .outRoom };
+      held = λ some. omega (arith, l .held some, ap length is, length-replicate {A = ℕ} (length lengths) 0);
+      slots = b .slots;
+      wordsRoom = l .wordsRoom;
+      outRoom = l .outRoom;
       due = λ c. ap (λ (t : Table). substituted t (statementsFrom types s p n .list) c) (sym (b .holds));
     }
 
@@ -91,6 +97,9 @@ module _ {types s : List ℕ} {p : Place} {n : ℕ} {table lengths words out : L
     (g : Passing types s p n table lengths words out next i) where
   pub passing-whole : WentOn (statementsFrom types s p n .next) → i < n → WentOn (statementAt types s next .next)
   passing-whole on below = statement-whole types s p n i on below (g .place)
+
+  pub passing-lent : i < n → Lent types table lengths words out
+  passing-lent below = record { few = g .held (omega arith); slots = g .slots; wordsRoom = g .wordsRoom; outRoom = g .outRoom }
 
   -- what is due starts with the statement at this place
   due-here : i < n → (c : Expr) → withAssignments (statementsFrom types s p n .list) c
@@ -114,11 +123,14 @@ module _ {types s : List ℕ} {p : Place} {n : ℕ} {table lengths words out : L
     }
 
     pub passing-more : fits ≡ true → {next′ : Place} {words′ out′ : List ℕ} → next′ ≡ statementAt types s next .next
-        → length words′ ≡ length words → length out′ ≡ length out → Passing types s p n table′ lengths′ words′ out′ next′ (i + 1)
-    passing-more within-limit {next′} place words-same out-same = record {
+        → length lengths′ ≡ length lengths → length words′ ≡ length words → length out′ ≡ length out → Passing types s p n table′ lengths′ words′ out′ next′ (i + 1)
+    passing-more within-limit {next′} place lengths-same words-same out-same = record {
       within = omega arith;
       place = place ∙ ap (λ (q : Place). statementAt types s q .next) (g .place) ∙ statements-more types s p i;
-      lent = record { few = g .lent .few; slots = t .slots; wordsRoom = words-same ∙ g .lent .wordsRoom; outRoom = out-same ∙ g .lent .outRoom };
+      held = λ some. omega (arith, g .held some, lengths-same);
+      slots = t .slots;
+      wordsRoom = words-same ∙ g .wordsRoom;
+      outRoom = out-same ∙ g .outRoom;
       due = λ c. rw (add-one i) (due-here below c ∙ t .same (drop (suc i) (statementsFrom types s p n .list)) c
           ∙ ap (λ (b : Bool). cond b (substituted (tableOf table′ lengths′) (drop (suc i) (statementsFrom types s p n .list)) c) tooLong) within-limit);
     }
@@ -128,7 +140,7 @@ module _ {types s : List ℕ} {p : Place} {n : ℕ} {table lengths words out : L
       let past : length (statementsFrom types s p n .list) ≤ i = omega (arith, statements-length types s p n) in
       let all : drop i (statementsFrom types s p n .list) ≡ [] = drop-of-length-le (statementsFrom types s p n .list) past in
       let last : i ≡ n = omega (arith, g .within) in
-      record { slots = g .lent .slots; place = λ _. g .place ∙ ap (λ (k : ℕ). statementsFrom types s p k .next) last; same = λ c. g .due c ∙ ap (λ (l : List Statement). substituted (tableOf table lengths) l c) all }
+      record { slots = g .slots; place = λ _. g .place ∙ ap (λ (k : ℕ). statementsFrom types s p k .next) last; same = λ c. g .due c ∙ ap (λ (l : List Statement). substituted (tableOf table lengths) l c) all }
 
 -- ---- the condition, after all statements
 

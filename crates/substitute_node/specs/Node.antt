@@ -2,7 +2,7 @@
 use mathlib.Core.Path.{_≡_}
 use mathlib.Core.Bool.{Bool, true, cond}
 use mathlib.Core.List.{List, [], _∷_}
-use Prim.Native.Nat.{ℕ, _*_, _≤_}
+use Prim.Native.Nat.{ℕ, _*_, _≤_, _<_}
 use lib.ListN.{length, drop}
 use Rattle.expr.specs.Tree.{Expr, Wf, treeOf}
 use Rattle.expr.specs.Statement.{Statement}
@@ -15,17 +15,19 @@ use Rattle.substitution.specs.Substitution.{Table, tooLong, into, substituted, 
 use Rattle.substitution.specs.Words.{tableOf, Slots}
 use Rattle.substitute_node.specs.declared.Step.{Step}
 
--- room for the held table, and for 256 words each of the records that are read and of those that are written; what stands there is of no account
-pub record Room (types table lengths words out : List ℕ) : Type 0 where
+-- room for what n statements may hold, a place for each variable if there is a statement, and for 256 words each of the records that are read and of
+-- those that are written; what stands there is of no account
+pub record Room (n : ℕ) (types table lengths words out : List ℕ) : Type 0 where
   pub few : length types ≤ 32
-  pub tableRoom : length table ≡ 32 * 256
-  pub lengthsRoom : length lengths ≡ 32
+  pub held : 0 < n → length types ≤ length lengths
+  pub tableRoom : 256 * length lengths ≤ length table
+  pub lengthsRoom : length lengths ≤ 32
   pub wordsRoom : length words ≡ 256
   pub outRoom : length out ≡ 256
 
--- the same room, with a table in it
+-- the same room for a statement, with a table in it
 pub record Lent (types table lengths words out : List ℕ) : Type 0 where
-  pub few : length types ≤ 32
+  pub few : length types ≤ length lengths
   pub slots : Slots table lengths
   pub wordsRoom : length words ≡ 256
   pub outRoom : length out ≡ 256

@@ -59,7 +59,7 @@ fn take_statements(
     words: &mut [u64],
     out: &mut [u64],
 ) -> Step
-    requires { ⌜ Room (now types) (now table) (now lengths) (now words) (now out) ⌝ }
+    requires { ⌜ Room n (now types) (now table) (now lengths) (now words) (now out) ⌝ }
     requires { ⌜ WentOn (statementsFrom (now types) (now s) p n .next) ⌝ }
     ensures { λ r. ⌜ Passed r (now (table .exit)) (now (lengths .exit)) (statementsFrom (now (types .entry)) (now (s .entry)) p n) ⌝ }
 {
@@ -89,7 +89,7 @@ pub fn substitute_node(
     words: &mut [u64],
     out: &mut [u64],
 ) -> SubstitutedNode
-    requires { ⌜ Room (now types) (now table) (now lengths) (now words) (now out) ⌝ }
+    requires { ⌜ Room n (now types) (now table) (now lengths) (now words) (now out) ⌝ }
     requires { ⌜ WentOn (statementsFrom (now types) (now s) body n .next) ⌝ }
     requires { ⌜ WentOn (expressionAt (length (now types)) (now s) (statementsFrom (now types) (now s) body n .next) .next) ⌝ }
     ensures { λ r. ⌜ MadeNode (r .written) (r .next) (now (out .exit)) (statementsFrom (now (types .entry)) (now (s .entry)) body n .list) (expressionAt (length (now (types .entry))) (now (s .entry)) (statementsFrom (now (types .entry)) (now (s .entry)) body n .next)) ⌝ }

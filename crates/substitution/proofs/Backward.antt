@@ -412,9 +412,9 @@ pub held-place : {table lengths : List ℕ} → Slots table lengths → (left ta
 held-place {table} {lengths} slots left tag n a is some number =
     let s : Stands lengths left tag n = stands lengths left tag n is some in
     let size-of : getD lengths a 0 ≡ n = ap (λ (k : ℕ). getD lengths k 0) number ∙ s .words in
-    let small : a < 32 = inside a size-of (decLt a 32) in
-    (small, omega (arith, slots .few a, slots .room))
+    let small : a < length lengths = inside a size-of (decLt a (length lengths)) in
+    (omega (arith, slots .places), omega (arith, slots .few a, slots .room))
   where
-    inside : (a : ℕ) → getD lengths a 0 ≡ n → Dec (a < 32) → a < 32
+    inside : (a : ℕ) → getD lengths a 0 ≡ n → Dec (a < length lengths) → a < length lengths
     inside a e (yes h) = h
-    inside a e (no h) = absurd (some (sym e ∙ List·getD-eq-default lengths 0 (omega (arith, slots .places))))
+    inside a e (no h) = absurd (some (sym e ∙ List·getD-eq-default lengths 0 (omega arith)))

@@ -173,8 +173,8 @@ stopped-either {v} {table} {old} {new} {w} s k = by (decLt k w)
 
 pub stopping-slots : {v : ℕ} {table old new : List ℕ} {w : ℕ} → Slots table old → Stopping v table old new w → Slots table new
 stopping-slots {v} {table} {old} {new} {w} slots s = record {
-  room = slots .room;
-  places = s .size ∙ slots .places;
+  room = omega (arith, slots .room, s .size);
+  places = omega (arith, slots .places, s .size);
   few = λ k. few-by k (stopped-either s k);
   whole = λ k h. whole-by k h (stopped-either s k);
 }
@@ -236,25 +236,25 @@ clear-end {old} {new} {i} s end =
     ext-getD 0 new (replicate (length old) 0) (s .size ∙ sym (length-replicate (length old) 0))
     (λ k h. s .done k (omega arith) ∙ sym (getD-replicate (length old) k 0 0 (omega (arith, s .size))))
 
-all-none : (v : ℕ) → _≡_ {A = ℕ} (getD (replicate 32 0) v 0) 0
-all-none v = by (decLt v 32)
+all-none : (n v : ℕ) → _≡_ {A = ℕ} (getD (replicate n 0) v 0) 0
+all-none n v = by (decLt v n)
   where
-    by : Dec (v < 32) → _≡_ {A = ℕ} (getD (replicate 32 0) v 0) 0
-    by (yes h) = getD-replicate 32 v 0 0 h
+    by : Dec (v < n) → _≡_ {A = ℕ} (getD (replicate n 0) v 0) 0
+    by (yes h) = getD-replicate n v 0 0 h
     by (no h) =
-        let past : length (replicate {A = ℕ} 32 0) ≤ v = omega (arith, length-replicate {A = ℕ} 32 0) in
-        List·getD-eq-default (replicate 32 0) 0 past
+        let past : length (replicate {A = ℕ} n 0) ≤ v = omega (arith, length-replicate {A = ℕ} n 0) in
+        List·getD-eq-default (replicate n 0) 0 past
 
 -- then nothing is held
-pub cleared : (table : List ℕ) → length table ≡ 32 * 256 → Holds table (replicate 32 0) nothingHeld
-cleared table room = record {
+pub cleared : (table : List ℕ) (n : ℕ) → 256 * n ≤ length table → n ≤ 32 → Holds table (replicate n 0) nothingHeld
+cleared table n room places = record {
   slots = record {
-    room = room;
-    places = length-replicate {A = ℕ} 32 0;
-    few = λ v. omega (arith, all-none v);
-    whole = λ v h. absurd (omega (arith, all-none v));
+    room = omega (arith, length-replicate {A = ℕ} n 0);
+    places = omega (arith, length-replicate {A = ℕ} n 0);
+    few = λ v. omega (arith, all-none n v);
+    whole = λ v h. absurd (omega (arith, all-none n v));
   };
-  holds = fun-ext (λ v. free-slot table (replicate 32 0) v (all-none v));
+  holds = fun-ext (λ v. free-slot table (replicate n 0) v (all-none n v));
 }
 
 -- ---- a value is stored at its variable's place
@@ -291,15 +291,15 @@ behind-place d s at a room h =
     ∙ drop-drop (a - (at + length s)) (at + length s) d
     ∙ ap (λ (k : ℕ). drop k d) (sym split)
 
-other-place : (d s : List ℕ) (v w n : ℕ) → length d ≡ 32 * 256 → v < 32 → length s ≤ 256 → n ≤ 256 → (w ≡ v → ⊥)
+other-place : (d s : List ℕ) (v w n : ℕ) → 256 * v + 256 ≤ length d → length s ≤ 256 → n ≤ 256 → (w ≡ v → ⊥)
     → take n (drop (256 * w) (paste d (256 * v) s (length s))) ≡ take n (drop (256 * w) d)
-other-place d s v w n room small fits few off = by (decLt w v)
+other-place d s v w n room fits few off = by (decLt w v)
   where
     by : Dec (w < v) → take n (drop (256 * w) (paste d (256 * v) s (length s))) ≡ take n (drop (256 * w) d)
     by (yes h) = before-place d s (256 * v) (256 * w) n (omega arith) (omega arith)
     by (no h) = ap (take n) (behind-place d s (256 * v) (256 * w) (omega arith) (omega arith))
 
-module _ {table lengths : List ℕ} {h : Table} (b : Holds table lengths h) (v : ℕ) (small : v < 32) (value : List ℕ) (wf : Wf value) (fits : length value ≤ 256) where
+module _ {table lengths : List ℕ} {h : Table} (b : Holds table lengths h) (v : ℕ) (small : v < length lengths) (value : List ℕ) (wf : Wf value) (fits : length value ≤ 256) where
   stored-table : List ℕ
   stored-table = paste table (256 * v) value (length value)
 
@@ -308,7 +308,7 @@ module _ {table lengths : List ℕ} {h : Table} (b : Holds table lengths h) (v :
 
   own-length : getD stored-lengths v 0 ≡ length value
   unfolding stored-lengths
-  own-length = getD-set-same lengths v (length value) 0 (omega (arith, b .slots .places))
+  own-length = getD-set-same lengths v (length value) 0 small
 
   own-slot : slot stored-table stored-lengths v ≡ value
   unfolding stored-table
@@ -320,7 +320,7 @@ module _ {table lengths : List ℕ} {h : Table} (b : Holds table lengths h) (v :
 
   other-slot : (w : ℕ) → (w ≡ v → ⊥) → slot stored-table stored-lengths w ≡ slot table lengths w
   unfolding stored-table
-  other-slot w off = rw (other-length w off) (other-place table value v w (getD lengths w 0) (b .slots .room) small fits (b .slots .few w) off)
+  other-slot w off = rw (other-length w off) (other-place table value v w (getD lengths w 0) (omega (arith, b .slots .room)) fits (b .slots .few w) off)
 
   own-entry : tableOf stored-table stored-lengths v ≡ held (treeOf value)
   own-entry =
@@ -333,8 +333,14 @@ module _ {table lengths : List ℕ} {h : Table} (b : Holds table lengths h) (v :
   stored-slots : Slots stored-table stored-lengths
   unfolding stored-table stored-lengths
   stored-slots = record {
-    room = length-paste table (256 * v) value (length value) (omega (arith, b .slots .room)) (omega arith) ∙ b .slots .room;
-    places = length-set lengths v (length value) ∙ b .slots .places;
+    room =
+        omega (
+          arith,
+          b .slots .room,
+          length-paste table (256 * v) value (length value) (omega (arith, b .slots .room)) (omega arith),
+          length-set lengths v (length value),
+        );
+    places = omega (arith, b .slots .places, length-set lengths v (length value));
     few = λ w. few-by w (ℕ-discrete w v);
     whole = λ w some. whole-by w some (ℕ-discrete w v);
   }
@@ -348,7 +354,7 @@ module _ {table lengths : List ℕ} {h : Table} (b : Holds table lengths h) (v :
       whole-by w some (no off) = rw (other-slot w off) (b .slots .whole w (omega (arith, other-length w off)))
 
 -- After an assignment: the value is held, or it is not.
-pub assigned-held : {table lengths table′ : List ℕ} (g : Table) (v : ℕ) (value : List ℕ) {hold : Bool} → Holds table lengths (kept v g) → v < 32 → Wf value
+pub assigned-held : {table lengths table′ : List ℕ} (g : Table) (v : ℕ) (value : List ℕ) {hold : Bool} → Holds table lengths (kept v g) → v < length lengths → Wf value
     → length value ≤ 256 → hold ≡ holdable v g (treeOf value) → hold ≡ true → table′ ≡ paste table (256 * v) value (length value)
     → Holds table′ (set lengths v (length value)) (assigned v (treeOf value) g)
 unfolding assigned stored-table stored-lengths

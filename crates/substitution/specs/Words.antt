@@ -1,4 +1,5 @@
--- What is held, in lent words: 32 places of 256 words each, a variable's at 256 times its number, and the length of what is held there, 0 where nothing is.
+-- What is held, in lent words: at most 32 places of 256 words each, a variable's at 256 times its number, and the length of what is held there, 0 where
+-- nothing is.
 use mathlib.Core.Path.{_≡_}
 use mathlib.Core.Bool.{Bool, true, false, cond, not, _&&_, _||_}
 use mathlib.Core.List.{List}
@@ -21,8 +22,8 @@ tableOf table lengths v = cond (eqb (getD lengths v 0) 0) free (held (treeOf (sl
 
 -- Each place has nothing, or one tree of at most 128 records.
 pub record Slots (table lengths : List ℕ) : Type 0 where
-  pub room : length table ≡ 32 * 256
-  pub places : length lengths ≡ 32
+  pub room : 256 * length lengths ≤ length table
+  pub places : length lengths ≤ 32
   pub few : (v : ℕ) → getD lengths v 0 ≤ 256
   pub whole : (v : ℕ) → 0 < getD lengths v 0 → Wf (slot table lengths v)
 

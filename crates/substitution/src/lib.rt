@@ -1,5 +1,5 @@
-// Substitution of a node's assignments into its condition, on expression records. What is held stands in lent words: 32 places of 256 words, one for
-// each variable, with the length of what is held there, or 0.
+// Substitution of a node's assignments into its condition, on expression records. What is held stands in lent words: a place of 256 words for each
+// variable, 32 at most, with the length of what is held there, or 0.
 ghost use mathlib.Core.Path.{_≡_};
 ghost use Prim.Native.Nat.{ℕ, _+_, _*_, _≤_, _<_};
 ghost use lib.ListN.{length, replicate};
@@ -150,7 +150,7 @@ fn end_entries(table: &[u64], lengths: &mut [usize], v: u64)
 
 // A substituted value is assigned to v: what reads v ends, and the value is held, if it can be.
 fn assign(v: u64, value: &[u64], table: &mut [u64], lengths: &mut [usize])
-    requires { ⌜ (v < 32) × Wf (now value) × (length (now value) ≤ 256) × Slots (now table) (now lengths) ⌝ }
+    requires { ⌜ (v < length (now lengths)) × Wf (now value) × (length (now value) ≤ 256) × Slots (now table) (now lengths) ⌝ }
     ensures { λ _. ⌜ Holds (now (table .exit)) (now (lengths .exit)) (assigned v (treeOf (now (value .entry))) (tableOf (now (table .entry)) (now (lengths .entry)))) ⌝ }
 {
     let hold = is_holdable(value, table, lengths, v);
@@ -170,7 +170,7 @@ pub fn take_assignment(
     lengths: &mut [usize],
     out: &mut [u64],
 ) -> bool
-    requires { ⌜ (v < 32) × Wf (now value) × (length (now value) ≤ 256) × Slots (now table) (now lengths) × (length (now out) ≡ 256) ⌝ }
+    requires { ⌜ (v < length (now lengths)) × Wf (now value) × (length (now value) ≤ 256) × Slots (now table) (now lengths) × (length (now out) ≡ 256) ⌝ }
     ensures { λ r. ⌜ Assigned r (now (table .exit)) (now (lengths .exit)) v (treeOf (now (value .entry))) (tableOf (now (table .entry)) (now (lengths .entry))) ⌝ }
 {
     let w = substitute(value, table, lengths, out);

@@ -13,8 +13,8 @@ use Rattle.sheet.specs.declared.Reading.the-variants.{Accepted}
 use Rattle.sheet.specs.Sheet.{noBlock, sheetAt, readingOf}
 use Rattle.sheet.specs.Index.{addressesOf}
 use Rattle.sheet.proofs.ByNumber.{addresses-rise, instructions-count, places-count}
-use Rattle.verdict_block.specs.declared.End.{End}
-use Rattle.verdict_block.specs.Verdict.{codeOf, endFrom, endOn}
+use Rattle.verdict.specs.declared.Verdict.{Verdict}
+use Rattle.verdict_block.specs.Verdict.{codeOf, verdictAt, endFrom, endOn}
 use Rattle.verdict_block.proofs.Ranges.{range-is}
 
 module _ (s : List ℕ) (sheet : Sheet) (read : readingOf s ≡ Accepted sheet) where
@@ -32,13 +32,13 @@ module _ (s : List ℕ) (sheet : Sheet) (read : readingOf s ≡ Accepted sheet) 
   code-is number addresses-are block-is first-is to-is =
       rw (← block-is, range-is _ _ _ (addresses-rise s sheet read), ← addresses-are, ← first-is, ← to-is)
 
-  -- the end of a block from the parts
-  pub end-is : (number : ℕ) {addresses : List ℕ} {block : Block} {first end : ℕ} (start : State) {r : End}
+  -- the verdict on a block from the parts
+  pub verdict-is : (number : ℕ) {addresses : List ℕ} {block : Block} {first end : ℕ} (start : State) {r : Verdict}
       → addresses ≡ addressesOf (sheetAt s .instructions .list) → block ≡ getD (sheetAt s .blocks .list) number noBlock
       → first ≡ countBelow addresses (block .from) → end ≡ countBelow addresses (block .to)
-      → r ≡ endFrom start (slice first end (sheetAt s .instructions .list)) → r ≡ endOn s number start
+      → r ≡ verdictAt (endFrom start (slice first end (sheetAt s .instructions .list))) → r ≡ verdictAt (endOn s number start)
   unfolding endOn
-  end-is number start addresses-are block-is first-is to-is r-is = rw (code-is number addresses-are block-is first-is to-is) r-is
+  verdict-is number start addresses-are block-is first-is to-is r-is = rw (code-is number addresses-are block-is first-is to-is) r-is
 
   -- where the index ends a range is within the list of places
   pub end-inside : (x : ℕ) {addresses places : List ℕ} {end : ℕ}

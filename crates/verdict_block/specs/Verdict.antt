@@ -15,7 +15,6 @@ use Rattle.verdict.specs.declared.Reason.the-variants.{Flags}
 use Rattle.verdict.specs.declared.Verdict.{Verdict}
 use Rattle.verdict.specs.declared.Verdict.the-variants.{Always, Never, Undecided, NoBranch}
 use Rattle.sheet.specs.Sheet.{noBlock, sheetAt}
-use Rattle.verdict_block.specs.declared.End.{End}
 use Rattle.verdict_block.specs.declared.Jump.{Jump}
 use Rattle.verdict_block.specs.declared.Jump.the-variants.{Conditional, Nothing}
 
@@ -46,6 +45,11 @@ apart (i ∷ l) = preceded i (apart l)
 -- Only a conditional branch is judged (M22).
 abbrev pub jumpOf : Instruction → Jump
 jumpOf i = cond (i .branch) (Conditional (i .mnemonic)) Nothing
+
+-- A block's end: what is known at its last instruction, and that instruction.
+pub record End : Type 0 where
+  pub known : State
+  pub jump : Jump
 
 -- What is known at the last instruction is what the rules yield from those before it; a block with no instruction has
 -- nothing to judge (M22, M23).

@@ -1,8 +1,10 @@
 // The verdict on a block of an accepted sheet: its instructions are found in the index and stepped over once from what is
 // known where it starts; what is known at its end judges its last instruction, where that is a conditional branch.
 use alu::Flag;
+use alu::Flags;
 use isa::Instruction;
 use isa::Mnemonic;
+use machine::Registers;
 use machine::State;
 use sheet::Sheet;
 use verdict::Reason;
@@ -11,22 +13,17 @@ ghost use mathlib.Core.Path.{_≡_};
 ghost use Prim.Native.Nat.{_≤_, _<_};
 ghost use lib.ListN.{length};
 ghost use lib.Seq.{slice};
+ghost use Rattle.machine.specs.States.{stateOf};
 ghost use Rattle.machine.specs.Rules.{steppedAll};
 ghost use Rattle.sheet.specs.declared.Reading.the-variants.{Accepted};
 ghost use Rattle.sheet.specs.Sheet.{sheetAt, readingOf};
 ghost use Rattle.sheet.specs.Index.{addressesOf};
-ghost use Rattle.verdict_block.specs.Verdict.{jumpOf, flagVerdict, verdictAt, endFrom, endOn, verdictOn};
+ghost use Rattle.verdict_block.specs.Verdict.{jumpOf, flagVerdict, judged, verdictAt, endFrom, endOn, verdictOn};
 
 // A block's last instruction, as far as a verdict asks for it: a conditional branch of a mnemonic, or nothing to judge.
 pub enum Jump {
     Conditional(Mnemonic),
     Nothing,
-}
-
-// A block's end: what is known at its last instruction, and that instruction.
-pub struct End {
-    pub known: State,
-    pub jump: Jump,
 }
 
 fn jump_of(i: Instruction) -> Jump
@@ -40,78 +37,30 @@ fn jump_of(i: Instruction) -> Jump
     }
 }
 
-// What is known after the instructions of an accepted sheet from number `first` up to `end`.
+// Step over the instructions of an accepted sheet from number `first` up to `end`: what is then known is left in the registers,
+// the flags come back.
 fn step_over(
     s: &[u8],
     sheet: Sheet,
     places: &[u64],
     first: usize,
     end: usize,
-    start: State,
-) -> State
+    registers: &mut Registers,
+    start: Flags,
+) -> Flags
     requires { ⌜ readingOf (now s) ≡ Accepted sheet ⌝ }
     requires { ⌜ now places ≡ sheetAt (now s) .instructions .places ⌝ }
     requires { ⌜ end ≤ length (now places) ⌝ }
-    ensures { λ r. ⌜ r ≡ steppedAll start (slice first end (sheetAt (now (s .entry)) .instructions .list)) ⌝ }
+    ensures { λ r. ⌜ stateOf (now (registers .exit)) r ≡ steppedAll (stateOf (now (registers .entry)) start) (slice first end (sheetAt (now (s .entry)) .instructions .list)) ⌝ }
 {
-    let mut state = start;
+    let mut flags = start;
     let mut i = first;
     while i < end {
         let it = sheet::nth_instruction(s, sheet, places, i);
-        state = machine::step(state, it);
+        flags = machine::step(registers, flags, it);
         i += 1;
     }
-    state
-}
-
-// The end of the instructions of an accepted sheet from number `first` up to `end`.
-fn end_between(
-    s: &[u8],
-    sheet: Sheet,
-    places: &[u64],
-    first: usize,
-    end: usize,
-    start: State,
-) -> End
-    requires { ⌜ readingOf (now s) ≡ Accepted sheet ⌝ }
-    requires { ⌜ now places ≡ sheetAt (now s) .instructions .places ⌝ }
-    requires { ⌜ end ≤ length (now places) ⌝ }
-    ensures { λ r. ⌜ r ≡ endFrom start (slice first end (sheetAt (now (s .entry)) .instructions .list)) ⌝ }
-{
-    if end <= first {
-        return End {
-            known: start,
-            jump: Jump::Nothing,
-        };
-    }
-    let last = end - 1;
-    let known = step_over(s, sheet, places, first, last, start);
-    let it = sheet::nth_instruction(s, sheet, places, last);
-    End {
-        known,
-        jump: jump_of(it),
-    }
-}
-
-// The end of the block of that number, of an accepted sheet with its index, where `start` is known at its start.
-fn end_on(
-    s: &[u8],
-    sheet: Sheet,
-    addresses: &[u64],
-    places: &[u64],
-    number: u64,
-    start: State,
-) -> End
-    requires { ⌜ readingOf (now s) ≡ Accepted sheet ⌝ }
-    requires { ⌜ number < sheet .blocks .count ⌝ }
-    requires { ⌜ now addresses ≡ addressesOf (sheetAt (now s) .instructions .list) ⌝ }
-    requires { ⌜ now places ≡ sheetAt (now s) .instructions .places ⌝ }
-    ensures { λ r. ⌜ r ≡ endOn (now (s .entry)) number start ⌝ }
-{
-    let block = sheet::nth_block(s, sheet, number);
-    let first = search::first_at_or_above(addresses, block.from);
-    let end = search::first_at_or_above(addresses, block.to);
-    end_between(s, sheet, places, first, end, start)
+    flags
 }
 
 fn flag_verdict(f: Flag) -> Verdict
@@ -129,16 +78,62 @@ fn flag_verdict(f: Flag) -> Verdict
     }
 }
 
-// The verdict at a block's end.
-fn verdict_at(end: End) -> Verdict
-    ensures { λ r. ⌜ r ≡ verdictAt end ⌝ }
+// The verdict on a jump, by what is known at it.
+fn verdict_at(registers: &Registers, flags: Flags, jump: Jump) -> Verdict
+    ensures { λ r. ⌜ r ≡ judged (stateOf (now (registers .entry)) flags) jump ⌝ }
 {
-    let known = end.known;
-    let jump = end.jump;
     match jump {
-        Jump::Conditional(mnemonic) => flag_verdict(machine::condition(known, mnemonic)),
+        Jump::Conditional(mnemonic) => flag_verdict(machine::condition(registers, flags, mnemonic)),
         Jump::Nothing => Verdict::NoBranch,
     }
+}
+
+// The verdict at the end of the instructions of an accepted sheet from number `first` up to `end`, where the registers and
+// `start` are what is known at their start.
+fn verdict_between(
+    s: &[u8],
+    sheet: Sheet,
+    places: &[u64],
+    first: usize,
+    end: usize,
+    registers: &mut Registers,
+    start: Flags,
+) -> Verdict
+    requires { ⌜ readingOf (now s) ≡ Accepted sheet ⌝ }
+    requires { ⌜ now places ≡ sheetAt (now s) .instructions .places ⌝ }
+    requires { ⌜ end ≤ length (now places) ⌝ }
+    ensures { λ r. ⌜ r ≡ verdictAt (endFrom (stateOf (now (registers .entry)) start) (slice first end (sheetAt (now (s .entry)) .instructions .list))) ⌝ }
+{
+    if end <= first {
+        return Verdict::NoBranch;
+    }
+    let last = end - 1;
+    let flags = step_over(s, sheet, places, first, last, registers, start);
+    let it = sheet::nth_instruction(s, sheet, places, last);
+    verdict_at(registers, flags, jump_of(it))
+}
+
+// The verdict on the block of that number, of an accepted sheet with its index, where the registers and `start` are what is
+// known at its start.
+fn verdict_from(
+    s: &[u8],
+    sheet: Sheet,
+    addresses: &[u64],
+    places: &[u64],
+    number: u64,
+    registers: &mut Registers,
+    start: Flags,
+) -> Verdict
+    requires { ⌜ readingOf (now s) ≡ Accepted sheet ⌝ }
+    requires { ⌜ number < sheet .blocks .count ⌝ }
+    requires { ⌜ now addresses ≡ addressesOf (sheetAt (now s) .instructions .list) ⌝ }
+    requires { ⌜ now places ≡ sheetAt (now s) .instructions .places ⌝ }
+    ensures { λ r. ⌜ r ≡ verdictAt (endOn (now (s .entry)) number (stateOf (now (registers .entry)) start)) ⌝ }
+{
+    let block = sheet::nth_block(s, sheet, number);
+    let first = search::first_at_or_above(addresses, block.from);
+    let end = search::first_at_or_above(addresses, block.to);
+    verdict_between(s, sheet, places, first, end, registers, start)
 }
 
 // The verdict on the block of that number, of an accepted sheet with its index.
@@ -150,5 +145,7 @@ pub fn verdict_on(s: &[u8], sheet: Sheet, addresses: &[u64], places: &[u64], num
     ensures { λ r. ⌜ r ≡ verdictOn (now (s .entry)) number ⌝ }
 {
     let start = State::unknown();
-    verdict_at(end_on(s, sheet, addresses, places, number, start))
+    let mut registers = start.registers;
+    let flags = start.flags;
+    verdict_from(s, sheet, addresses, places, number, &mut registers, flags)
 }

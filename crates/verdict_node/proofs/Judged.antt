@@ -21,7 +21,7 @@ use Rattle.sheet_node.proofs.Accepted.{parts}
 use Rattle.substitution.specs.declared.Written.{Written}
 use Rattle.substitution.specs.declared.Written.the-variants.{From, TooLong}
 use Rattle.substitution.specs.Substitution.{withAssignments}
-use Rattle.substitute_node.specs.Node.{Room, MadeNode}
+use Rattle.substitute_node.specs.Node.{MadeNode}
 use Rattle.decide.specs.Decide.{decide, fits}
 use Rattle.decide.specs.Answers.{answered}
 use Rattle.decide.specs.declared.Decision.{Decision}
@@ -29,7 +29,7 @@ use Rattle.verdict.specs.declared.Verdict.{Verdict}
 use Rattle.verdict.specs.declared.Answer.{Answer}
 use Rattle.verdict.specs.declared.Answer.the-variants.{Given, Refused}
 use Rattle.verdict_node.specs.NodeVerdict.{onSubstituted, nodeVerdict}
-use Rattle.verdict_node.specs.Contracts.{LentNode, onDecision, WholeWords, substitutedOf, JudgedIs}
+use Rattle.verdict_node.specs.Contracts.{LentWords, LentNode, onDecision, WholeWords, substitutedOf, JudgedIs}
 
 -- the words of a condition that was written, as the code takes them
 module _ {w : Written} (out : List ℕ) {at : ℕ} (whole : WholeWords w out) (is : w ≡ From at) where
@@ -75,11 +75,9 @@ module _ (s : List ℕ) (node : NodeReading) (read : ReadNode s node) {front : N
   types-are from-is types-is = rw (types-is, from-is, front-is, parts s node read .start .1)
 
   module _ {types : List ℕ} (these : types ≡ typesIn s node) where
-    pub room : {table lengths words out atoms terms products : List ℕ} → LentNode table lengths words out atoms terms products
-        → Room types table lengths words out
-    room lent = record {
+    pub words-lent : {lengths words out atoms terms products : List ℕ} → LentNode lengths words out atoms terms products → LentWords types lengths words out
+    words-lent lent = record {
       few = rw these (parts s node read .few);
-      tableRoom = lent .tableRoom;
       lengthsRoom = lent .lengthsRoom;
       wordsRoom = lent .wordsRoom;
       outRoom = lent .outRoom;

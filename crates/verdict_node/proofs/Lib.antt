@@ -1,2 +1,4 @@
 -- the answer for a node, from its substituted condition
 pub mod Judged
+-- the lent table, or its own
+pub mod Rooms

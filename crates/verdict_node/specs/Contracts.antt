@@ -1,5 +1,5 @@
 -- What the contracts of a node verdict's parts ask and give.
-use Prim.Native.Nat.{ℕ, _*_}
+use Prim.Native.Nat.{ℕ, _≤_}
 use mathlib.Core.Path.{_≡_}
 use mathlib.Core.List.{List}
 use lib.ListN.{length, drop}
@@ -18,14 +18,19 @@ use Rattle.decide.specs.declared.Decision.the-variants.{Of, TooMany}
 use Rattle.verdict_node.specs.declared.JudgedNode.{JudgedNode}
 use Rattle.verdict_node.specs.NodeVerdict.{nodeVerdict}
 
--- room for the held table (32 places of 256 words, and their lengths), for 256 words each of the records that are read and of those that are
--- written, and for `decide`; what stands there is of no account
-pub record LentNode (table lengths words out atoms terms products : List ℕ) : Type 0 where
-  pub tableRoom : length table ≡ 32 * 256
+-- room for the lengths of what 32 variables hold, and for 256 words each of the records that are read and of those that are written
+pub record LentWords (types lengths words out : List ℕ) : Type 0 where
+  pub few : length types ≤ 32
   pub lengthsRoom : length lengths ≡ 32
   pub wordsRoom : length words ≡ 256
   pub outRoom : length out ≡ 256
-  pub buffers : Buffers atoms terms products
+
+-- the same, and room for `decide` on 18 records; what stands there is of no account
+pub record LentNode (lengths words out atoms terms products : List ℕ) : Type 0 where
+  pub lengthsRoom : length lengths ≡ 32
+  pub wordsRoom : length words ≡ 256
+  pub outRoom : length out ≡ 256
+  pub buffers : Buffers 36 atoms terms products
 
 -- the answer from a decision: refusal 11 where an equality passes the limits
 abbrev pub onDecision : ℕ → Decision → Answer

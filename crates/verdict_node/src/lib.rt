@@ -1,16 +1,21 @@
 // The answer for a node of an accepted sheet: its statements are substituted into its condition, and that is decided.
 use decide::Decision;
 use sheet_field::Place;
+use substitute_node::SubstitutedNode;
 use substitution::Written;
 use verdict::Answer;
 ghost use mathlib.Core.Path.{_≡_};
+ghost use mathlib.Core.Bool.{cond};
+ghost use lib.Dec.{eqb};
 ghost use lib.ListN.{length};
 ghost use Rattle.sheet_field.specs.declared.Place.the-variants.{At};
 ghost use Rattle.sheet_field.specs.Field.{WentOn};
-ghost use Rattle.sheet_node.specs.Node.{nodeAt, nodeOf};
+ghost use Rattle.sheet_expression.specs.Expression.{expressionAt};
+ghost use Rattle.sheet_node.specs.Node.{statementsFrom, nodeAt, nodeOf};
+ghost use Rattle.substitute_node.specs.Node.{MadeNode};
 ghost use Rattle.exact.specs.Answers.{Buffers};
 ghost use Rattle.verdict_node.specs.NodeVerdict.{onSubstituted, nodeVerdict};
-ghost use Rattle.verdict_node.specs.Contracts.{LentNode, onDecision, WholeWords, substitutedOf, JudgedIs};
+ghost use Rattle.verdict_node.specs.Contracts.{LentWords, LentNode, onDecision, WholeWords, substitutedOf, JudgedIs};
 
 // The answer for a node; where it is a verdict, also how many addresses the node has, and the place of the first.
 pub struct JudgedNode {
@@ -19,25 +24,67 @@ pub struct JudgedNode {
     pub sites: Place,
 }
 
-// Room for the held table.
-pub fn table_room() -> [u64; 8192]
+// Room for what all variables hold.
+fn table_room() -> [u64; 8192]
     ensures { λ r. ⌜ 8192 ≡ length r ⌝ }
 {
     [0; 8192]
 }
 
-// Room for the terms of the sides of an equality.
-pub fn terms_room() -> [u64; 16896]
-    ensures { λ r. ⌜ 16896 ≡ length r ⌝ }
+// Room for what four variables hold.
+pub fn few_held_room() -> [u64; 1024]
+    ensures { λ r. ⌜ 1024 ≡ length r ⌝ }
 {
-    [0; 16896]
+    [0; 1024]
 }
 
-// Room for the terms of a product.
-pub fn products_room() -> [u64; 4096]
-    ensures { λ r. ⌜ 4096 ≡ length r ⌝ }
+// A node's substituted condition, with a table of its own.
+fn substituted_apart(
+    s: &[u8],
+    types: &[u8],
+    body: Place,
+    n: u64,
+    lengths: &mut [usize],
+    words: &mut [u64],
+    out: &mut [u64],
+) -> SubstitutedNode
+    requires { ⌜ LentWords (now types) (now lengths) (now words) (now out) ⌝ }
+    requires { ⌜ WentOn (statementsFrom (now types) (now s) body n .next) ⌝ }
+    requires { ⌜ WentOn (expressionAt (length (now types)) (now s) (statementsFrom (now types) (now s) body n .next) .next) ⌝ }
+    ensures { λ r. ⌜ MadeNode (r .written) (r .next) (now (out .exit)) (statementsFrom (now (types .entry)) (now (s .entry)) body n .list) (expressionAt (length (now (types .entry))) (now (s .entry)) (statementsFrom (now (types .entry)) (now (s .entry)) body n .next)) ⌝ }
 {
-    [0; 4096]
+    let mut table = table_room();
+    substitute_node::substitute_node(s, types, body, n, &mut table, lengths, words, out)
+}
+
+// How many variables may be held after n statements.
+fn held_most(n: u64, variables: usize) -> usize
+    ensures { λ r. ⌜ r ≡ cond (eqb n 0) 0 variables ⌝ }
+{
+    if n == 0 { 0 } else { variables }
+}
+
+// A node's substituted condition, with the lent table where that has room for what may be held.
+fn substituted(
+    s: &[u8],
+    types: &[u8],
+    body: Place,
+    n: u64,
+    table: &mut [u64],
+    lengths: &mut [usize],
+    words: &mut [u64],
+    out: &mut [u64],
+) -> SubstitutedNode
+    requires { ⌜ LentWords (now types) (now lengths) (now words) (now out) ⌝ }
+    requires { ⌜ WentOn (statementsFrom (now types) (now s) body n .next) ⌝ }
+    requires { ⌜ WentOn (expressionAt (length (now types)) (now s) (statementsFrom (now types) (now s) body n .next) .next) ⌝ }
+    ensures { λ r. ⌜ MadeNode (r .written) (r .next) (now (out .exit)) (statementsFrom (now (types .entry)) (now (s .entry)) body n .list) (expressionAt (length (now (types .entry))) (now (s .entry)) (statementsFrom (now (types .entry)) (now (s .entry)) body n .next)) ⌝ }
+{
+    let most = held_most(n, types.len());
+    if table.len() < 256 * most {
+        return substituted_apart(s, types, body, n, lengths, words, out);
+    }
+    substitute_node::substitute_node(s, types, body, n, table, &mut lengths[..most], words, out)
 }
 
 // Refusal 11 where an equality passes the limits, else the verdict.
@@ -61,7 +108,7 @@ fn answer_for(
 ) -> Answer
     requires { ⌜ WholeWords written (now out) ⌝ }
     requires { ⌜ length (now out) ≡ 256 ⌝ }
-    requires { ⌜ Buffers (now atoms) (now terms) (now products) ⌝ }
+    requires { ⌜ Buffers 36 (now atoms) (now terms) (now products) ⌝ }
     ensures { λ r. ⌜ r ≡ onSubstituted place (substitutedOf written (now (out .entry))) ⌝ }
 {
     match written {
@@ -71,7 +118,7 @@ fn answer_for(
 }
 
 // The answer for the node that starts at a byte, in a sheet where it was read whole; its bytes are gone over once. All that
-// is lent is written over.
+// is lent is written over. A node that needs more room than is lent makes its own.
 pub fn verdict_at(
     s: &[u8],
     at: usize,
@@ -84,7 +131,7 @@ pub fn verdict_at(
     products: &mut [u64],
 ) -> JudgedNode
     requires { ⌜ WentOn (nodeAt (now s) (At at) .next) ⌝ }
-    requires { ⌜ LentNode (now table) (now lengths) (now words) (now out) (now atoms) (now terms) (now products) ⌝ }
+    requires { ⌜ LentNode (now lengths) (now words) (now out) (now atoms) (now terms) (now products) ⌝ }
     ensures { λ r. ⌜ JudgedIs r (now (s .entry)) (nodeAt (now (s .entry)) (At at)) at ⌝ }
 {
     let front = sheet_node::take_front(s, Place::At(at));
@@ -93,7 +140,7 @@ pub fn verdict_at(
     let from = sheet_field::start(types_at);
     let types = sheet_node::types_of(s, body, from, front.variables as usize);
     let n = front.statements;
-    let made = substitute_node::substitute_node(s, types, body, n, table, lengths, words, out);
+    let made = substituted(s, types, body, n, table, lengths, words, out);
     let written = made.written;
     let after = made.next;
     let a = sheet_field::count(s, after, 0, 16);
@@ -111,13 +158,13 @@ pub fn verdict(s: &[u8], at: usize) -> Answer
     requires { ⌜ WentOn (nodeAt (now s) (At at) .next) ⌝ }
     ensures { λ r. ⌜ r ≡ nodeVerdict (nodeOf (now (s .entry)) (nodeAt (now (s .entry)) (At at))) at ⌝ }
 {
-    let mut table = table_room();
+    let mut table = few_held_room();
     let mut lengths = [0usize; 32];
     let mut words = [0u64; 256];
     let mut out = [0u64; 256];
     let mut atoms = [0u64; 64];
-    let mut terms = terms_room();
-    let mut products = products_room();
+    let mut terms = [0u64; 560];
+    let mut products = [0u64; 512];
     let judged = verdict_at(
         s,
         at,

@@ -140,21 +140,24 @@ module _ (s : List ℕ) (blocks : ℕ) where
       → Reached (sheetAt s .instructions .list) progress.Through slots (judgedUpTo s blocks n)
   nodes-whole k n slots all-of is = rw (← all-of) is
 
--- the lengths of the room that is made for nodes' verdicts
-pub record Rooms (t l w o a m p : List ℕ) : Type 0 where
-  pub table : 8192 ≡ length t
+-- the lengths of the room for nodes' verdicts: some of it is made, the rest is as long as it was lent
+pub record Rooms (sums pairs : ℕ) (t l w o a m p : List ℕ) : Type 0 where
+  pub table : 1024 ≡ length t
   pub lengths : 32 ≡ length l
   pub words : 256 ≡ length w
   pub out : 256 ≡ length o
   pub atoms : 64 ≡ length a
-  pub terms : 16896 ≡ length m
-  pub products : 4096 ≡ length p
+  pub terms : sums ≡ length m
+  pub products : pairs ≡ length p
 
-pub rooms-lent : {t l w o a m p : List ℕ} → Rooms t l w o a m p → LentNode t l w o a m p
-rooms-lent r = record {
-  tableRoom = omega (arith, r .table);
+pub rooms-lent : {sums pairs : ℕ} {t l w o a m p : List ℕ} → Rooms sums pairs t l w o a m p → 560 ≤ sums → 512 ≤ pairs → LentNode l w o a m p
+rooms-lent r sums pairs = record {
   lengthsRoom = sym (r .lengths);
   wordsRoom = sym (r .words);
   outRoom = sym (r .out);
-  buffers = record { table = omega (arith, r .atoms); space = omega (arith, r .terms); products = omega (arith, r .products) };
+  buffers = record {
+    table = omega (arith, r .atoms);
+    space = omega (arith, r .terms);
+    products = record { least = omega (arith, r .products); most = λ more. absurd (omega (arith, more)) };
+  };
 }

@@ -9,7 +9,7 @@ use verdict::Verdict;
 use verdict_node::JudgedNode;
 ghost use mathlib.Core.Path.{_≡_};
 ghost use mathlib.Core.List.{List, [], _++_};
-ghost use Prim.Native.Nat.{ℕ, _<_};
+ghost use Prim.Native.Nat.{ℕ, _≤_, _<_};
 ghost use lib.ListN.{length};
 ghost use Rattle.search.specs.Ascending.{Ascending, placeOf};
 ghost use Rattle.sheet.specs.declared.Reading.the-variants.{Accepted};
@@ -177,20 +177,21 @@ fn judge_nodes(
     branches: &[bool],
     nodes: &[u64],
     slots: &mut [u8],
+    terms: &mut [u64],
+    products: &mut [u64],
 ) -> Progress
     requires { ⌜ readingOf (now s) ≡ Accepted sheet ⌝ }
     requires { ⌜ BranchIndex (now s) (now addresses) (now branches) ⌝ }
     requires { ⌜ now nodes ≡ sheetAt (now s) .nodes .places ⌝ }
     requires { ⌜ now slots ≡ slotsOf (sheetAt (now s) .instructions .list) (blocksSay (now s) (sheet .blocks .count)) ⌝ }
+    requires { ⌜ (560 ≤ length (now terms)) × (512 ≤ length (now products)) ⌝ }
     ensures { λ r. ⌜ Reached (sheetAt (now (s .entry)) .instructions .list) r (now (slots .exit)) (judgedUpTo (now (s .entry)) (sheet .blocks .count) (sheet .nodes .count)) ⌝ }
 {
-    let mut table = verdict_node::table_room();
+    let mut table = verdict_node::few_held_room();
     let mut lengths = [0usize; 32];
     let mut words = [0u64; 256];
     let mut out = [0u64; 256];
     let mut atoms = [0u64; 64];
-    let mut terms = verdict_node::terms_room();
-    let mut products = verdict_node::products_room();
     let mut i = 0;
     while i < nodes.len() {
         let judged = verdict_node::verdict_at(
@@ -201,8 +202,8 @@ fn judge_nodes(
             &mut words,
             &mut out,
             &mut atoms,
-            &mut terms,
-            &mut products,
+            terms,
+            products,
         );
         let r = keep_node(s, judged, addresses, branches, slots);
         if let Progress::Refused(k, at) = r {
@@ -211,6 +212,64 @@ fn judge_nodes(
         i += 1;
     }
     Progress::Through
+}
+
+// A few nodes, with room for small equalities: a larger one makes its own.
+fn judge_few(
+    s: &[u8],
+    sheet: Sheet,
+    addresses: &[u64],
+    branches: &[bool],
+    nodes: &[u64],
+    slots: &mut [u8],
+) -> Progress
+    requires { ⌜ readingOf (now s) ≡ Accepted sheet ⌝ }
+    requires { ⌜ BranchIndex (now s) (now addresses) (now branches) ⌝ }
+    requires { ⌜ now nodes ≡ sheetAt (now s) .nodes .places ⌝ }
+    requires { ⌜ now slots ≡ slotsOf (sheetAt (now s) .instructions .list) (blocksSay (now s) (sheet .blocks .count)) ⌝ }
+    ensures { λ r. ⌜ Reached (sheetAt (now (s .entry)) .instructions .list) r (now (slots .exit)) (judgedUpTo (now (s .entry)) (sheet .blocks .count) (sheet .nodes .count)) ⌝ }
+{
+    let mut terms = [0u64; 560];
+    let mut products = [0u64; 512];
+    judge_nodes(
+        s,
+        sheet,
+        addresses,
+        branches,
+        nodes,
+        slots,
+        &mut terms,
+        &mut products,
+    )
+}
+
+// Any number of nodes, with room for all equalities.
+fn judge_many(
+    s: &[u8],
+    sheet: Sheet,
+    addresses: &[u64],
+    branches: &[bool],
+    nodes: &[u64],
+    slots: &mut [u8],
+) -> Progress
+    requires { ⌜ readingOf (now s) ≡ Accepted sheet ⌝ }
+    requires { ⌜ BranchIndex (now s) (now addresses) (now branches) ⌝ }
+    requires { ⌜ now nodes ≡ sheetAt (now s) .nodes .places ⌝ }
+    requires { ⌜ now slots ≡ slotsOf (sheetAt (now s) .instructions .list) (blocksSay (now s) (sheet .blocks .count)) ⌝ }
+    ensures { λ r. ⌜ Reached (sheetAt (now (s .entry)) .instructions .list) r (now (slots .exit)) (judgedUpTo (now (s .entry)) (sheet .blocks .count) (sheet .nodes .count)) ⌝ }
+{
+    let mut terms = decide::terms_room();
+    let mut products = decide::products_room();
+    judge_nodes(
+        s,
+        sheet,
+        addresses,
+        branches,
+        nodes,
+        slots,
+        &mut terms,
+        &mut products,
+    )
 }
 
 // All records of an accepted sheet with its index, on slots that hold nothing.
@@ -233,5 +292,8 @@ pub fn judge(
     if nodes.len() == 0 {
         return Progress::Through;
     }
-    judge_nodes(s, sheet, addresses, branches, nodes, slots)
+    if nodes.len() <= 4 {
+        return judge_few(s, sheet, addresses, branches, nodes, slots);
+    }
+    judge_many(s, sheet, addresses, branches, nodes, slots)
 }

@@ -1,7 +1,7 @@
 -- The proof of the cycle of calls {decide}: it calls itself on the halves of && and ||, so the measure is the words. Each case is a
 -- law of proofs/Judged.antt. Assumes nothing.
 use Prim.Native.Nat.{ℕ, _-_, _/_, _<_}
-use mathlib.Core.Path.{sym, _∙_}
+use mathlib.Core.Path.{refl, sym, _∙_}
 use native.Mathlib.Omega.{arith}
 use lib.ListN.{length, getD, length-take}
 use borrow.Author.Needs.{needs}
@@ -14,15 +14,17 @@ use Rattle.expr.specs.Tree.Expr.{binary}
 use Rattle.expr.proofs.argument.Reads as argument-reads
 use Rattle.expr.proofs.kind.Reads as kind-reads
 use Rattle.expr.proofs.last_start.Reads as last-start-reads
-use Rattle.parity.proofs.Calls.{lent-two}
+use Rattle.parity.proofs.Calls.{lent-two, two-length}
 use Rattle.decide.proofs.+decide.Lts-decide as decide-lts
 use Rattle.decide.proofs.+decide.Tie.{close}
 use Rattle.decide.proofs.+decide.{statement}
-use Rattle.decide.proofs.Judged.{buffers-kept, decide-true, decide-false, decide-other, decide-logic, decide-equality, decide-relation}
-use Rattle.exact.proofs.Steps.{lent-whole}
+use Rattle.decide.proofs.Judged.{decide-true, decide-false, decide-other, decide-logic, decide-equality, decide-relation}
+use Rattle.exact.proofs.Steps.{buffers-lent, lent-whole}
 use Rattle.decide.proofs.decide.Kinds as decide-kinds
 use Rattle.decide.proofs.decide.Reads as decide
+use Rattle.decide.proofs.Rooms.{buffers-enough}
 use Rattle.decide.proofs.equality.Reads as equality-reads
+use Rattle.decide.proofs.equality_apart.Reads as equality-apart-reads
 use Rattle.decide.proofs.halves.Reads as halves-reads
 use Rattle.decide.proofs.relation.Reads as relation-reads
 
@@ -36,7 +38,7 @@ abbrev decide-below : ℕ → In 4 decide-kinds.ps
 decide-below t = and 4 decide-kinds.ps (falls 4 decide-kinds.ps _<_ μ-decide t) decide.Pre
 
 abbrev K-decide : ℕ → decide-lts.Claims
-K-decide t = (kind-reads.Asked, kind-reads.Learnt, last-start-reads.Asked, last-start-reads.Learnt, argument-reads.Asked, argument-reads.Learnt, decide-below t, decide.Post, halves-reads.Asked, halves-reads.Learnt, equality-reads.Asked, equality-reads.Learnt, relation-reads.Asked, relation-reads.Learnt)
+K-decide t = (kind-reads.Asked, kind-reads.Learnt, last-start-reads.Asked, last-start-reads.Learnt, argument-reads.Asked, argument-reads.Learnt, decide-below t, decide.Post, halves-reads.Asked, halves-reads.Learnt, equality-apart-reads.Asked, equality-apart-reads.Learnt, equality-reads.Asked, equality-reads.Learnt, relation-reads.Asked, relation-reads.Learnt)
 
 -- the two sides of the operator
 decide-two : (t : ℕ) (c : decide-lts.After-last-start (K-decide t) (decide-at t) decide.Post)
@@ -92,7 +94,7 @@ decide-decide-requires : (t : ℕ) → decide-lts.Need-decide-requires (K-decide
 decide-decide-requires t c κs = (omega (arith, c .before .before .before .before .before .before .before .before .before .before .before .before .before .before .before .before .before .before .pre .0, (decide-two t (c .before .before .before .before .before .before .before)) .leftShorter), ((decide-two t (c .before .before .before .before .before .before .before)) .leftWf, (omega (arith, c .before .before .before .before .before .before .before .before .before .before .before .before .before .before .before .before .before .before .pre .1 .1 .0, (decide-two t (c .before .before .before .before .before .before .before)) .leftShorter), c .before .before .before .before .before .before .before .before .before .before .before .before .before .before .before .before .before .before .pre .1 .1 .1)))
 
 decide-decide-requires-2 : (t : ℕ) → decide-lts.Need-decide-requires-2 (K-decide t) (decide-at t) decide.Post
-decide-decide-requires-2 t c κs = (omega (arith, c .before .before .before .before .before .before .before .before .before .before .before .before .before .before .before .before .before .before .before .before .before .before .before .before .before .before .before .before .pre .0, (decide-two t (c .before .before .before .before .before .before .before .before .before .before .before .before .before .before .before .before .before)) .rightShorter), ((decide-two t (c .before .before .before .before .before .before .before .before .before .before .before .before .before .before .before .before .before)) .rightWf, (omega (arith, c .before .before .before .before .before .before .before .before .before .before .before .before .before .before .before .before .before .before .before .before .before .before .before .before .before .before .before .before .pre .1 .1 .0, (decide-two t (c .before .before .before .before .before .before .before .before .before .before .before .before .before .before .before .before .before)) .rightShorter), buffers-kept (c .before .before .before .before .before .before .before .before .before .before .before .before .before .before .before .before .before .before .before .before .before .before .before .before .before .before .before .before .pre .1 .1 .1) (c .before .before .before .before .before .before .before .before .before .decide .kept .1 .0) (c .before .before .before .before .before .before .before .before .before .decide .kept .1 .1 .0) (c .before .before .before .before .before .before .before .before .before .decide .kept .1 .1 .1 .0))))
+decide-decide-requires-2 t c κs = (omega (arith, c .before .before .before .before .before .before .before .before .before .before .before .before .before .before .before .before .before .before .before .before .before .before .before .before .before .before .before .before .pre .0, (decide-two t (c .before .before .before .before .before .before .before .before .before .before .before .before .before .before .before .before .before)) .rightShorter), ((decide-two t (c .before .before .before .before .before .before .before .before .before .before .before .before .before .before .before .before .before)) .rightWf, (omega (arith, c .before .before .before .before .before .before .before .before .before .before .before .before .before .before .before .before .before .before .before .before .before .before .before .before .before .before .before .before .pre .1 .1 .0, (decide-two t (c .before .before .before .before .before .before .before .before .before .before .before .before .before .before .before .before .before)) .rightShorter), buffers-lent (c .before .before .before .before .before .before .before .before .before .before .before .before .before .before .before .before .before .before .before .before .before .before .before .before .before .before .before .before .pre .1 .1 .1) (omega arith) (c .before .before .before .before .before .before .before .before .before .decide .kept .1 .0) (c .before .before .before .before .before .before .before .before .before .decide .kept .1 .1 .0) (c .before .before .before .before .before .before .before .before .before .decide .kept .1 .1 .1 .0))))
 
 decide-halves-requires : (t : ℕ) → decide-lts.Need-halves-requires (K-decide t) (decide-at t) decide.Post
 decide-halves-requires t c κs = search needs
@@ -109,11 +111,19 @@ decide-same-length-3 t c = search needs
 decide-returns-4 : (t : ℕ) → decide-lts.Need-returns-4 (K-decide t) (decide-at t) decide.Post
 decide-returns-4 t c = decide-logic ((decide-two t (c .before .before .before .before .before .before .before .before .before .before .before .before .before .before .before .before .before .before .before .before .before .before .before .before .before)) .tree) (c .before .before .before .before .before .before .before .before .before .before .before .before .before .before .before .before .before .before .before .before .before .before .argument .ensures) (c .before .before .before .before .before .before .before .before .before .before .before .before .before .before .before .before .before .before .before .before .before .if4 .taken) (c .before .before .before .before .before .before .before .before .before .before .before .before .before .before .before .before .before .decide .ensures) (c .before .before .before .before .before .before .before .decide2 .ensures) (c .halves .ensures)
 
-decide-equality-requires : (t : ℕ) → decide-lts.Need-equality-requires (K-decide t) (decide-at t) decide.Post
-decide-equality-requires t c κs = (lent-two (lent-whole (c .before .before .before .before .before .before .before .before .before .before .before .before .before .before .before .before .before .before .before .pre .1 .0) (c .before .before .before .before .before .before .before .before .before .before .before .before .before .before .before .before .before .before .before .pre .1 .1 .0) (c .before .before .before .before .before .before .before .before .before .before .before .before .before .before .before .before .before .before .before .pre .1 .1 .1)) (length (c .before .before .before .before .before .before .before .before .before .before .before .before .before .before .before .before .before .before .before .args .rs .now) - 2) (c .before .before .before .before .before .before .before .before .last-start .result) (root-place (c .before .before .before .before .before .before .before .before .before .before .before .before .before .before .before .before .before .before .before .args .rs .now) (c .before .before .before .before .before .before .before .before .before .before .before .before .before .before .before .before .before .before .before .pre .1 .0)) (decide-two t (c .before .before .before .before .before .before .before .before)), c .before .before .before .before .before .before .before .before .before .before .before .before .before .before .before .before .before .before .before .pre .1 .1 .1)
+decide-equality-apart-requires : (t : ℕ) → decide-lts.Need-equality-apart-requires (K-decide t) (decide-at t) decide.Post
+decide-equality-apart-requires t c κs ts e = lent-two (lent-whole (c .before .before .before .before .before .before .before .before .before .before .before .before .before .before .before .before .before .before .pre .1 .0) (c .before .before .before .before .before .before .before .before .before .before .before .before .before .before .before .before .before .before .pre .1 .1 .0) (c .before .before .before .before .before .before .before .before .before .before .before .before .before .before .before .before .before .before .pre .1 .1 .1 .table) (omega (arith, c .before .before .before .before .before .before .before .before .before .before .before .before .before .before .before .before .before .before .pre .1 .1 .0, e))) (length (c .before .before .before .before .before .before .before .before .before .before .before .before .before .before .before .before .before .before .args .rs .now) - 2) (c .before .before .before .before .before .before .before .last-start .result) (root-place (c .before .before .before .before .before .before .before .before .before .before .before .before .before .before .before .before .before .before .args .rs .now) (c .before .before .before .before .before .before .before .before .before .before .before .before .before .before .before .before .before .before .pre .1 .0)) (decide-two t (c .before .before .before .before .before .before .before))
 
 decide-same-length-4 : (t : ℕ) → decide-lts.Need-same-length-4 (K-decide t) (decide-at t) decide.Post
 decide-same-length-4 t c = search needs
+
+decide-returns-5 : (t : ℕ) → decide-lts.Need-returns-5 (K-decide t) (decide-at t) decide.Post
+decide-returns-5 t c = decide-equality ((decide-two t (c .before .before .before .before .before .before .before .before .before .before)) .tree) (c .before .before .before .before .before .before .before .argument .ensures) (c .before .before .before .before .before .if5 .taken) (c .before .before .equality-apart .ensures)
+
+decide-equality-requires : (t : ℕ) → decide-lts.Need-equality-requires (K-decide t) (decide-at t) decide.Post
+decide-equality-requires t c κs =
+    let enough = buffers-enough (c .before .before .before .before .before .before .before .before .before .before .before .before .before .before .before .before .before .before .before .before .pre .1 .1 .0) (c .before .before .before .before .before .before .before .before .before .before .before .before .before .before .before .before .before .before .before .before .pre .1 .1 .1) (c .before .before .before .if6 .left) in
+    (lent-two (lent-whole (c .before .before .before .before .before .before .before .before .before .before .before .before .before .before .before .before .before .before .before .before .pre .1 .0) (c .before .before .before .before .before .before .before .before .before .before .before .before .before .before .before .before .before .before .before .before .pre .1 .1 .0) (enough .table) (enough .space)) (length (c .before .before .before .before .before .before .before .before .before .before .before .before .before .before .before .before .before .before .before .before .args .rs .now) - 2) (c .before .before .before .before .before .before .before .before .before .last-start .result) (root-place (c .before .before .before .before .before .before .before .before .before .before .before .before .before .before .before .before .before .before .before .before .args .rs .now) (c .before .before .before .before .before .before .before .before .before .before .before .before .before .before .before .before .before .before .before .before .pre .1 .0)) (decide-two t (c .before .before .before .before .before .before .before .before .before)), buffers-lent enough (omega (arith, two-length (c .before .before .before .before .before .before .before .before .before .before .before .before .before .before .before .before .before .before .before .before .args .rs .now) (length (c .before .before .before .before .before .before .before .before .before .before .before .before .before .before .before .before .before .before .before .before .args .rs .now) - 2) (c .before .before .before .before .before .before .before .before .before .last-start .result) (root-place (c .before .before .before .before .before .before .before .before .before .before .before .before .before .before .before .before .before .before .before .before .args .rs .now) (c .before .before .before .before .before .before .before .before .before .before .before .before .before .before .before .before .before .before .before .before .pre .1 .0)) (decide-two t (c .before .before .before .before .before .before .before .before .before)))) refl refl refl)
 
 decide-same-length-5 : (t : ℕ) → decide-lts.Need-same-length-5 (K-decide t) (decide-at t) decide.Post
 decide-same-length-5 t c = search needs
@@ -121,14 +131,17 @@ decide-same-length-5 t c = search needs
 decide-same-length-6 : (t : ℕ) → decide-lts.Need-same-length-6 (K-decide t) (decide-at t) decide.Post
 decide-same-length-6 t c = search needs
 
-decide-returns-5 : (t : ℕ) → decide-lts.Need-returns-5 (K-decide t) (decide-at t) decide.Post
-decide-returns-5 t c = decide-equality ((decide-two t (c .before .before .before .before .before .before .before .before .before .before .before .before .before .before .before)) .tree) (c .before .before .before .before .before .before .before .before .before .before .before .before .argument .ensures) (c .before .before .before .before .before .before .before .before .before .before .if5 .taken) (c .before .before .before .before .before .before .equality .ensures)
+decide-same-length-7 : (t : ℕ) → decide-lts.Need-same-length-7 (K-decide t) (decide-at t) decide.Post
+decide-same-length-7 t c = search needs
+
+decide-returns-6 : (t : ℕ) → decide-lts.Need-returns-6 (K-decide t) (decide-at t) decide.Post
+decide-returns-6 t c = decide-equality ((decide-two t (c .before .before .before .before .before .before .before .before .before .before .before .before .before .before .before .before)) .tree) (c .before .before .before .before .before .before .before .before .before .before .before .before .before .argument .ensures) (c .before .before .before .before .before .before .before .before .before .before .before .if5 .taken) (c .before .before .before .before .before .before .equality .ensures)
 
 decide-relation-requires : (t : ℕ) → decide-lts.Need-relation-requires (K-decide t) (decide-at t) decide.Post
 decide-relation-requires t c κs = ((decide-two t (c .before .before .before .before .before)) .leftWf, (decide-two t (c .before .before .before .before .before)) .rightWf)
 
-decide-returns-6 : (t : ℕ) → decide-lts.Need-returns-6 (K-decide t) (decide-at t) decide.Post
-decide-returns-6 t c = decide-relation ((decide-two t (c .before .before .before .before .before .before)) .tree) (c .before .before .before .argument .ensures) (c .before .before .if4 .left) (c .before .if5 .left) (c .relation .ensures)
+decide-returns-7 : (t : ℕ) → decide-lts.Need-returns-7 (K-decide t) (decide-at t) decide.Post
+decide-returns-7 t c = decide-relation ((decide-two t (c .before .before .before .before .before .before)) .tree) (c .before .before .before .argument .ensures) (c .before .before .if4 .left) (c .before .if5 .left) (c .relation .ensures)
 
 pub +decide-spec : {M : Type 1} → statement M
 +decide-spec = close μ-decide λ t. decide-lts.spec (K-decide t) (decide-at t) decide.Post
@@ -154,10 +167,13 @@ pub +decide-spec : {M : Type 1} → statement M
     (decide-same-length-2 t)
     (decide-same-length-3 t)
     (decide-returns-4 t)
-    (decide-equality-requires t)
+    (decide-equality-apart-requires t)
     (decide-same-length-4 t)
+    (decide-returns-5 t)
+    (decide-equality-requires t)
     (decide-same-length-5 t)
     (decide-same-length-6 t)
-    (decide-returns-5 t)
-    (decide-relation-requires t)
+    (decide-same-length-7 t)
     (decide-returns-6 t)
+    (decide-relation-requires t)
+    (decide-returns-7 t)

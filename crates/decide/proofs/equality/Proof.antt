@@ -5,7 +5,8 @@ use native.Mathlib.Omega.{arith}
 use lib.Dec.{eqb}
 use borrow.Author.Needs.{needs}
 use Rattle.expr.specs.Tree.{treeOf}
-use Rattle.decide.proofs.Judged.{equality-is, buffers-kept}
+use Rattle.decide.proofs.Judged.{equality-is}
+use Rattle.exact.proofs.Steps.{buffers-lent}
 use Rattle.decide.proofs.equality.Statement.{statement}
 use Rattle.decide.proofs.equality.Tie as tie
 
@@ -22,10 +23,10 @@ parted-sides-requires : tie.Need-parted-sides-requires
 parted-sides-requires c κs = search needs
 
 exact-requires : tie.Need-exact-requires
-exact-requires c κs = (c .before .before .before .before .before .before .before .before .before .before .before .before .before .before .before .before .before .before .before .before .before .before .pre .0 .leftWf, (omega (arith, c .before .before .before .before .before .before .before .before .before .before .before .before .before .before .before .before .before .before .before .before .before .before .pre .0 .within, c .before .before .before .before .before .before .before .before .before .before .before .before .before .before .before .before .before .before .before .before .before .before .pre .0 .small), (buffers-kept (c .before .before .before .before .before .before .before .before .before .before .before .before .before .before .before .before .before .before .before .before .before .before .pre .1) (c .before .before .before .before .before .before .before .before .before .parted-sides .kept .1 .1 .1 .0) (c .before .before .before .before .before .before .before .before .before .parted-sides .kept .1 .1 .1 .1 .0) (c .before .before .before .before .before .before .before .before .before .parted-sides .kept .1 .1 .1 .1 .1 .0))))
+exact-requires c κs = (c .before .before .before .before .before .before .before .before .before .before .before .before .before .before .before .before .before .before .before .before .before .before .pre .0 .leftWf, (omega (arith, c .before .before .before .before .before .before .before .before .before .before .before .before .before .before .before .before .before .before .before .before .before .before .pre .0 .within, c .before .before .before .before .before .before .before .before .before .before .before .before .before .before .before .before .before .before .before .before .before .before .pre .0 .small), (buffers-lent (c .before .before .before .before .before .before .before .before .before .before .before .before .before .before .before .before .before .before .before .before .before .before .pre .1) (omega arith) (c .before .before .before .before .before .before .before .before .before .parted-sides .kept .1 .1 .1 .0) (c .before .before .before .before .before .before .before .before .before .parted-sides .kept .1 .1 .1 .1 .0) (c .before .before .before .before .before .before .before .before .before .parted-sides .kept .1 .1 .1 .1 .1 .0))))
 
 exact-requires-2 : tie.Need-exact-requires-2
-exact-requires-2 c κs = (c .before .before .before .before .before .before .before .before .before .before .before .before .before .before .before .before .before .before .before .before .before .before .before .before .before .before .before .before .before .before .before .before .pre .0 .rightWf, (omega (arith, c .before .before .before .before .before .before .before .before .before .before .before .before .before .before .before .before .before .before .before .before .before .before .before .before .before .before .before .before .before .before .before .before .pre .0 .within, c .before .before .before .before .before .before .before .before .before .before .before .before .before .before .before .before .before .before .before .before .before .before .before .before .before .before .before .before .before .before .before .before .pre .0 .small), (buffers-kept (c .before .before .before .before .before .before .before .before .before .before .before .before .before .before .before .before .before .before .before .before .before .before .before .before .before .before .before .before .before .before .before .before .pre .1) (c .before .before .before .before .before .before .before .before .before .exact .kept .1 .0 ∙ c .before .before .before .before .before .before .before .before .before .before .before .before .before .before .before .before .before .before .before .parted-sides .kept .1 .1 .1 .0) (c .before .before .before .before .before .before .before .before .before .exact .kept .1 .1 .0 ∙ c .before .before .before .before .before .before .before .before .before .before .before .before .before .before .before .before .before .before .before .parted-sides .kept .1 .1 .1 .1 .0) (c .before .before .before .before .before .before .before .before .before .exact .kept .1 .1 .1 .0 ∙ c .before .before .before .before .before .before .before .before .before .before .before .before .before .before .before .before .before .before .before .parted-sides .kept .1 .1 .1 .1 .1 .0))))
+exact-requires-2 c κs = (c .before .before .before .before .before .before .before .before .before .before .before .before .before .before .before .before .before .before .before .before .before .before .before .before .before .before .before .before .before .before .before .before .pre .0 .rightWf, (omega (arith, c .before .before .before .before .before .before .before .before .before .before .before .before .before .before .before .before .before .before .before .before .before .before .before .before .before .before .before .before .before .before .before .before .pre .0 .within, c .before .before .before .before .before .before .before .before .before .before .before .before .before .before .before .before .before .before .before .before .before .before .before .before .before .before .before .before .before .before .before .before .pre .0 .small), (buffers-lent (c .before .before .before .before .before .before .before .before .before .before .before .before .before .before .before .before .before .before .before .before .before .before .before .before .before .before .before .before .before .before .before .before .pre .1) (omega arith) (c .before .before .before .before .before .before .before .before .before .exact .kept .1 .0 ∙ c .before .before .before .before .before .before .before .before .before .before .before .before .before .before .before .before .before .before .before .parted-sides .kept .1 .1 .1 .0) (c .before .before .before .before .before .before .before .before .before .exact .kept .1 .1 .0 ∙ c .before .before .before .before .before .before .before .before .before .before .before .before .before .before .before .before .before .before .before .parted-sides .kept .1 .1 .1 .1 .0) (c .before .before .before .before .before .before .before .before .before .exact .kept .1 .1 .1 .0 ∙ c .before .before .before .before .before .before .before .before .before .before .before .before .before .before .before .before .before .before .before .parted-sides .kept .1 .1 .1 .1 .1 .0))))
 
 first-step-requires : tie.Need-first-step-requires
 first-step-requires c κs = search needs

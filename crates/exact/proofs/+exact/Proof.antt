@@ -1,7 +1,7 @@
 -- The proof of the cycle of calls {exact}: it calls itself below a cast, so the measure is the words. Each case is a law of
 -- proofs/Steps.antt. Assumes nothing.
 use Prim.Native.Nat.{ℕ, _-_, _/_, _<_}
-use mathlib.Core.Path.{sym, _∙_}
+use mathlib.Core.Path.{refl, sym, _∙_}
 use native.Mathlib.Omega.{arith}
 use lib.ListN.{length, getD, take, length-take}
 use borrow.Author.Needs.{needs}
@@ -18,7 +18,7 @@ use Rattle.expr.specs.Tree.{treeOf}
 use Rattle.exact.proofs.+exact.Lts-exact as exact-lts
 use Rattle.exact.proofs.+exact.Tie.{close}
 use Rattle.exact.proofs.+exact.{statement}
-use Rattle.exact.proofs.Steps.{exact-constant, exact-cast, exact-shape, exact-even, exact-other}
+use Rattle.exact.proofs.Steps.{buffers-lent, exact-constant, exact-cast, exact-shape, exact-even, exact-other}
 use Rattle.exact.proofs.cast_value.Reads as cast-value-reads
 use Rattle.exact.proofs.even_value.Reads as even-value-reads
 use Rattle.exact.proofs.exact.Kinds as exact-kinds
@@ -71,7 +71,7 @@ exact-slice-aggregate-exact : (t : ℕ) → exact-lts.Need-slice-aggregate-exact
 exact-slice-aggregate-exact t c = omega (arith, length-take (length (c .before .before .before .before .before .before .before .before .before .args .rs .now) - 2) (c .before .before .before .before .before .before .before .before .before .args .rs .now))
 
 exact-exact-requires : (t : ℕ) → exact-lts.Need-exact-requires (K-exact t) (exact-at t) exact.Post
-exact-exact-requires t c κs = (omega (arith, c .before .before .before .before .before .before .before .before .before .before .before .before .pre .0, (cast-child (c .before .before .before .before .before .before .before .before .before .before .before .before .args .rs .now) (length (c .before .before .before .before .before .before .before .before .before .before .before .before .args .rs .now) - 2) (c .before .before .before .before .before .before .before .before .before .before .before .before .pre .1 .0) (root-place (c .before .before .before .before .before .before .before .before .before .before .before .before .args .rs .now) (c .before .before .before .before .before .before .before .before .before .before .before .before .pre .1 .0)) (sym (c .before .before .before .before .before .before .kind .ensures) ∙ c .before .before .before .before .if2 .taken)) .shorter), ((cast-child (c .before .before .before .before .before .before .before .before .before .before .before .before .args .rs .now) (length (c .before .before .before .before .before .before .before .before .before .before .before .before .args .rs .now) - 2) (c .before .before .before .before .before .before .before .before .before .before .before .before .pre .1 .0) (root-place (c .before .before .before .before .before .before .before .before .before .before .before .before .args .rs .now) (c .before .before .before .before .before .before .before .before .before .before .before .before .pre .1 .0)) (sym (c .before .before .before .before .before .before .kind .ensures) ∙ c .before .before .before .before .if2 .taken)) .wf, (omega (arith, c .before .before .before .before .before .before .before .before .before .before .before .before .pre .1 .1 .0, (cast-child (c .before .before .before .before .before .before .before .before .before .before .before .before .args .rs .now) (length (c .before .before .before .before .before .before .before .before .before .before .before .before .args .rs .now) - 2) (c .before .before .before .before .before .before .before .before .before .before .before .before .pre .1 .0) (root-place (c .before .before .before .before .before .before .before .before .before .before .before .before .args .rs .now) (c .before .before .before .before .before .before .before .before .before .before .before .before .pre .1 .0)) (sym (c .before .before .before .before .before .before .kind .ensures) ∙ c .before .before .before .before .if2 .taken)) .shorter), c .before .before .before .before .before .before .before .before .before .before .before .before .pre .1 .1 .1)))
+exact-exact-requires t c κs = (omega (arith, c .before .before .before .before .before .before .before .before .before .before .before .before .pre .0, (cast-child (c .before .before .before .before .before .before .before .before .before .before .before .before .args .rs .now) (length (c .before .before .before .before .before .before .before .before .before .before .before .before .args .rs .now) - 2) (c .before .before .before .before .before .before .before .before .before .before .before .before .pre .1 .0) (root-place (c .before .before .before .before .before .before .before .before .before .before .before .before .args .rs .now) (c .before .before .before .before .before .before .before .before .before .before .before .before .pre .1 .0)) (sym (c .before .before .before .before .before .before .kind .ensures) ∙ c .before .before .before .before .if2 .taken)) .shorter), ((cast-child (c .before .before .before .before .before .before .before .before .before .before .before .before .args .rs .now) (length (c .before .before .before .before .before .before .before .before .before .before .before .before .args .rs .now) - 2) (c .before .before .before .before .before .before .before .before .before .before .before .before .pre .1 .0) (root-place (c .before .before .before .before .before .before .before .before .before .before .before .before .args .rs .now) (c .before .before .before .before .before .before .before .before .before .before .before .before .pre .1 .0)) (sym (c .before .before .before .before .before .before .kind .ensures) ∙ c .before .before .before .before .if2 .taken)) .wf, (omega (arith, c .before .before .before .before .before .before .before .before .before .before .before .before .pre .1 .1 .0, (cast-child (c .before .before .before .before .before .before .before .before .before .before .before .before .args .rs .now) (length (c .before .before .before .before .before .before .before .before .before .before .before .before .args .rs .now) - 2) (c .before .before .before .before .before .before .before .before .before .before .before .before .pre .1 .0) (root-place (c .before .before .before .before .before .before .before .before .before .before .before .before .args .rs .now) (c .before .before .before .before .before .before .before .before .before .before .before .before .pre .1 .0)) (sym (c .before .before .before .before .before .before .kind .ensures) ∙ c .before .before .before .before .if2 .taken)) .shorter), buffers-lent (c .before .before .before .before .before .before .before .before .before .before .before .before .pre .1 .1 .1) (omega (arith, (cast-child (c .before .before .before .before .before .before .before .before .before .before .before .before .args .rs .now) (length (c .before .before .before .before .before .before .before .before .before .before .before .before .args .rs .now) - 2) (c .before .before .before .before .before .before .before .before .before .before .before .before .pre .1 .0) (root-place (c .before .before .before .before .before .before .before .before .before .before .before .before .args .rs .now) (c .before .before .before .before .before .before .before .before .before .before .before .before .pre .1 .0)) (sym (c .before .before .before .before .before .before .kind .ensures) ∙ c .before .before .before .before .if2 .taken)) .shorter)) refl refl refl)))
 
 exact-cast-value-requires : (t : ℕ) → exact-lts.Need-cast-value-requires (K-exact t) (exact-at t) exact.Post
 exact-cast-value-requires t c κs = search needs
@@ -122,19 +122,19 @@ exact-enum-told : (t : ℕ) → exact-lts.Need-enum-told (K-exact t) (exact-at t
 exact-enum-told t c = search needs
 
 exact-low-bit-requires : (t : ℕ) → exact-lts.Need-low-bit-requires (K-exact t) (exact-at t) exact.Post
-exact-low-bit-requires t c κs = ((exact-two t (c .before .before .before .before .before .before .before .before .before)) .leftWf, (omega (arith, c .before .before .before .before .before .before .before .before .before .before .before .before .before .before .before .before .before .before .before .before .pre .1 .1 .0, (exact-two t (c .before .before .before .before .before .before .before .before .before)) .leftShorter), c .before .before .before .before .before .before .before .before .before .before .before .before .before .before .before .before .before .before .before .before .pre .1 .1 .1))
+exact-low-bit-requires t c κs = ((exact-two t (c .before .before .before .before .before .before .before .before .before)) .leftWf, (omega (arith, c .before .before .before .before .before .before .before .before .before .before .before .before .before .before .before .before .before .before .before .before .pre .1 .1 .0, (exact-two t (c .before .before .before .before .before .before .before .before .before)) .leftShorter), buffers-lent (c .before .before .before .before .before .before .before .before .before .before .before .before .before .before .before .before .before .before .before .before .pre .1 .1 .1) (omega (arith, (exact-two t (c .before .before .before .before .before .before .before .before .before)) .leftShorter)) refl refl refl))
 
 exact-enum-told-2 : (t : ℕ) → exact-lts.Need-enum-told-2 (K-exact t) (exact-at t) exact.Post
 exact-enum-told-2 t c = search needs
 
 exact-low-bit-requires-2 : (t : ℕ) → exact-lts.Need-low-bit-requires-2 (K-exact t) (exact-at t) exact.Post
-exact-low-bit-requires-2 t c κs = ((exact-two t (c .before .before .before .before .before .before .before .before .before)) .rightWf, (omega (arith, c .before .before .before .before .before .before .before .before .before .before .before .before .before .before .before .before .before .before .before .before .pre .1 .1 .0, (exact-two t (c .before .before .before .before .before .before .before .before .before)) .rightShorter), c .before .before .before .before .before .before .before .before .before .before .before .before .before .before .before .before .before .before .before .before .pre .1 .1 .1))
+exact-low-bit-requires-2 t c κs = ((exact-two t (c .before .before .before .before .before .before .before .before .before)) .rightWf, (omega (arith, c .before .before .before .before .before .before .before .before .before .before .before .before .before .before .before .before .before .before .before .before .pre .1 .1 .0, (exact-two t (c .before .before .before .before .before .before .before .before .before)) .rightShorter), buffers-lent (c .before .before .before .before .before .before .before .before .before .before .before .before .before .before .before .before .before .before .before .before .pre .1 .1 .1) (omega (arith, (exact-two t (c .before .before .before .before .before .before .before .before .before)) .rightShorter)) refl refl refl))
 
 exact-enum-told-3 : (t : ℕ) → exact-lts.Need-enum-told-3 (K-exact t) (exact-at t) exact.Post
 exact-enum-told-3 t c = search needs
 
 exact-low-bit-requires-3 : (t : ℕ) → exact-lts.Need-low-bit-requires-3 (K-exact t) (exact-at t) exact.Post
-exact-low-bit-requires-3 t c κs = ((exact-two t (c .before .before .before .before .before .before .before .before .before)) .leftWf, (omega (arith, c .before .before .before .before .before .before .before .before .before .before .before .before .before .before .before .before .before .before .before .before .pre .1 .1 .0, (exact-two t (c .before .before .before .before .before .before .before .before .before)) .leftShorter), c .before .before .before .before .before .before .before .before .before .before .before .before .before .before .before .before .before .before .before .before .pre .1 .1 .1))
+exact-low-bit-requires-3 t c κs = ((exact-two t (c .before .before .before .before .before .before .before .before .before)) .leftWf, (omega (arith, c .before .before .before .before .before .before .before .before .before .before .before .before .before .before .before .before .before .before .before .before .pre .1 .1 .0, (exact-two t (c .before .before .before .before .before .before .before .before .before)) .leftShorter), buffers-lent (c .before .before .before .before .before .before .before .before .before .before .before .before .before .before .before .before .before .before .before .before .pre .1 .1 .1) (omega (arith, (exact-two t (c .before .before .before .before .before .before .before .before .before)) .leftShorter)) refl refl refl))
 
 exact-even-value-requires : (t : ℕ) → exact-lts.Need-even-value-requires (K-exact t) (exact-at t) exact.Post
 exact-even-value-requires t c κs = search needs

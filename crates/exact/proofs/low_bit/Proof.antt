@@ -7,7 +7,7 @@ use Rattle.exact.proofs.low_bit.Statement.{statement}
 use Rattle.exact.proofs.low_bit.Tie as tie
 
 parity-requires : tie.Need-parity-requires
-parity-requires c κs = (lent-whole (c .before .before .before .before .before .before .before .pre .0) (c .before .before .before .before .before .before .before .pre .1 .0) (c .before .before .before .before .before .before .before .pre .1 .1), c .before .before .before .before .before .before .before .pre .1 .1 .products)
+parity-requires c κs = (lent-whole (c .before .before .before .before .before .before .before .pre .0) (c .before .before .before .before .before .before .before .pre .1 .0) (c .before .before .before .before .before .before .before .pre .1 .1 .table) (c .before .before .before .before .before .before .before .pre .1 .1 .space), c .before .before .before .before .before .before .before .pre .1 .1 .products)
 
 enum-known-count : tie.Need-enum-known-count
 enum-known-count c = search needs

@@ -26,7 +26,7 @@ finish-requires c κs = search needs
 
 returns : tie.Need-returns
 unfolding arithStep
-returns c = rw (c .finish .ensures, c .before .is-writing .ensures, c .before .before .arith-effect .ensures, c .before .before .before .operand .ensures, c .before .before .before .before .read .ensures, c .before .before .before .before .before .is-same .ensures, c .before .before .before .before .before .before .width-of .ensures)
+returns c = λ f. rw (c .finish .ensures f, c .before .is-writing .ensures, c .before .before .before .arith-effect .ensures, c .before .before .before .before .operand .ensures f, c .before .before .before .before .before .before .read .ensures f, c .before .before .before .before .before .before .before .before .is-same .ensures, c .before .before .before .before .before .before .before .before .before .width-of .ensures)
 
 pub arith-spec : {M : Type 1} → statement M
 arith-spec =

@@ -9,13 +9,9 @@ carry-rule-requires c κs = search needs
 with-carry-requires : tie.Need-with-carry-requires
 with-carry-requires c κs = search needs
 
-with-flags-requires : tie.Need-with-flags-requires
-with-flags-requires c κs = search needs
-
 returns : tie.Need-returns
 unfolding carryStep
-returns c = rw (c .with-flags .ensures, c .before .with-carry .ensures, c .before .before .carry-rule .ensures)
+returns c = λ w. rw (c .with-carry .ensures, c .before .carry-rule .ensures)
 
 pub carry-spec : {M : Type 1} → statement M
-carry-spec =
-    tie.close (tie.spec carry-rule-requires with-carry-requires with-flags-requires returns)
+carry-spec = tie.close (tie.spec carry-rule-requires with-carry-requires returns)

@@ -65,11 +65,11 @@ returns-6 c = rw (c .enum-told6 .given .1)
 
 returns-7 : tie.Need-returns-7
 unfolding conditionOf
-returns-7 c = rw (c .holds .ensures, c .before .before .before .m .given .1)
+returns-7 c = rw (c .holds .ensures, c .before .before .m .given .1)
 
 returns-8 : tie.Need-returns-8
 unfolding conditionOf
-returns-8 c = rw (c .is-zero .ensures, c .before .read .ensures, c .before .before .count-size .ensures, c .before .before .before .before .m2 .given .1)
+returns-8 c = rw (c .is-zero .ensures, c .before .read .ensures (c .before .before .before .before .before .before .args .flags), c .before .before .count-size .ensures, c .before .before .before .before .m2 .given .1)
 
 pub condition-spec : {M : Type 1} → statement M
 condition-spec =

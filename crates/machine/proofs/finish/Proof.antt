@@ -6,12 +6,9 @@ use Rattle.machine.proofs.finish.Tie as tie
 write-if-requires : tie.Need-write-if-requires
 write-if-requires c κs = search needs
 
-with-flags-requires : tie.Need-with-flags-requires
-with-flags-requires c κs = search needs
-
 returns : tie.Need-returns
 unfolding finished
-returns c = rw (c .with-flags .ensures, c .before .write-if .ensures)
+returns c = λ f. rw (← (c .before .write-if .ensures f))
 
 pub finish-spec : {M : Type 1} → statement M
-finish-spec = tie.close (tie.spec write-if-requires with-flags-requires returns)
+finish-spec = tie.close (tie.spec write-if-requires returns)

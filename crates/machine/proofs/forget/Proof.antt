@@ -12,19 +12,11 @@ forget-registers-requires c κs = search needs
 forget-flags-requires : tie.Need-forget-flags-requires
 forget-flags-requires c κs = search needs
 
-with-flags-requires : tie.Need-with-flags-requires
-with-flags-requires c κs = search needs
-
 returns : tie.Need-returns
 unfolding forgotten
-returns c = rw (c .with-flags .ensures, c .before .forget-flags .ensures, c .before .before .before .forget-registers .ensures, c .before .before .before .before .at-most-eight .ensures)
+returns c = rw (c .forget-flags .ensures, ← (c .before .before .before .at-most-eight .ensures), ← (c .before .forget-registers .ensures (c .before .before .before .before .before .args .flags)))
 
 pub forget-spec : {M : Type 1} → statement M
 forget-spec =
     tie.close
-    (tie.spec
-    at-most-eight-requires
-    forget-registers-requires
-    forget-flags-requires
-    with-flags-requires
-    returns)
+    (tie.spec at-most-eight-requires forget-registers-requires forget-flags-requires returns)

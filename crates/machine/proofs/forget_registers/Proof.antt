@@ -1,21 +1,24 @@
-use borrow.Author.Needs.{needs}
 use Prim.Native.Nat.{_≤_, _-_}
 use mathlib.Core.Path.{_≡_, refl}
 use native.Mathlib.Omega.{arith}
 use native.Mathlib.Numerals.{add-one}
+use borrow.Author.Needs.{needs}
+use Rattle.alu.specs.declared.Flags.{Flags}
+use Rattle.machine.specs.States.{stateOf}
 use Rattle.machine.specs.Registers.{forgetRegisters}
 use Rattle.machine.proofs.forget_registers.Statement.{statement}
 use Rattle.machine.proofs.forget_registers.Tie as tie
 
 abbrev Inv-loop : tie.InvT-loop
-Inv-loop n registers state₀ i₀ state i = (i ≤ n) × (state ≡ forgetRegisters state₀ registers i)
+Inv-loop registers₀ n declared i₀ registers i =
+    (i ≤ n) × ((f : Flags) → stateOf registers f ≡ forgetRegisters (stateOf registers₀ f) declared i)
 
 abbrev μ-loop : tie.MeasureT-loop
-μ-loop n registers state₀ i₀ state i = n - i
+μ-loop registers₀ n declared i₀ registers i = n - i
 
 loop-holds : tie.Need-loop-holds Inv-loop μ-loop
 unfolding forgetRegisters
-loop-holds c = (search needs, refl)
+loop-holds c = (search needs, λ f. refl)
 
 mul-r : tie.Need-mul-r Inv-loop μ-loop
 mul-r c = search needs
@@ -34,7 +37,7 @@ loop-less c = search needs
 
 loop-again : tie.Need-loop-again Inv-loop μ-loop
 unfolding forgetRegisters
-loop-again c = (search needs, rw (add-one, c .forget-register .ensures, c .before .before .before .loop .inv .1))
+loop-again c = (search needs, λ f. rw (add-one, c .forget-register .ensures f, c .before .before .before .before .loop .inv .1 f))
 
 returns : tie.Need-returns Inv-loop μ-loop
 returns c = let e : c .before .before .args .n ≡ c .before .loop .i = omega arith in rw e (c .before .loop .inv .1)

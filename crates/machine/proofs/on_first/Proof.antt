@@ -27,16 +27,16 @@ forget-requires-3 : tie.Need-forget-requires-3
 forget-requires-3 c κs = search needs
 
 returns : tie.Need-returns
-returns c = rw (c .forget .ensures, c .before .enum-told .given .1)
+returns c = rw (c .forget .ensures, c .before .before .enum-told .given .1)
 
 returns-2 : tie.Need-returns-2
-returns-2 c = rw (c .on-register .ensures, c .before .before .first .given .1)
+returns-2 c = rw (c .on-register .ensures, c .before .before .before .first .given .1)
 
 returns-3 : tie.Need-returns-3
-returns-3 c = rw (c .forget2 .ensures, c .before .enum-told2 .given .1)
+returns-3 c = rw (c .forget2 .ensures, c .before .before .enum-told2 .given .1)
 
 returns-4 : tie.Need-returns-4
-returns-4 c = rw (c .forget3 .ensures, c .before .enum-told3 .given .1)
+returns-4 c = rw (c .forget3 .ensures, c .before .before .enum-told3 .given .1)
 
 pub on-first-spec : {M : Type 1} → statement M
 on-first-spec =

@@ -62,35 +62,35 @@ forget-requires-4 c κs = search needs
 
 returns : tie.Need-returns
 unfolding registerStep
-returns c = rw (c .forget .ensures, c .before .enum-told .given .1)
+returns c = rw (c .forget .ensures, c .before .before .enum-told .given .1)
 
 returns-2 : tie.Need-returns-2
 unfolding registerStep
-returns-2 c = rw (c .forget2 .ensures, c .before .enum-told2 .given .1)
+returns-2 c = rw (c .forget2 .ensures, c .before .before .enum-told2 .given .1)
 
 returns-3 : tie.Need-returns-3
 unfolding registerStep
-returns-3 c = rw (c .write .ensures, c .before .operand .ensures, c .before .before .enum-told3 .given .1)
+returns-3 c = rw (c .write .ensures (c .before .before .before .before .before .before .args .flags), c .before .before .operand .ensures (c .before .before .before .before .before .before .args .flags), c .before .before .before .before .enum-told3 .given .1)
 
 returns-4 : tie.Need-returns-4
 unfolding registerStep
-returns-4 c = rw (c .write2 .ensures, c .before .complement-of .ensures, c .before .before .read .ensures, c .before .before .before .enum-told4 .given .1)
+returns-4 c = rw (c .write2 .ensures (c .before .before .before .before .before .before .before .args .flags), c .before .before .complement-of .ensures, c .before .before .before .read .ensures (c .before .before .before .before .before .before .before .args .flags), c .before .before .before .before .before .enum-told4 .given .1)
 
 returns-5 : tie.Need-returns-5
 unfolding registerStep
-returns-5 c = rw (c .arith .ensures, c .before .before .m .given .1)
+returns-5 c = rw (c .arith .ensures (c .before .before .before .before .before .args .flags), c .before .before .before .m .given .1)
 
 returns-6 : tie.Need-returns-6
 unfolding registerStep
-returns-6 c = rw (c .unary .ensures, c .before .before .m2 .given .1)
+returns-6 c = rw (c .unary .ensures, c .before .before .before .m2 .given .1)
 
 returns-7 : tie.Need-returns-7
 unfolding registerStep
-returns-7 c = rw (c .forget3 .ensures, c .before .enum-told5 .given .1)
+returns-7 c = rw (c .forget3 .ensures, c .before .before .enum-told5 .given .1)
 
 returns-8 : tie.Need-returns-8
 unfolding registerStep
-returns-8 c = rw (c .forget4 .ensures, c .before .enum-told6 .given .1)
+returns-8 c = rw (c .forget4 .ensures, c .before .before .enum-told6 .given .1)
 
 pub on-register-spec : {M : Type 1} → statement M
 on-register-spec =

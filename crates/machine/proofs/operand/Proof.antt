@@ -26,19 +26,19 @@ enum-told-2 c = search needs
 
 returns : tie.Need-returns
 unfolding operandOf
-returns c = cc
+returns c = λ f. cc
 
 returns-2 : tie.Need-returns-2
 unfolding operandOf
-returns-2 c = cc
+returns-2 c = λ f. rw (c .read .ensures f, c .before .before .o .given .1)
 
 returns-3 : tie.Need-returns-3
 unfolding operandOf
-returns-3 c = rw (c .immediate-of .ensures, c .before .width-of .ensures, c .before .before .before .o2 .given .1)
+returns-3 c = λ f. rw (c .immediate-of .ensures, c .before .width-of .ensures, c .before .before .before .o2 .given .1)
 
 returns-4 : tie.Need-returns-4
 unfolding operandOf
-returns-4 c = cc
+returns-4 c = λ f. cc
 
 pub operand-spec : {M : Type 1} → statement M
 operand-spec =

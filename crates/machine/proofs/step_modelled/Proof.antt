@@ -53,35 +53,35 @@ forget-requires-3 c κs = search needs
 
 returns : tie.Need-returns
 unfolding modelledStep
-returns c = rw (c .forget .ensures, c .before .enum-told .given .1)
+returns c = rw (c .forget .ensures, c .before .before .enum-told .given .1)
 
 returns-2 : tie.Need-returns-2
 unfolding modelledStep
-returns-2 c = rw (c .carry .ensures, c .before .before .m .given .1)
+returns-2 c = rw (c .before .before .m .given .1) (c .carry .ensures _)
 
 returns-3 : tie.Need-returns-3
 unfolding modelledStep
-returns-3 c = rw (c .on-first .ensures, c .before .enum-told2 .given .1)
+returns-3 c = rw (c .on-first .ensures, c .before .before .enum-told2 .given .1)
 
 returns-4 : tie.Need-returns-4
 unfolding modelledStep
-returns-4 c = rw (c .on-first2 .ensures, c .before .enum-told3 .given .1)
+returns-4 c = rw (c .on-first2 .ensures, c .before .before .enum-told3 .given .1)
 
 returns-5 : tie.Need-returns-5
 unfolding modelledStep
-returns-5 c = rw (c .on-first3 .ensures, c .before .before .m2 .given .1)
+returns-5 c = rw (c .on-first3 .ensures, c .before .before .before .m2 .given .1)
 
 returns-6 : tie.Need-returns-6
 unfolding modelledStep
-returns-6 c = rw (c .on-first4 .ensures, c .before .before .m3 .given .1)
+returns-6 c = rw (c .on-first4 .ensures, c .before .before .before .m3 .given .1)
 
 returns-7 : tie.Need-returns-7
 unfolding modelledStep
-returns-7 c = rw (c .forget2 .ensures, c .before .enum-told4 .given .1)
+returns-7 c = rw (c .forget2 .ensures, c .before .before .enum-told4 .given .1)
 
 returns-8 : tie.Need-returns-8
 unfolding modelledStep
-returns-8 c = rw (c .forget3 .ensures, c .before .enum-told5 .given .1)
+returns-8 c = rw (c .forget3 .ensures, c .before .before .enum-told5 .given .1)
 
 pub step-modelled-spec : {M : Type 1} → statement M
 step-modelled-spec =

@@ -11,7 +11,7 @@ unary-on-requires c κs = search needs
 
 returns : tie.Need-returns
 unfolding unaryStep
-returns c = rw (c .unary-on .ensures, c .before .read .ensures)
+returns c = rw (c .unary-on .ensures, c .before .before .read .ensures (c .before .before .before .before .args .flags))
 
 pub unary-spec : {M : Type 1} → statement M
 unary-spec = tie.close (tie.spec read-requires unary-on-requires returns)

@@ -21,10 +21,10 @@ unary-unknown-requires : tie.Need-unary-unknown-requires
 unary-unknown-requires c κs = search needs
 
 returns : tie.Need-returns
-returns c = rw (c .before .before .before .before .before .v .given .1, c .finish .ensures, c .before .unary-effect .ensures, c .before .before .before .width-of .ensures)
+returns c = rw (c .before .before .before .before .before .v .given .1, c .finish .ensures (c .before .before .before .before .before .before .before .args .flags), c .before .before .unary-effect .ensures, c .before .before .before .width-of .ensures)
 
 returns-2 : tie.Need-returns-2
-returns-2 c = rw (c .before .enum-told .given .1) (c .unary-unknown .ensures)
+returns-2 c = rw (c .before .before .enum-told .given .1) (c .unary-unknown .ensures)
 
 pub unary-on-spec : {M : Type 1} → statement M
 unary-on-spec =

@@ -12,19 +12,10 @@ unknown-carry-requires c κs = search needs
 with-carry-requires : tie.Need-with-carry-requires
 with-carry-requires c κs = search needs
 
-with-flags-requires : tie.Need-with-flags-requires
-with-flags-requires c κs = search needs
-
 returns : tie.Need-returns
 unfolding unaryUnknown
-returns c = rw (c .with-flags .ensures, c .before .with-carry .ensures, c .before .before .unknown-carry .ensures, c .before .before .before .before .forget .ensures)
+returns c = rw (c .with-carry .ensures, c .before .unknown-carry .ensures, ← (c .before .before .forget .ensures))
 
 pub unary-unknown-spec : {M : Type 1} → statement M
 unary-unknown-spec =
-    tie.close
-    (tie.spec
-    forget-requires
-    unknown-carry-requires
-    with-carry-requires
-    with-flags-requires
-    returns)
+    tie.close (tie.spec forget-requires unknown-carry-requires with-carry-requires returns)

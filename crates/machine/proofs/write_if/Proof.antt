@@ -6,10 +6,10 @@ write-requires : tie.Need-write-requires
 write-requires c κs = search needs
 
 returns : tie.Need-returns
-returns c = rw (c .before .if1 .taken) (c .write .ensures)
+returns c = λ f. rw (c .before .before .if1 .taken) (c .write .ensures f)
 
 returns-2 : tie.Need-returns-2
-returns-2 c = search needs
+returns-2 c = λ f. rw (c .if1 .left)
 
 pub write-if-spec : {M : Type 1} → statement M
 write-if-spec = tie.close (tie.spec write-requires returns returns-2)

@@ -18,6 +18,7 @@ use Rattle.parity.proofs.+parity+sides.Lts-sides as sides-lts
 use Rattle.parity.proofs.+parity+sides.Tie.{close}
 use Rattle.parity.proofs.+parity+sides.{statement}
 use Rattle.parity.proofs.Calls.{lent-front, lent-two, two-length, given-same, given-as, given-none, low-constant, low-bool, low-cast, low-binary, low-pair, low-atom, two-left, left-few, left-within, two-right, right-none, two-sides, two-given, left-none}
+use Rattle.parity.proofs.Rooms.{products-lent}
 use Rattle.parity.proofs.atom.Reads as atom-reads
 use Rattle.parity.proofs.combined.Reads as combined-reads
 use Rattle.parity.proofs.constant_poly.Reads as constant-poly-reads
@@ -101,7 +102,7 @@ parity-slice-aggregate-parity : (t : ℕ) → parity-lts.Need-slice-aggregate-pa
 parity-slice-aggregate-parity t c = omega (arith, length-take (length (c .before .before .before .before .before .before .before .before .before .before .before .before .args .part .now) - 2) (c .before .before .before .before .before .before .before .before .before .before .before .before .args .part .now))
 
 parity-parity-requires : (t : ℕ) → parity-lts.Need-parity-requires (K-parity t) (parity-at t) parity.Post
-parity-parity-requires t c κs = (omega (arith, c .before .before .before .before .before .before .before .before .before .before .before .before .before .before .before .pre .0, (cast-child (c .before .before .before .before .before .before .before .before .before .before .before .before .before .before .before .args .part .now) (length (c .before .before .before .before .before .before .before .before .before .before .before .before .before .before .before .args .part .now) - 2) (c .before .before .before .before .before .before .before .before .before .before .before .before .before .before .before .pre .1 .0 .wf) (root-place (c .before .before .before .before .before .before .before .before .before .before .before .before .before .before .before .args .part .now) (c .before .before .before .before .before .before .before .before .before .before .before .before .before .before .before .pre .1 .0 .wf)) (sym (c .before .before .before .before .before .before .before .before .kind .ensures) ∙ c .before .before .before .before .before .before .if2 .taken)) .shorter), (lent-front (c .before .before .before .before .before .before .before .before .before .before .before .before .before .before .before .pre .1 .0) (length (c .before .before .before .before .before .before .before .before .before .before .before .before .before .before .before .args .part .now) - 2) (omega arith) ((cast-child (c .before .before .before .before .before .before .before .before .before .before .before .before .before .before .before .args .part .now) (length (c .before .before .before .before .before .before .before .before .before .before .before .before .before .before .before .args .part .now) - 2) (c .before .before .before .before .before .before .before .before .before .before .before .before .before .before .before .pre .1 .0 .wf) (root-place (c .before .before .before .before .before .before .before .before .before .before .before .before .before .before .before .args .part .now) (c .before .before .before .before .before .before .before .before .before .before .before .before .before .before .before .pre .1 .0 .wf)) (sym (c .before .before .before .before .before .before .before .before .kind .ensures) ∙ c .before .before .before .before .before .before .if2 .taken)) .wf), c .before .before .before .before .before .before .before .before .before .before .before .before .before .before .before .pre .1 .1))
+parity-parity-requires t c κs = (omega (arith, c .before .before .before .before .before .before .before .before .before .before .before .before .before .before .before .pre .0, (cast-child (c .before .before .before .before .before .before .before .before .before .before .before .before .before .before .before .args .part .now) (length (c .before .before .before .before .before .before .before .before .before .before .before .before .before .before .before .args .part .now) - 2) (c .before .before .before .before .before .before .before .before .before .before .before .before .before .before .before .pre .1 .0 .wf) (root-place (c .before .before .before .before .before .before .before .before .before .before .before .before .before .before .before .args .part .now) (c .before .before .before .before .before .before .before .before .before .before .before .before .before .before .before .pre .1 .0 .wf)) (sym (c .before .before .before .before .before .before .before .before .kind .ensures) ∙ c .before .before .before .before .before .before .if2 .taken)) .shorter), (lent-front (c .before .before .before .before .before .before .before .before .before .before .before .before .before .before .before .pre .1 .0) (length (c .before .before .before .before .before .before .before .before .before .before .before .before .before .before .before .args .part .now) - 2) (omega arith) ((cast-child (c .before .before .before .before .before .before .before .before .before .before .before .before .before .before .before .args .part .now) (length (c .before .before .before .before .before .before .before .before .before .before .before .before .before .before .before .args .part .now) - 2) (c .before .before .before .before .before .before .before .before .before .before .before .before .before .before .before .pre .1 .0 .wf) (root-place (c .before .before .before .before .before .before .before .before .before .before .before .before .before .before .before .args .part .now) (c .before .before .before .before .before .before .before .before .before .before .before .before .before .before .before .pre .1 .0 .wf)) (sym (c .before .before .before .before .before .before .before .before .kind .ensures) ∙ c .before .before .before .before .before .before .if2 .taken)) .wf), products-lent (c .before .before .before .before .before .before .before .before .before .before .before .before .before .before .before .pre .1 .1) (omega (arith, length-take (length (c .before .before .before .before .before .before .before .before .before .before .before .before .before .before .before .args .part .now) - 2) (c .before .before .before .before .before .before .before .before .before .before .before .before .before .before .before .args .part .now))) refl))
 
 parity-same-length-4 : (t : ℕ) → parity-lts.Need-same-length-4 (K-parity t) (parity-at t) parity.Post
 parity-same-length-4 t c = search needs
@@ -158,13 +159,13 @@ parity-enum-known-pair : (t : ℕ) → parity-lts.Need-enum-known-pair (K-parity
 parity-enum-known-pair t c = search needs
 
 parity-sides-requires : (t : ℕ) → parity-lts.Need-sides-requires (K-parity t) (parity-at t) parity.Post
-parity-sides-requires t c κs = (omega (arith, c .before .before .before .before .before .before .before .before .before .before .before .before .before .before .before .before .before .before .before .before .before .before .pre .0, two-length (c .before .before .before .before .before .before .before .before .before .before .before .before .before .before .before .before .before .before .before .before .before .before .args .part .now) (length (c .before .before .before .before .before .before .before .before .before .before .before .before .before .before .before .before .before .before .before .before .before .before .args .part .now) - 2) (c .before .before .before .before .before .before .before .before .before .before .last-start .result) (root-place (c .before .before .before .before .before .before .before .before .before .before .before .before .before .before .before .before .before .before .before .before .before .before .args .part .now) (c .before .before .before .before .before .before .before .before .before .before .before .before .before .before .before .before .before .before .before .before .before .before .pre .1 .0 .wf)) (binary-children (c .before .before .before .before .before .before .before .before .before .before .before .before .before .before .before .before .before .before .before .before .before .before .args .part .now) (length (c .before .before .before .before .before .before .before .before .before .before .before .before .before .before .before .before .before .before .before .before .before .before .args .part .now) - 2) (c .before .before .before .before .before .before .before .before .before .before .before .before .before .before .before .before .before .before .before .before .before .before .pre .1 .0 .wf) (root-place (c .before .before .before .before .before .before .before .before .before .before .before .before .before .before .before .before .before .before .before .before .before .before .args .part .now) (c .before .before .before .before .before .before .before .before .before .before .before .before .before .before .before .before .before .before .before .before .before .before .pre .1 .0 .wf)) (c .before .before .before .before .before .before .before .before .before .before .last-start .result) (c .before .before .before .before .before .before .before .before .before .before .last-start .ensures) (sym (c .before .before .before .before .before .before .before .before .before .before .before .before .before .before .before .kind .ensures) ∙ c .before .before .before .before .before .before .before .before .before .before .before .before .if4 .left))), (lent-two (c .before .before .before .before .before .before .before .before .before .before .before .before .before .before .before .before .before .before .before .before .before .before .pre .1 .0) (length (c .before .before .before .before .before .before .before .before .before .before .before .before .before .before .before .before .before .before .before .before .before .before .args .part .now) - 2) (c .before .before .before .before .before .before .before .before .before .before .last-start .result) (root-place (c .before .before .before .before .before .before .before .before .before .before .before .before .before .before .before .before .before .before .before .before .before .before .args .part .now) (c .before .before .before .before .before .before .before .before .before .before .before .before .before .before .before .before .before .before .before .before .before .before .pre .1 .0 .wf)) (binary-children (c .before .before .before .before .before .before .before .before .before .before .before .before .before .before .before .before .before .before .before .before .before .before .args .part .now) (length (c .before .before .before .before .before .before .before .before .before .before .before .before .before .before .before .before .before .before .before .before .before .before .args .part .now) - 2) (c .before .before .before .before .before .before .before .before .before .before .before .before .before .before .before .before .before .before .before .before .before .before .pre .1 .0 .wf) (root-place (c .before .before .before .before .before .before .before .before .before .before .before .before .before .before .before .before .before .before .before .before .before .before .args .part .now) (c .before .before .before .before .before .before .before .before .before .before .before .before .before .before .before .before .before .before .before .before .before .before .pre .1 .0 .wf)) (c .before .before .before .before .before .before .before .before .before .before .last-start .result) (c .before .before .before .before .before .before .before .before .before .before .last-start .ensures) (sym (c .before .before .before .before .before .before .before .before .before .before .before .before .before .before .before .kind .ensures) ∙ c .before .before .before .before .before .before .before .before .before .before .before .before .if4 .left)), c .before .before .before .before .before .before .before .before .before .before .before .before .before .before .before .before .before .before .before .before .before .before .pre .1 .1))
+parity-sides-requires t c κs = (omega (arith, c .before .before .before .before .before .before .before .before .before .before .before .before .before .before .before .before .before .before .before .before .before .before .pre .0, two-length (c .before .before .before .before .before .before .before .before .before .before .before .before .before .before .before .before .before .before .before .before .before .before .args .part .now) (length (c .before .before .before .before .before .before .before .before .before .before .before .before .before .before .before .before .before .before .before .before .before .before .args .part .now) - 2) (c .before .before .before .before .before .before .before .before .before .before .last-start .result) (root-place (c .before .before .before .before .before .before .before .before .before .before .before .before .before .before .before .before .before .before .before .before .before .before .args .part .now) (c .before .before .before .before .before .before .before .before .before .before .before .before .before .before .before .before .before .before .before .before .before .before .pre .1 .0 .wf)) (binary-children (c .before .before .before .before .before .before .before .before .before .before .before .before .before .before .before .before .before .before .before .before .before .before .args .part .now) (length (c .before .before .before .before .before .before .before .before .before .before .before .before .before .before .before .before .before .before .before .before .before .before .args .part .now) - 2) (c .before .before .before .before .before .before .before .before .before .before .before .before .before .before .before .before .before .before .before .before .before .before .pre .1 .0 .wf) (root-place (c .before .before .before .before .before .before .before .before .before .before .before .before .before .before .before .before .before .before .before .before .before .before .args .part .now) (c .before .before .before .before .before .before .before .before .before .before .before .before .before .before .before .before .before .before .before .before .before .before .pre .1 .0 .wf)) (c .before .before .before .before .before .before .before .before .before .before .last-start .result) (c .before .before .before .before .before .before .before .before .before .before .last-start .ensures) (sym (c .before .before .before .before .before .before .before .before .before .before .before .before .before .before .before .kind .ensures) ∙ c .before .before .before .before .before .before .before .before .before .before .before .before .if4 .left))), (lent-two (c .before .before .before .before .before .before .before .before .before .before .before .before .before .before .before .before .before .before .before .before .before .before .pre .1 .0) (length (c .before .before .before .before .before .before .before .before .before .before .before .before .before .before .before .before .before .before .before .before .before .before .args .part .now) - 2) (c .before .before .before .before .before .before .before .before .before .before .last-start .result) (root-place (c .before .before .before .before .before .before .before .before .before .before .before .before .before .before .before .before .before .before .before .before .before .before .args .part .now) (c .before .before .before .before .before .before .before .before .before .before .before .before .before .before .before .before .before .before .before .before .before .before .pre .1 .0 .wf)) (binary-children (c .before .before .before .before .before .before .before .before .before .before .before .before .before .before .before .before .before .before .before .before .before .before .args .part .now) (length (c .before .before .before .before .before .before .before .before .before .before .before .before .before .before .before .before .before .before .before .before .before .before .args .part .now) - 2) (c .before .before .before .before .before .before .before .before .before .before .before .before .before .before .before .before .before .before .before .before .before .before .pre .1 .0 .wf) (root-place (c .before .before .before .before .before .before .before .before .before .before .before .before .before .before .before .before .before .before .before .before .before .before .args .part .now) (c .before .before .before .before .before .before .before .before .before .before .before .before .before .before .before .before .before .before .before .before .before .before .pre .1 .0 .wf)) (c .before .before .before .before .before .before .before .before .before .before .last-start .result) (c .before .before .before .before .before .before .before .before .before .before .last-start .ensures) (sym (c .before .before .before .before .before .before .before .before .before .before .before .before .before .before .before .kind .ensures) ∙ c .before .before .before .before .before .before .before .before .before .before .before .before .if4 .left)), products-lent (c .before .before .before .before .before .before .before .before .before .before .before .before .before .before .before .before .before .before .before .before .before .before .pre .1 .1) (omega (arith, two-length (c .before .before .before .before .before .before .before .before .before .before .before .before .before .before .before .before .before .before .before .before .before .before .args .part .now) (length (c .before .before .before .before .before .before .before .before .before .before .before .before .before .before .before .before .before .before .before .before .before .before .args .part .now) - 2) (c .before .before .before .before .before .before .before .before .before .before .last-start .result) (root-place (c .before .before .before .before .before .before .before .before .before .before .before .before .before .before .before .before .before .before .before .before .before .before .args .part .now) (c .before .before .before .before .before .before .before .before .before .before .before .before .before .before .before .before .before .before .before .before .before .before .pre .1 .0 .wf)) (binary-children (c .before .before .before .before .before .before .before .before .before .before .before .before .before .before .before .before .before .before .before .before .before .before .args .part .now) (length (c .before .before .before .before .before .before .before .before .before .before .before .before .before .before .before .before .before .before .before .before .before .before .args .part .now) - 2) (c .before .before .before .before .before .before .before .before .before .before .before .before .before .before .before .before .before .before .before .before .before .before .pre .1 .0 .wf) (root-place (c .before .before .before .before .before .before .before .before .before .before .before .before .before .before .before .before .before .before .before .before .before .before .args .part .now) (c .before .before .before .before .before .before .before .before .before .before .before .before .before .before .before .before .before .before .before .before .before .before .pre .1 .0 .wf)) (c .before .before .before .before .before .before .before .before .before .before .last-start .result) (c .before .before .before .before .before .before .before .before .before .before .last-start .ensures) (sym (c .before .before .before .before .before .before .before .before .before .before .before .before .before .before .before .kind .ensures) ∙ c .before .before .before .before .before .before .before .before .before .before .before .before .if4 .left)))) refl))
 
 parity-enum-told : (t : ℕ) → parity-lts.Need-enum-told (K-parity t) (parity-at t) parity.Post
 parity-enum-told t c = search needs
 
 parity-parity-requires-2 : (t : ℕ) → parity-lts.Need-parity-requires-2 (K-parity t) (parity-at t) parity.Post
-parity-parity-requires-2 t c κs = (omega (arith, c .before .before .before .before .before .before .before .before .before .before .before .before .before .before .before .before .before .before .before .before .before .pre .0, (binary-children (c .before .before .before .before .before .before .before .before .before .before .before .before .before .before .before .before .before .before .before .before .before .args .part .now) (length (c .before .before .before .before .before .before .before .before .before .before .before .before .before .before .before .before .before .before .before .before .before .args .part .now) - 2) (c .before .before .before .before .before .before .before .before .before .before .before .before .before .before .before .before .before .before .before .before .before .pre .1 .0 .wf) (root-place (c .before .before .before .before .before .before .before .before .before .before .before .before .before .before .before .before .before .before .before .before .before .args .part .now) (c .before .before .before .before .before .before .before .before .before .before .before .before .before .before .before .before .before .before .before .before .before .pre .1 .0 .wf)) (c .before .before .before .before .before .before .before .before .before .last-start .result) (c .before .before .before .before .before .before .before .before .before .last-start .ensures) (sym (c .before .before .before .before .before .before .before .before .before .before .before .before .before .before .kind .ensures) ∙ c .before .before .before .before .before .before .before .before .before .before .before .if4 .left)) .leftShorter), (lent-front (c .before .before .before .before .before .before .before .before .before .before .before .before .before .before .before .before .before .before .before .before .before .pre .1 .0) (c .before .before .before .before .before .before .before .before .before .last-start .result) (omega (arith, (binary-children (c .before .before .before .before .before .before .before .before .before .before .before .before .before .before .before .before .before .before .before .before .before .args .part .now) (length (c .before .before .before .before .before .before .before .before .before .before .before .before .before .before .before .before .before .before .before .before .before .args .part .now) - 2) (c .before .before .before .before .before .before .before .before .before .before .before .before .before .before .before .before .before .before .before .before .before .pre .1 .0 .wf) (root-place (c .before .before .before .before .before .before .before .before .before .before .before .before .before .before .before .before .before .before .before .before .before .args .part .now) (c .before .before .before .before .before .before .before .before .before .before .before .before .before .before .before .before .before .before .before .before .before .pre .1 .0 .wf)) (c .before .before .before .before .before .before .before .before .before .last-start .result) (c .before .before .before .before .before .before .before .before .before .last-start .ensures) (sym (c .before .before .before .before .before .before .before .before .before .before .before .before .before .before .kind .ensures) ∙ c .before .before .before .before .before .before .before .before .before .before .before .if4 .left)) .within)) ((binary-children (c .before .before .before .before .before .before .before .before .before .before .before .before .before .before .before .before .before .before .before .before .before .args .part .now) (length (c .before .before .before .before .before .before .before .before .before .before .before .before .before .before .before .before .before .before .before .before .before .args .part .now) - 2) (c .before .before .before .before .before .before .before .before .before .before .before .before .before .before .before .before .before .before .before .before .before .pre .1 .0 .wf) (root-place (c .before .before .before .before .before .before .before .before .before .before .before .before .before .before .before .before .before .before .before .before .before .args .part .now) (c .before .before .before .before .before .before .before .before .before .before .before .before .before .before .before .before .before .before .before .before .before .pre .1 .0 .wf)) (c .before .before .before .before .before .before .before .before .before .last-start .result) (c .before .before .before .before .before .before .before .before .before .last-start .ensures) (sym (c .before .before .before .before .before .before .before .before .before .before .before .before .before .before .kind .ensures) ∙ c .before .before .before .before .before .before .before .before .before .before .before .if4 .left)) .leftWf), c .before .before .before .before .before .before .before .before .before .before .before .before .before .before .before .before .before .before .before .before .before .pre .1 .1))
+parity-parity-requires-2 t c κs = (omega (arith, c .before .before .before .before .before .before .before .before .before .before .before .before .before .before .before .before .before .before .before .before .before .pre .0, (binary-children (c .before .before .before .before .before .before .before .before .before .before .before .before .before .before .before .before .before .before .before .before .before .args .part .now) (length (c .before .before .before .before .before .before .before .before .before .before .before .before .before .before .before .before .before .before .before .before .before .args .part .now) - 2) (c .before .before .before .before .before .before .before .before .before .before .before .before .before .before .before .before .before .before .before .before .before .pre .1 .0 .wf) (root-place (c .before .before .before .before .before .before .before .before .before .before .before .before .before .before .before .before .before .before .before .before .before .args .part .now) (c .before .before .before .before .before .before .before .before .before .before .before .before .before .before .before .before .before .before .before .before .before .pre .1 .0 .wf)) (c .before .before .before .before .before .before .before .before .before .last-start .result) (c .before .before .before .before .before .before .before .before .before .last-start .ensures) (sym (c .before .before .before .before .before .before .before .before .before .before .before .before .before .before .kind .ensures) ∙ c .before .before .before .before .before .before .before .before .before .before .before .if4 .left)) .leftShorter), (lent-front (c .before .before .before .before .before .before .before .before .before .before .before .before .before .before .before .before .before .before .before .before .before .pre .1 .0) (c .before .before .before .before .before .before .before .before .before .last-start .result) (omega (arith, (binary-children (c .before .before .before .before .before .before .before .before .before .before .before .before .before .before .before .before .before .before .before .before .before .args .part .now) (length (c .before .before .before .before .before .before .before .before .before .before .before .before .before .before .before .before .before .before .before .before .before .args .part .now) - 2) (c .before .before .before .before .before .before .before .before .before .before .before .before .before .before .before .before .before .before .before .before .before .pre .1 .0 .wf) (root-place (c .before .before .before .before .before .before .before .before .before .before .before .before .before .before .before .before .before .before .before .before .before .args .part .now) (c .before .before .before .before .before .before .before .before .before .before .before .before .before .before .before .before .before .before .before .before .before .pre .1 .0 .wf)) (c .before .before .before .before .before .before .before .before .before .last-start .result) (c .before .before .before .before .before .before .before .before .before .last-start .ensures) (sym (c .before .before .before .before .before .before .before .before .before .before .before .before .before .before .kind .ensures) ∙ c .before .before .before .before .before .before .before .before .before .before .before .if4 .left)) .within)) ((binary-children (c .before .before .before .before .before .before .before .before .before .before .before .before .before .before .before .before .before .before .before .before .before .args .part .now) (length (c .before .before .before .before .before .before .before .before .before .before .before .before .before .before .before .before .before .before .before .before .before .args .part .now) - 2) (c .before .before .before .before .before .before .before .before .before .before .before .before .before .before .before .before .before .before .before .before .before .pre .1 .0 .wf) (root-place (c .before .before .before .before .before .before .before .before .before .before .before .before .before .before .before .before .before .before .before .before .before .args .part .now) (c .before .before .before .before .before .before .before .before .before .before .before .before .before .before .before .before .before .before .before .before .before .pre .1 .0 .wf)) (c .before .before .before .before .before .before .before .before .before .last-start .result) (c .before .before .before .before .before .before .before .before .before .last-start .ensures) (sym (c .before .before .before .before .before .before .before .before .before .before .before .before .before .before .kind .ensures) ∙ c .before .before .before .before .before .before .before .before .before .before .before .if4 .left)) .leftWf), products-lent (c .before .before .before .before .before .before .before .before .before .before .before .before .before .before .before .before .before .before .before .before .before .pre .1 .1) (omega (arith, length-take (c .before .before .before .before .before .before .before .before .before .last-start .result) (c .before .before .before .before .before .before .before .before .before .before .before .before .before .before .before .before .before .before .before .before .before .args .part .now))) refl))
 
 parity-enum-told-2 : (t : ℕ) → parity-lts.Need-enum-told-2 (K-parity t) (parity-at t) parity.Post
 parity-enum-told-2 t c = search needs
@@ -212,7 +213,7 @@ parity-returns-8 : (t : ℕ) → parity-lts.Need-returns-8 (K-parity t) (parity-
 parity-returns-8 t c = given-as (low-binary (atomsAt (c .before .before .before .before .before .before .before .before .before .before .before .before .before .before .before .before .before .before .before .before .before .before .before .before .before .args .whole .now) (take (c .before .before .before .before .before .before .before .before .before .before .before .before .before .before .before .before .before .before .before .before .before .before .before .before .before .args .count) (c .before .before .before .before .before .before .before .before .before .before .before .before .before .before .before .before .before .before .before .before .before .before .before .before .before .args .atoms .now))) ((binary-children (c .before .before .before .before .before .before .before .before .before .before .before .before .before .before .before .before .before .before .before .before .before .before .before .before .before .args .part .now) (length (c .before .before .before .before .before .before .before .before .before .before .before .before .before .before .before .before .before .before .before .before .before .before .before .before .before .args .part .now) - 2) (c .before .before .before .before .before .before .before .before .before .before .before .before .before .before .before .before .before .before .before .before .before .before .before .before .before .pre .1 .0 .wf) (root-place (c .before .before .before .before .before .before .before .before .before .before .before .before .before .before .before .before .before .before .before .before .before .before .before .before .before .args .part .now) (c .before .before .before .before .before .before .before .before .before .before .before .before .before .before .before .before .before .before .before .before .before .before .before .before .before .pre .1 .0 .wf)) (c .before .before .before .before .before .before .before .before .before .before .before .before .before .last-start .result) (c .before .before .before .before .before .before .before .before .before .before .before .before .before .last-start .ensures) (sym (c .before .before .before .before .before .before .before .before .before .before .before .before .before .before .before .before .before .before .kind .ensures) ∙ c .before .before .before .before .before .before .before .before .before .before .before .before .before .before .before .if4 .left)) .tree) (c .before .before .before .before .before .before .before .before .before .entered .ensures) (c .before .before .before .before .before .before .before .before .before .before .argument2 .ensures) (c .before .before .before .before .before .before .before .enum-told3 .given .1)) (c .before .before .before .before .atom3 .ensures)
 
 sides-parity-requires : (t : ℕ) → sides-lts.Need-parity-requires (K-sides t) (sides-at t) sides.Post
-sides-parity-requires t c κs = (omega (arith, c .before .before .before .before .before .before .before .before .before .pre .0), (two-left (c .before .before .before .before .before .before .before .before .before .pre .1 .0), c .before .before .before .before .before .before .before .before .before .pre .1 .1))
+sides-parity-requires t c κs = (omega (arith, c .before .before .before .before .before .before .before .before .before .pre .0), (two-left (c .before .before .before .before .before .before .before .before .before .pre .1 .0), products-lent (c .before .before .before .before .before .before .before .before .before .pre .1 .1) (omega arith) refl))
 
 sides-enum-known-n : (t : ℕ) → sides-lts.Need-enum-known-n (K-sides t) (sides-at t) sides.Post
 sides-enum-known-n t c = search needs
@@ -233,13 +234,13 @@ sides-part-parity-end : (t : ℕ) → sides-lts.Need-part-parity-end (K-sides t)
 sides-part-parity-end t c = search needs
 
 sides-parity-requires-2 : (t : ℕ) → sides-lts.Need-parity-requires-2 (K-sides t) (sides-at t) sides.Post
-sides-parity-requires-2 t c κs = (omega (arith, c .before .before .before .before .before .before .before .before .before .before .before .before .before .before .before .before .before .before .before .before .before .before .pre .0), (two-right (c .before .before .before .before .before .before .before .before .before .before .before .before .before .before .before .before .before .before .before .before .before .before .pre .1 .0) (c .before .before .before .before .before .before .before .before .before .before .before .before .parity .ensures) (c .before .before .before .before .n .given .1) (c .before .before .before .before .before .before .before .before .before .before .before .before .parity .kept .1 .1 .1 .0) (c .before .before .before .before .before .before .before .before .before .before .before .before .parity .kept .1 .1 .1 .1 .1 .0), omega (arith, c .before .before .before .before .before .before .before .before .before .before .before .before .before .before .before .before .before .before .before .before .before .before .pre .1 .1, c .before .before .before .before .before .before .before .before .before .before .before .before .parity .kept .1 .1 .1 .1 .1 .1 .0)))
+sides-parity-requires-2 t c κs = (omega (arith, c .before .before .before .before .before .before .before .before .before .before .before .before .before .before .before .before .before .before .before .before .before .before .pre .0), (two-right (c .before .before .before .before .before .before .before .before .before .before .before .before .before .before .before .before .before .before .before .before .before .before .pre .1 .0) (c .before .before .before .before .before .before .before .before .before .before .before .before .parity .ensures) (c .before .before .before .before .n .given .1) (c .before .before .before .before .before .before .before .before .before .before .before .before .parity .kept .1 .1 .1 .0) (c .before .before .before .before .before .before .before .before .before .before .before .before .parity .kept .1 .1 .1 .1 .1 .0), products-lent (c .before .before .before .before .before .before .before .before .before .before .before .before .before .before .before .before .before .before .before .before .before .before .pre .1 .1) (omega arith) (c .before .before .before .before .before .before .before .before .before .before .before .before .parity .kept .1 .1 .1 .1 .1 .1 .0)))
 
 sides-enum-known-k : (t : ℕ) → sides-lts.Need-enum-known-k (K-sides t) (sides-at t) sides.Post
 sides-enum-known-k t c = search needs
 
 sides-combined-requires : (t : ℕ) → sides-lts.Need-combined-requires (K-sides t) (sides-at t) sides.Post
-sides-combined-requires t c κs = two-sides (c .before .before .before .before .before .before .before .before .before .before .before .before .before .before .before .before .before .before .before .before .before .before .before .before .before .before .before .before .before .before .before .before .before .before .pre .1 .0) (c .before .before .before .before .before .before .before .before .before .before .before .before .before .before .before .before .before .before .before .before .before .before .before .before .parity .ensures) (c .before .before .before .before .before .before .before .before .before .before .before .before .before .before .before .before .n .given .1) (c .before .before .before .before .before .before .before .before .before .before .before .parity2 .ensures) (c .before .before .before .k .given .1) _ (c .before .before .before .before .before .before .before .before .before .before .before .before .before .before .before .before .before .before .before .before .before .before .before .before .parity .kept .1 .1 .1 .1 .1 .0) (c .before .before .before .before .before .before .before .before .before .before .before .parity2 .kept .1 .1 .1 .1 .1 .0) _ (omega (arith, c .before .before .before .before .before .before .before .before .before .before .before .before .before .before .before .before .before .before .before .before .before .before .before .before .before .before .before .before .before .before .before .before .before .before .pre .1 .1, c .before .before .before .before .before .before .before .before .before .before .before .before .before .before .before .before .before .before .before .before .before .before .before .before .parity .kept .1 .1 .1 .1 .1 .1 .0, c .before .before .before .before .before .before .before .before .before .before .before .parity2 .kept .1 .1 .1 .1 .1 .1 .0))
+sides-combined-requires t c κs = two-sides (c .before .before .before .before .before .before .before .before .before .before .before .before .before .before .before .before .before .before .before .before .before .before .before .before .before .before .before .before .before .before .before .before .before .before .pre .1 .0) (c .before .before .before .before .before .before .before .before .before .before .before .before .before .before .before .before .before .before .before .before .before .before .before .before .parity .ensures) (c .before .before .before .before .before .before .before .before .before .before .before .before .before .before .before .before .n .given .1) (c .before .before .before .before .before .before .before .before .before .before .before .parity2 .ensures) (c .before .before .before .k .given .1) _ (c .before .before .before .before .before .before .before .before .before .before .before .before .before .before .before .before .before .before .before .before .before .before .before .before .parity .kept .1 .1 .1 .1 .1 .0) (c .before .before .before .before .before .before .before .before .before .before .before .parity2 .kept .1 .1 .1 .1 .1 .0) _ (products-lent (c .before .before .before .before .before .before .before .before .before .before .before .before .before .before .before .before .before .before .before .before .before .before .before .before .before .before .before .before .before .before .before .before .before .before .pre .1 .1) (omega arith) (c .before .before .before .before .before .before .before .before .before .before .before .parity2 .kept .1 .1 .1 .1 .1 .1 .0 ∙ c .before .before .before .before .before .before .before .before .before .before .before .before .before .before .before .before .before .before .before .before .before .before .before .before .parity .kept .1 .1 .1 .1 .1 .1 .0))
 
 sides-enum-told : (t : ℕ) → sides-lts.Need-enum-told (K-sides t) (sides-at t) sides.Post
 sides-enum-told t c = search needs

@@ -1,13 +1,16 @@
-use Rattle.substitute_node.proofs.Passing.{Passing, passing-start, passing-whole, passing-stop, passing-more, passing-end}
+use Rattle.substitute_node.proofs.Passing.{Passing, passing-start, passing-lent, passing-whole, passing-stop, passing-more, passing-end}
 use borrow.Author.Tests.{not-true, not-false}
 use borrow.Author.Needs.{needs}
 use native.Mathlib.Omega.{arith}
 use Prim.Native.Nat.{_-_}
+use lib.ListN.{length}
+use mathlib.Core.Path.{_≡_, refl}
 use Rattle.substitute_node.proofs.take_statements.Statement.{statement}
 use Rattle.substitute_node.proofs.take_statements.Tie as tie
 
 abbrev Inv-loop : tie.InvT-loop
-Inv-loop s types n table₀ lengths₀ words₀ out₀ next₀ i₀ table lengths words out next i = Passing types s next₀ n table lengths words out next i
+Inv-loop s types n table₀ lengths₀ words₀ out₀ next₀ i₀ table lengths words out next i =
+    (length table ≡ length table₀) × (length lengths ≡ length lengths₀) × Passing types s next₀ n table lengths words out next i
 
 abbrev μ-loop : tie.MeasureT-loop
 μ-loop s types n table₀ lengths₀ words₀ out₀ next₀ i₀ table lengths words out next i = n - i
@@ -18,43 +21,43 @@ clear-requires c κs = search needs
 loop-holds : tie.Need-loop-holds Inv-loop μ-loop
 loop-holds c =
     let start = c .before .before .before .before .before .before .before .before .before .before in
-    passing-start _ _ _ _ (start .pre .0) (c .before .before .clear .ensures)
+    (refl, refl, passing-start _ _ _ _ (start .pre .0) (c .before .before .clear .ensures))
 
 take-statement-requires : tie.Need-take-statement-requires Inv-loop μ-loop
 take-statement-requires c κs =
     let loop = c .before .before .before .before .before .loop in
     let start = c .before .before .before .before .before .before .before .before .before .before .before .before .before .before .before .before in
-    (loop .inv .lent, passing-whole (loop .inv) (start .pre .1) (omega arith))
+    (passing-lent (loop .inv .2) (omega arith), passing-whole (loop .inv .2) (start .pre .1) (omega arith))
 
 same-length : tie.Need-same-length Inv-loop μ-loop
 same-length c =
     let loop = c .before .before .before .before .before .before .before .before .before .before .before .before .before .before .before .before .loop in
     let start = c .before .before .before .before .before .before .before .before .before .before .before .before .before .before .before .before .before .before .before .before .before .before .before .before .before .before .before in
-    omega (arith, loop .inv .lent .slots .room, start .pre .0 .tableRoom)
+    omega (arith, loop .inv .0)
 
 same-length-2 : tie.Need-same-length-2 Inv-loop μ-loop
 same-length-2 c =
     let loop = c .before .before .before .before .before .before .before .before .before .before .before .before .before .before .before .before .loop in
     let start = c .before .before .before .before .before .before .before .before .before .before .before .before .before .before .before .before .before .before .before .before .before .before .before .before .before .before .before in
-    omega (arith, loop .inv .lent .slots .places, start .pre .0 .lengthsRoom)
+    omega (arith, loop .inv .1)
 
 same-length-3 : tie.Need-same-length-3 Inv-loop μ-loop
 same-length-3 c =
     let loop = c .before .before .before .before .before .before .before .before .before .before .before .before .before .before .before .before .loop in
     let start = c .before .before .before .before .before .before .before .before .before .before .before .before .before .before .before .before .before .before .before .before .before .before .before .before .before .before .before in
-    omega (arith, loop .inv .lent .wordsRoom, start .pre .0 .wordsRoom)
+    omega (arith, loop .inv .2 .wordsRoom, start .pre .0 .wordsRoom)
 
 same-length-4 : tie.Need-same-length-4 Inv-loop μ-loop
 same-length-4 c =
     let loop = c .before .before .before .before .before .before .before .before .before .before .before .before .before .before .before .before .loop in
     let start = c .before .before .before .before .before .before .before .before .before .before .before .before .before .before .before .before .before .before .before .before .before .before .before .before .before .before .before in
-    omega (arith, loop .inv .lent .outRoom, start .pre .0 .outRoom)
+    omega (arith, loop .inv .2 .outRoom, start .pre .0 .outRoom)
 
 returns : tie.Need-returns Inv-loop μ-loop
 returns c =
     let took = c .before .before .before .before .before .before .before .before .before .before .take-statement in
     let loop = c .before .before .before .before .before .before .before .before .before .before .before .before .before .before .before .before .loop in
-    passing-stop (loop .inv) (omega arith) (took .ensures .1) (not-true _ (c .if1 .taken)) _
+    passing-stop (loop .inv .2) (omega arith) (took .ensures .1) (not-true _ (c .if1 .taken)) _
 
 add-i : tie.Need-add-i Inv-loop μ-loop
 add-i c = omega arith
@@ -66,34 +69,34 @@ loop-again : tie.Need-loop-again Inv-loop μ-loop
 loop-again c =
     let took = c .before .before .before .before .before .before .before .before .before .before .take-statement in
     let loop = c .before .before .before .before .before .before .before .before .before .before .before .before .before .before .before .before .loop in
-    passing-more (loop .inv) (omega arith) (took .ensures .1) (not-false _ (c .if1 .left)) (took .ensures .0) (omega arith) (omega arith)
+    (omega (arith, loop .inv .0), omega (arith, loop .inv .1), passing-more (loop .inv .2) (omega arith) (took .ensures .1) (not-false _ (c .if1 .left)) (took .ensures .0) (omega arith) (omega arith) (omega arith))
 
 same-length-5 : tie.Need-same-length-5 Inv-loop μ-loop
 same-length-5 c =
     let loop = c .before .loop in
     let start = c .before .before .before .before .before .before .before .before .before .before .before .before in
-    omega (arith, loop .inv .lent .slots .room, start .pre .0 .tableRoom)
+    omega (arith, loop .inv .0)
 
 same-length-6 : tie.Need-same-length-6 Inv-loop μ-loop
 same-length-6 c =
     let loop = c .before .loop in
     let start = c .before .before .before .before .before .before .before .before .before .before .before .before in
-    omega (arith, loop .inv .lent .slots .places, start .pre .0 .lengthsRoom)
+    omega (arith, loop .inv .1)
 
 same-length-7 : tie.Need-same-length-7 Inv-loop μ-loop
 same-length-7 c =
     let loop = c .before .loop in
     let start = c .before .before .before .before .before .before .before .before .before .before .before .before in
-    omega (arith, loop .inv .lent .wordsRoom, start .pre .0 .wordsRoom)
+    omega (arith, loop .inv .2 .wordsRoom, start .pre .0 .wordsRoom)
 
 same-length-8 : tie.Need-same-length-8 Inv-loop μ-loop
 same-length-8 c =
     let loop = c .before .loop in
     let start = c .before .before .before .before .before .before .before .before .before .before .before .before in
-    omega (arith, loop .inv .lent .outRoom, start .pre .0 .outRoom)
+    omega (arith, loop .inv .2 .outRoom, start .pre .0 .outRoom)
 
 returns-2 : tie.Need-returns-2 Inv-loop μ-loop
-returns-2 c = passing-end (c .before .loop .inv) (omega arith)
+returns-2 c = passing-end (c .before .loop .inv .2) (omega arith)
 
 pub take-statements-spec : {M : Type 1} → statement M
 take-statements-spec =

@@ -1,6 +1,7 @@
 use Rattle.verdict_block.proofs.OnSheet.{inside}
 use Rattle.verdict_block.proofs.Between.{between-step, between-done}
 use Rattle.sheet.specs.Sheet.{sheetAt}
+use Rattle.machine.specs.States.{stateOf}
 use Rattle.machine.specs.Rules.{steppedAll}
 use lib.Seq.{slice}
 use Prim.Native.Nat.{_-_}
@@ -11,11 +12,12 @@ use Rattle.verdict_block.proofs.step_over.Statement.{statement}
 use Rattle.verdict_block.proofs.step_over.Tie as tie
 
 abbrev Inv-loop : tie.InvT-loop
-Inv-loop s sheet places first end state₀ i₀ state i =
-    steppedAll state₀ (slice first end (sheetAt s .instructions .list)) ≡ steppedAll state (slice i end (sheetAt s .instructions .list))
+Inv-loop s sheet places first end registers₀ flags₀ i₀ registers flags i =
+    steppedAll (stateOf registers₀ flags₀) (slice first end (sheetAt s .instructions .list))
+    ≡ steppedAll (stateOf registers flags) (slice i end (sheetAt s .instructions .list))
 
 abbrev μ-loop : tie.MeasureT-loop
-μ-loop s sheet places first end state₀ i₀ state i = end - i
+μ-loop s sheet places first end registers₀ flags₀ i₀ registers flags i = end - i
 
 loop-holds : tie.Need-loop-holds Inv-loop μ-loop
 loop-holds c = refl
@@ -33,10 +35,10 @@ loop-less : tie.Need-loop-less Inv-loop μ-loop
 loop-less c = search needs
 
 loop-again : tie.Need-loop-again Inv-loop μ-loop
-loop-again c = c .before .before .before .loop .inv ∙ between-step _ (c .before .before .before .loop .i) (c .before .before .before .before .before .before .args .end) (c .before .before .before .loop .state) (omega arith) (inside (c .before .before .before .before .before .before .args .s .now) (c .before .before .before .before .before .before .args .sheet) (c .before .before .before .before .before .before .pre .0) (c .before .before .before .before .before .before .pre .1 .0) (c .before .before .before .before .before .before .pre .1 .1)) (c .before .nth-instruction .ensures) (c .step .ensures)
+loop-again c = c .before .before .before .before .loop .inv ∙ between-step _ (c .before .before .before .before .loop .i) (c .before .before .before .before .before .before .before .args .end) _ (omega arith) (inside (c .before .before .before .before .before .before .before .args .s .now) (c .before .before .before .before .before .before .before .args .sheet) (c .before .before .before .before .before .before .before .pre .0) (c .before .before .before .before .before .before .before .pre .1 .0) (c .before .before .before .before .before .before .before .pre .1 .1)) (c .before .before .nth-instruction .ensures) (c .step .ensures)
 
 returns : tie.Need-returns Inv-loop μ-loop
-returns c = sym (c .before .loop .inv ∙ between-done _ (c .before .loop .i) (c .before .before .before .before .args .end) (c .before .loop .state) (omega arith))
+returns c = sym (c .before .loop .inv ∙ between-done _ (c .before .loop .i) (c .before .before .before .before .args .end) _ (omega arith))
 
 pub step-over-spec : {M : Type 1} → statement M
 step-over-spec =

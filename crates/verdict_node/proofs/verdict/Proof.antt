@@ -3,14 +3,8 @@ use borrow.Author.Needs.{needs}
 use Rattle.verdict_node.proofs.verdict.Statement.{statement}
 use Rattle.verdict_node.proofs.verdict.Tie as tie
 
-table-room-requires : tie.Need-table-room-requires
-table-room-requires c κs = search needs
-
-terms-room-requires : tie.Need-terms-room-requires
-terms-room-requires c κs = search needs
-
-products-room-requires : tie.Need-products-room-requires
-products-room-requires c κs = search needs
+few-held-room-requires : tie.Need-few-held-room-requires
+few-held-room-requires c κs = search needs
 
 slice-aggregate-verdict-at : tie.Need-slice-aggregate-verdict-at
 slice-aggregate-verdict-at c = search needs
@@ -34,7 +28,7 @@ slice-aggregate-verdict-at-7 : tie.Need-slice-aggregate-verdict-at-7
 slice-aggregate-verdict-at-7 c = search needs
 
 verdict-at-requires : tie.Need-verdict-at-requires
-verdict-at-requires c κs = (c .before .before .before .before .before .before .before .before .before .before .before .pre, record { tableRoom = omega (arith, c .before .before .before .before .before .before .before .before .before .table-room .ensures); lengthsRoom = search needs; wordsRoom = search needs; outRoom = search needs; buffers = record { table = search needs; space = omega (arith, c .before .before .before .before .before .before .before .before .terms-room .ensures); products = omega (arith, c .before .before .before .before .before .before .before .products-room .ensures) } })
+verdict-at-requires c κs = (search needs, record { lengthsRoom = search needs; wordsRoom = search needs; outRoom = search needs; buffers = record { table = search needs; space = search needs; products = record { least = search needs; most = λ more. absurd (omega (arith, more)) } } })
 
 returns : tie.Need-returns
 returns c = search needs
@@ -43,9 +37,7 @@ pub verdict-spec : {M : Type 1} → statement M
 verdict-spec =
     tie.close
     (tie.spec
-    table-room-requires
-    terms-room-requires
-    products-room-requires
+    few-held-room-requires
     slice-aggregate-verdict-at
     slice-aggregate-verdict-at-2
     slice-aggregate-verdict-at-3

@@ -1,5 +1,5 @@
 use native.Mathlib.Omega.{arith}
-use Rattle.verdict_node.proofs.Judged.{whole-at, types-fit, types-are, room, these-statements, this-condition, made-whole, judged-node}
+use Rattle.verdict_node.proofs.Judged.{whole-at, types-fit, types-are, words-lent, these-statements, this-condition, made-whole, judged-node}
 use borrow.Author.Needs.{needs}
 use Rattle.verdict_node.proofs.verdict_at.Statement.{statement}
 use Rattle.verdict_node.proofs.verdict_at.Tie as tie
@@ -13,14 +13,14 @@ start-requires c κs = search needs
 types-of-requires : tie.Need-types-of-requires
 types-of-requires c κs = types-fit _ _ (whole-at _ _ (c .before .before .before .before .before .before .before .before .before .before .pre .0)) (c .before .take-front .ensures) (c .start .ensures)
 
-substitute-node-requires : tie.Need-substitute-node-requires
-substitute-node-requires c κs = let read = (whole-at _ _ (c .before .before .before .before .before .before .before .before .before .before .before .before .before .before .before .pre .0)) in let these = types-are _ _ read (c .before .before .before .before .before .before .take-front .ensures) (c .before .before .before .before .before .start .ensures) (c .before .before .before .before .types-of .ensures) in (room _ _ read (c .before .before .before .before .before .before .take-front .ensures) these (c .before .before .before .before .before .before .before .before .before .before .before .before .before .before .before .pre .1), (these-statements _ _ read (c .before .before .before .before .before .before .take-front .ensures) these, this-condition _ _ read (c .before .before .before .before .before .before .take-front .ensures) these))
+substituted-requires : tie.Need-substituted-requires
+substituted-requires c κs = let read = (whole-at _ _ (c .before .before .before .before .before .before .before .before .before .before .before .before .before .before .before .pre .0)) in let these = types-are _ _ read (c .before .before .before .before .before .before .take-front .ensures) (c .before .before .before .before .before .start .ensures) (c .before .before .before .before .types-of .ensures) in (words-lent _ _ read (c .before .before .before .before .before .before .take-front .ensures) these (c .before .before .before .before .before .before .before .before .before .before .before .before .before .before .before .pre .1), (these-statements _ _ read (c .before .before .before .before .before .before .take-front .ensures) these, this-condition _ _ read (c .before .before .before .before .before .before .take-front .ensures) these))
 
 count-requires : tie.Need-count-requires
 count-requires c κs = search needs
 
 answer-for-requires : tie.Need-answer-for-requires
-answer-for-requires c κs = let read = (whole-at _ _ (c .before .before .before .before .before .before .before .before .before .before .before .before .before .before .before .before .before .before .before .before .before .before .before .before .before .before .before .before .before .pre .0)) in let these = types-are _ _ read (c .before .before .before .before .before .before .before .before .before .before .before .before .before .before .before .before .before .before .before .before .take-front .ensures) (c .before .before .before .before .before .before .before .before .before .before .before .before .before .before .before .before .before .before .before .start .ensures) (c .before .before .before .before .before .before .before .before .before .before .before .before .before .before .before .before .before .before .types-of .ensures) in (made-whole _ _ read (c .before .before .before .before .before .before .before .before .before .before .before .before .before .before .before .before .before .before .before .before .take-front .ensures) these (c .before .before .before .before .before .before .before .before .before .before .before .before .before .substitute-node .result .written) (c .before .before .before .before .before .before .before .before .before .before .before .before .before .substitute-node .result .next) _ (c .before .before .before .before .before .before .before .before .before .before .before .before .before .substitute-node .ensures), (omega (arith, c .before .before .before .before .before .before .before .before .before .before .before .before .before .substitute-node .kept .1 .1 .1 .1 .1 .1 .1 .0, c .before .before .before .before .before .before .before .before .before .before .before .before .before .before .before .before .before .before .before .before .before .before .before .before .before .before .before .before .before .pre .1 .outRoom), c .before .before .before .before .before .before .before .before .before .before .before .before .before .before .before .before .before .before .before .before .before .before .before .before .before .before .before .before .before .pre .1 .buffers))
+answer-for-requires c κs = let read = (whole-at _ _ (c .before .before .before .before .before .before .before .before .before .before .before .before .before .before .before .before .before .before .before .before .before .before .before .before .before .before .before .before .before .pre .0)) in let these = types-are _ _ read (c .before .before .before .before .before .before .before .before .before .before .before .before .before .before .before .before .before .before .before .before .take-front .ensures) (c .before .before .before .before .before .before .before .before .before .before .before .before .before .before .before .before .before .before .before .start .ensures) (c .before .before .before .before .before .before .before .before .before .before .before .before .before .before .before .before .before .before .types-of .ensures) in (made-whole _ _ read (c .before .before .before .before .before .before .before .before .before .before .before .before .before .before .before .before .before .before .before .before .take-front .ensures) these (c .before .before .before .before .before .before .before .before .before .before .before .before .before .substituted .result .written) (c .before .before .before .before .before .before .before .before .before .before .before .before .before .substituted .result .next) _ (c .before .before .before .before .before .before .before .before .before .before .before .before .before .substituted .ensures), (omega (arith, c .before .before .before .before .before .before .before .before .before .before .before .before .before .substituted .kept .1 .1 .1 .1 .1 .1 .1 .0, c .before .before .before .before .before .before .before .before .before .before .before .before .before .before .before .before .before .before .before .before .before .before .before .before .before .before .before .before .before .pre .1 .outRoom), c .before .before .before .before .before .before .before .before .before .before .before .before .before .before .before .before .before .before .before .before .before .before .before .before .before .before .before .before .before .pre .1 .buffers))
 
 same-length : tie.Need-same-length
 same-length c = search needs
@@ -44,7 +44,7 @@ same-length-7 : tie.Need-same-length-7
 same-length-7 c = search needs
 
 returns : tie.Need-returns
-returns c = let read = (whole-at _ _ (c .before .before .before .before .before .before .before .before .before .before .before .before .before .before .before .before .before .before .before .before .before .before .before .before .before .before .before .before .before .before .before .before .before .before .before .before .pre .0)) in let these = types-are _ _ read (c .before .before .before .before .before .before .before .before .before .before .before .before .before .before .before .before .before .before .before .before .before .before .before .before .before .before .before .take-front .ensures) (c .before .before .before .before .before .before .before .before .before .before .before .before .before .before .before .before .before .before .before .before .before .before .before .before .before .before .start .ensures) (c .before .before .before .before .before .before .before .before .before .before .before .before .before .before .before .before .before .before .before .before .before .before .before .before .before .types-of .ensures) in judged-node _ _ read (c .before .before .before .before .before .before .before .before .before .before .before .before .before .before .before .before .before .before .before .before .before .before .before .before .before .before .before .take-front .ensures) these (c .before .before .before .before .before .before .before .before .before .before .before .before .before .before .before .before .before .before .before .before .substitute-node .result .written) (c .before .before .before .before .before .before .before .before .before .before .before .before .before .before .before .before .before .before .before .before .substitute-node .result .next) _ (c .before .before .before .before .before .before .before .before .before .before .before .before .before .before .before .before .before .before .before .before .substitute-node .ensures) _ (c .before .before .before .before .before .before .answer-for .ensures) (c .before .before .before .before .before .before .before .before .before .before .before .count .ensures)
+returns c = let read = (whole-at _ _ (c .before .before .before .before .before .before .before .before .before .before .before .before .before .before .before .before .before .before .before .before .before .before .before .before .before .before .before .before .before .before .before .before .before .before .before .before .pre .0)) in let these = types-are _ _ read (c .before .before .before .before .before .before .before .before .before .before .before .before .before .before .before .before .before .before .before .before .before .before .before .before .before .before .before .take-front .ensures) (c .before .before .before .before .before .before .before .before .before .before .before .before .before .before .before .before .before .before .before .before .before .before .before .before .before .before .start .ensures) (c .before .before .before .before .before .before .before .before .before .before .before .before .before .before .before .before .before .before .before .before .before .before .before .before .before .types-of .ensures) in judged-node _ _ read (c .before .before .before .before .before .before .before .before .before .before .before .before .before .before .before .before .before .before .before .before .before .before .before .before .before .before .before .take-front .ensures) these (c .before .before .before .before .before .before .before .before .before .before .before .before .before .before .before .before .before .before .before .before .substituted .result .written) (c .before .before .before .before .before .before .before .before .before .before .before .before .before .before .before .before .before .before .before .before .substituted .result .next) _ (c .before .before .before .before .before .before .before .before .before .before .before .before .before .before .before .before .before .before .before .before .substituted .ensures) _ (c .before .before .before .before .before .before .answer-for .ensures) (c .before .before .before .before .before .before .before .before .before .before .before .count .ensures)
 
 pub verdict-at-spec : {M : Type 1} → statement M
 verdict-at-spec =
@@ -53,7 +53,7 @@ verdict-at-spec =
     take-front-requires
     start-requires
     types-of-requires
-    substitute-node-requires
+    substituted-requires
     count-requires
     answer-for-requires
     same-length

@@ -3,9 +3,6 @@ use borrow.Author.Needs.{needs}
 use Rattle.machine.proofs.State.unknown.Statement.{statement}
 use Rattle.machine.proofs.State.unknown.Tie as tie
 
-unknown-requires : tie.Need-unknown-requires
-unknown-requires c κs = search needs
-
 no-flags-requires : tie.Need-no-flags-requires
 no-flags-requires c κs = search needs
 
@@ -14,4 +11,4 @@ unfolding nothingKnown
 returns c = cc
 
 pub unknown-spec : {M : Type 1} → statement M
-unknown-spec = tie.close (tie.spec unknown-requires no-flags-requires returns)
+unknown-spec = tie.close (tie.spec no-flags-requires returns)
