@@ -22,7 +22,8 @@ use Rattle.poly.proofs.Sets.{holds-step, holds-none}
 use Rattle.poly.proofs.Values.{value-sum, value-product, value-one, xor-none}
 use Rattle.parity.specs.Parity.{Entry, Low, entered, place, numberIn, noted, atomLow, lowOf, parity}
 use Rattle.parity.specs.Parity.Entry.{adds, multiplies, joins, keeps, clears, atom}
-use Rattle.parity.specs.LowBit.{atomBit, bitOf, lowBit}
+use Rattle.parity.specs.LowBit.{atomBit, lowBit}
+use Rattle.parity.proofs.Entries.{bitOf, rule-entry}
 use Rattle.parity.proofs.Atoms.{Extends, Noting, noting, before, place-stays, place-new, atoms-grow, extends-refl, extends-trans}
 use Rattle.parity.proofs.Atoms.Noting.{known, new}
 
@@ -133,6 +134,7 @@ poly-low γ l α φ (binary o a b) h =
     entry-low γ (entered o b) (parity l a) (parity (parity l a .atoms) b) (atomLow l (binary o a b)) l
     (lowBit α (under 0 φ) a) (lowBit α (under 1 φ) b) (atomBit α φ (binary o a b))
     (by-map (entered o b) (poly-low γ l α (under 0 φ) a) (poly-low γ (parity l a .atoms) α (under 1 φ) b) (atom-low γ l α φ (binary o a b)) h)
+    ∙ sym (rule-entry (lowBit α (under 0 φ) a) (lowBit α (under 1 φ) b) (atomBit α φ (binary o a b)) o b)
 poly-low γ l α φ (ternary c a b) h = atom-low γ l α φ (ternary c a b) h
 
 -- Bits by number keep what the choice says of the atoms numbered so far.

@@ -9,7 +9,7 @@ use native.Mathlib.Omega.{arith}
 use native.Mathlib.Nat.{mod-eq-of-lt, pow-le-pow-right}
 use lib.Bits.{bitAnd, bitOr, bitXor}
 use lib.Dec.{eqb, ltb}
-use borrow.Author.Tests.{ne-eqb, eqb-true, eqb-false, ltb-true}
+use borrow.Author.Tests.{eqb-true, eqb-false, ltb-true}
 use Rattle.expr.specs.Tree.{Expr}
 use Rattle.expr.specs.Tree.Expr.{variable, constant, conditionTrue, conditionFalse, effect, load, cast, binary, ternary}
 use Rattle.expr.specs.Scan.{hasOwnValue}
@@ -25,7 +25,8 @@ use Rattle.arith.proofs.Laws.{convert-lt, count-is, cut-lt}
 use Rattle.parity.proofs.TypeLaws.{promoted-taken, together-taken, constant-wide}
 use Rattle.parity.specs.Parity.{constantOf, onRemainder, onShift, entered}
 use Rattle.parity.specs.Parity.Entry.{keeps, clears, atom}
-use Rattle.parity.specs.LowBit.{bit, atomBit, bitOf, lowBit, low, Has, sharedBits, ownBits}
+use Rattle.parity.specs.LowBit.{bit, atomBit, lowBit, low, Has, sharedBits, ownBits}
+use Rattle.parity.proofs.Entries.{bitOf, beyond, rule-entry}
 use Rattle.parity.proofs.LowBits.{width-low, convert-low, sum-low, difference-low, product-low, xor-low, and-low, or-low, remainder-low, shift-none, shift-some}
 
 -- The operators that are entered, and that no other is.
@@ -39,11 +40,6 @@ data View : ℕ → Type 0 where
   exclusive : View 7
   left : View 8
   other : {o : ℕ} → ((b : Expr) → entered o b ≡ atom) → View o
-
-beyond : (o : ℕ) → 9 ≤ o → (b : Expr) → entered o b ≡ atom
-unfolding entered
-beyond o h b =
-    rw (ne-eqb o 0 (λ e. omega arith), ne-eqb o 1 (λ e. omega arith), ne-eqb o 7 (λ e. omega arith), ne-eqb o 2 (λ e. omega arith), ne-eqb o 5 (λ e. omega arith), ne-eqb o 6 (λ e. omega arith), ne-eqb o 4 (λ e. omega arith), ne-eqb o 8 (λ e. omega arith))
 
 view : (o : ℕ) → View o
 unfolding entered
@@ -320,4 +316,5 @@ module _ (types : List ℕ) (ρ σ : Values) (m : Contents) where
       ∙ by-view f a b (lowBit shared-bits (own-bits (under 0 f) a) a) (lowBit shared-bits (own-bits (under 1 f) b) b)
       (atomBit shared-bits (own-bits f (binary o a b)) (binary o a b)) (ev-low (under 0 f) a) (ev-low (under 1 f) b) o (view o) (rw (binary-value f o a b) at h)
       (sym (ap low (binary-value f o a b)) ∙ atom-low f (binary o a b) (own-bits f (binary o a b)) refl)
+      ∙ sym (rule-entry (lowBit shared-bits (own-bits (under 0 f) a) a) (lowBit shared-bits (own-bits (under 1 f) b) b) (atomBit shared-bits (own-bits f (binary o a b)) (binary o a b)) o b)
   ev-low f (ternary c a b) h = atom-low f (ternary c a b) (own-bits f (ternary c a b)) refl
