@@ -16,7 +16,7 @@ use Rattle.sheet_node.specs.Node.{Node}
 use Rattle.sheet.specs.declared.Sheet as read-sheet
 use Rattle.sheet.specs.declared.Reading.the-variants as reading
 use Rattle.sheet.specs.Sheet.{sheetAt, readingOf}
-use Rattle.format.specs.Write.{Bytes, All}
+use Rattle.sheet_bytes.specs.Write.{Bytes, All}
 use Rattle.format.specs.Expression.{ValidConstant, ValidTree, ValidExpression}
 use Rattle.format.specs.Sheet.{ValidAssignment, ValidStatement, ValidNode}
 use Rattle.format.proofs.Typing.{all-map, code-of, typed-assignment}

@@ -7,7 +7,7 @@ use Rattle.sheet_instruction.specs.Instruction as code
 use Rattle.sheet_expression.specs.Expression.{argumentAt, constantAt, recordAt, takenMore, takenFrom, expressionAt}
 use Rattle.sheet_node.specs.Node as graph
 use Rattle.sheet.specs.Sheet.{instructionsFrom, blockAt, blocksFrom, nodesFrom, sheetAt, readingOf}
-use Rattle.format.specs.Write.{All}
+use Rattle.sheet_bytes.specs.Write.{All}
 use Rattle.format.specs.Examples.{Example, examples}
 
 pub examples-hold : All (λ (x : Example). readingOf (x .bytes) ≡ x .answer) examples

@@ -10,7 +10,7 @@ use Rattle.expr.specs.Statement.{Statement}
 use Rattle.expr.specs.Statement.Statement.{assignment, other}
 use Rattle.sheet_node.specs.Node.{Node}
 use Rattle.sheet.specs.declared.Block.{Block}
-use Rattle.format.specs.Write.{bytes, ifThere, records, counted, All}
+use Rattle.sheet_bytes.specs.Write.{bytes, ifThere, records, counted, All}
 use Rattle.format.specs.Syntax.{register, Operand, operand, Instruction, head, tail, instruction, block}
 use Rattle.format.specs.Syntax.Operand.{reg, imm, mem}
 use Rattle.format.specs.Expression.{postfix, expression}

@@ -15,7 +15,7 @@ use Rattle.expr.specs.Tree.Expr.{variable, constant, conditionTrue, conditionFa
 use Rattle.expr.specs.Statement.{Statement}
 use Rattle.expr.specs.Statement.Statement.{assignment, other}
 use Rattle.expr.specs.Types.{bits, promoted, common, together, constantType, binaryType, typeOf, plainType, sameType}
-use Rattle.format.specs.Write.{entry, All}
+use Rattle.sheet_bytes.specs.Write.{entry, All}
 use Rattle.format.specs.Expression.{ValidTree}
 use Rattle.format.specs.Types.{Integer, int, uint, StaticType, typesByCode, Promoted, Common, Together, HasType}
 use Rattle.format.specs.Types.StaticType.{integer, bool}

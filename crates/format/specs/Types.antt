@@ -6,7 +6,7 @@ use mathlib.Core.Option.{some}
 use mathlib.Core.Bool.{Bool, true, false, _&&_}
 use Rattle.expr.specs.Tree.{Expr}
 use Rattle.expr.specs.Tree.Expr.{variable, constant, conditionTrue, conditionFalse, effect, load, cast, binary, ternary}
-use Rattle.format.specs.Write.{entry}
+use Rattle.sheet_bytes.specs.Write.{entry}
 
 pub record Integer : Type 0 where
   pub signed : Bool

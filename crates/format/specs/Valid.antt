@@ -7,7 +7,7 @@ use mathlib.Core.Bool.{false, true}
 use lib.ListN.{length}
 use Rattle.isa.specs.declared.Register.{Register}
 use Rattle.sheet.specs.declared.Block.{Block}
-use Rattle.format.specs.Write.{isThere, WhereThere, All}
+use Rattle.sheet_bytes.specs.Write.{isThere, WhereThere, All}
 use Rattle.format.specs.Syntax.{Operand, Instruction}
 use Rattle.format.specs.Syntax.Operand.{reg, imm, mem}
 use Rattle.format.specs.Faults.{Modelled, Sound}

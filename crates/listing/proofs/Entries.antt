@@ -5,8 +5,8 @@ use mathlib.Core.List.{List, [], _∷_}
 use native.Mathlib.Omega.{arith}
 use lib.ListN.{length, getD}
 use Rattle.sheet_field.specs.Field.{little}
-use Rattle.format.specs.Write.{bytes, records}
-use Rattle.format.proofs.Spans.{Spans, Stands, bytes-length, spans-cut, spans-length}
+use Rattle.sheet_bytes.specs.Write.{bytes, records}
+use Rattle.sheet_bytes.proofs.Spans.{Spans, Stands, bytes-length, spans-cut, spans-length}
 use Rattle.verdict_lines.specs.Lines.{Line, lineBytes}
 use Rattle.listing_text.specs.Digits.{digits}
 use Rattle.listing_text.specs.Text.{lineText, entryText, entriesText}

@@ -16,16 +16,16 @@ use Rattle.sheet.specs.declared.Reading.the-variants as reading
 use Rattle.sheet.specs.Sheet.{sheetAt, readingOf}
 use Rattle.sheet.proofs.Accepted.{accepted}
 use Rattle.sheet.proofs.ByNumber.{instructions-count}
-use Rattle.format.specs.Write.{records}
-use Rattle.format.proofs.Spans.{over-spans}
+use Rattle.sheet_bytes.specs.Write.{records}
+use Rattle.verdict_lines.proofs.Over.{over-spans}
 use Rattle.verdict_lines.specs.Lines.{Line, lineOf, lineBytes}
 use Rattle.verdict_lines.proofs.Written.{lines-length}
 use Rattle.verdict_sheet.specs.Said.{Judged, Said, judgedUpTo, firstDecided, linesOf}
 use Rattle.verdict_sheet.specs.Said.Judged.{all, refused as nodeRefused}
-use Rattle.pomthija.specs.declared.Listed.{Listed}
-use Rattle.pomthija.specs.declared.Listed.the-variants as listed
-use Rattle.pomthija.specs.Listing.{Listing, listedNumbers, written, onJudged, listingOn, listingOf}
-use Rattle.pomthija.specs.Listing.ListedNumbers.{lines, refused}
+use Rattle.answer_listing.specs.declared.Listed.{Listed}
+use Rattle.answer_listing.specs.declared.Listed.the-variants as listed
+use Rattle.answer_listing.specs.Listing.{Listing, listedNumbers, written, onJudged, listingOn, listingOf}
+use Rattle.answer_listing.specs.Listing.ListedNumbers.{lines, refused}
 use Rattle.listing_text.specs.Text.{branchesText, refusalText, entriesText}
 use Rattle.listing_text.specs.Contracts.{Written}
 use Rattle.listing.specs.Program.{linesText, judgedText, readText, printed}

@@ -1,8 +1,8 @@
 // The listing program: a sheet from standard input, its branches or the refusal as text to standard output.
+use answer_listing::Listed;
 use libc::STDERR_FILENO;
 use libc::STDIN_FILENO;
 use libc::STDOUT_FILENO;
-use pomthija::Listed;
 ghost use mathlib.Core.Path.{_≡_};
 ghost use Prim.Native.Nat.{_≤_};
 ghost use lib.ListN.{length};
@@ -114,7 +114,7 @@ fn text_of(s: &[u8], list: &mut [u8], text: &mut [u8]) -> usize
     if s.len() > 65536 {
         return listing_text::write_refusal(1, 65536, text);
     }
-    let listed = pomthija::listing(s, list);
+    let listed = answer_listing::listing(s, list);
     match listed {
         Listed::Lines(count) => listing_text::write_branches(list, count as usize, text),
         Listed::Refused(number, place) => listing_text::write_refusal(number, place as u64, text),

@@ -1,4 +1,2 @@
 -- laws of the definitions, which other proofs cite
-pub mod Answers
-pub mod Nodes
-pub mod Listings
+pub mod Host

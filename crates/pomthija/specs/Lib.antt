@@ -1,4 +1,1 @@
-pub mod Block
-pub mod Node
-pub mod Evaluation
-pub mod Listing
+pub mod Returned

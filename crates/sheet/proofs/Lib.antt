@@ -6,3 +6,4 @@ pub mod Fronts
 pub mod Rising
 pub mod Again
 pub mod ByNumber
+pub mod Found

@@ -12,6 +12,7 @@ ghost use Rattle.sheet_field.specs.Field.{WentOn};
 ghost use Rattle.sheet.specs.declared.Reading.the-variants.{Accepted};
 ghost use Rattle.sheet.specs.Sheet.{noBlock, instructionsFrom, blockAt, blocksFrom, nodesFrom, ended, answerOf, sheetAt, readingOf};
 ghost use Rattle.sheet.specs.Index.{over, addressesOf, Noted, Indexed, InFront};
+ghost use Rattle.sheet.specs.Contracts.{foundOn};
 
 // How many records a section has, and the place of the first.
 pub struct Section {
@@ -229,7 +230,7 @@ pub fn index_instructions(s: &[u8], addresses: &mut [u64], places: &mut [u64]) -
 
 // Any bytes: accepted, or the first refusal. Of an accepted sheet the place of each node stands at the front of the lent
 // list, where it is long enough.
-pub fn index_nodes(s: &[u8], nodes: &mut [u64]) -> Reading
+fn index_nodes(s: &[u8], nodes: &mut [u64]) -> Reading
     ensures { λ r. ⌜ (r ≡ readingOf (now (s .entry))) × ((sheet : Sheet) → r ≡ Accepted sheet → sheet .nodes .count ≤ length (now (nodes .entry)) → InFront (sheet .nodes .count) (now (nodes .exit)) (sheetAt (now (s .entry)) .nodes .places)) ⌝ }
 {
     let mut addresses = [0u64; 1];
@@ -244,6 +245,25 @@ pub fn index_nodes(s: &[u8], nodes: &mut [u64]) -> Reading
         &mut branches,
         nodes,
     )
+}
+
+// Where the node of that number, from 0, starts; or the refusal.
+pub fn find_node(s: &[u8], number: u64) -> Place
+    ensures { λ r. ⌜ r ≡ foundOn (readingOf (now (s .entry))) (now (s .entry)) number ⌝ }
+{
+    let mut nodes = [0u64; 1024];
+    let reading = index_nodes(s, &mut nodes);
+    match reading {
+        Reading::Refused(k, at) => Place::Refused(k, at),
+        Reading::Accepted(sheet) => {
+            let section = sheet.nodes;
+            if section.count <= number {
+                return Place::Refused(13, 0);
+            }
+            let i = number as usize;
+            Place::At(nodes[i] as usize)
+        }
+    }
 }
 
 // Any bytes: accepted, or the first refusal. No index is kept.

@@ -83,8 +83,8 @@ enum Judged {
 // The verdict on the block or the node of that number.
 fn judge(s: &[u8], judged: Judged, number: u64) -> Answer {
     match judged {
-        Judged::Blocks => pomthija::block_verdict(s, number),
-        Judged::Nodes => pomthija::node_verdict(s, number),
+        Judged::Blocks => answer_block::block_verdict(s, number),
+        Judged::Nodes => answer_node::node_verdict(s, number),
     }
 }
 
@@ -204,7 +204,7 @@ fn say_sets(sheet: &[u8], node: u64, sets: &[u8], count: u32, values: &mut [u64]
             Set::Cut => return Ending::Cut,
             Set::To(next) => at = next,
         }
-        if !(comma(i) & say_evaluation(pomthija::evaluation(sheet, node, values))) {
+        if !(comma(i) & say_evaluation(answer_evaluation::evaluation(sheet, node, values))) {
             return Ending::Unwritten;
         }
         i += 1;

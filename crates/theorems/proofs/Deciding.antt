@@ -20,8 +20,8 @@ use Rattle.sheet.specs.Sheet.{readingOf}
 use Rattle.verdict_block.specs.Verdict.{verdictOn}
 use Rattle.verdict_sheet.specs.Sites.{blockSite, nodeSite}
 use Rattle.verdict_sheet.specs.Said.{Said, blocksSay, orLater, firstDecided}
-use Rattle.pomthija.specs.Block.{blockAnswer}
-use Rattle.pomthija.specs.Node.{nodeAnswer}
+use Rattle.answer_block.specs.Block.{blockAnswer}
+use Rattle.answer_node.specs.Node.{nodeAnswer}
 use Rattle.theorems.specs.Runs.{Source, answerFor}
 use Rattle.theorems.specs.Runs.Source.{block, node}
 use Rattle.theorems.specs.Lines.{siteOf, Before}

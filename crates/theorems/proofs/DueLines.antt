@@ -14,7 +14,7 @@ use Rattle.isa.specs.declared.Instruction.{Instruction}
 use Rattle.sheet.specs.declared.Sheet.{Sheet}
 use Rattle.sheet.specs.declared.Reading.the-variants as reading
 use Rattle.sheet.specs.Sheet.{noBlock, sheetAt, readingOf, nodeNumbered}
-use Rattle.format.specs.Write.{All, Bytes, WhereThere}
+use Rattle.sheet_bytes.specs.Write.{All, Bytes, WhereThere}
 use Rattle.format.specs.Syntax as syntax
 use Rattle.format.specs.Syntax.{meansInstruction, valueOf}
 use Rattle.format.specs.Valid.{ValidInstruction, Rising}

@@ -10,9 +10,10 @@ use Rattle.sheet_field.specs.declared.Place.the-variants.{At, Refused}
 use Rattle.sheet_field.specs.declared.Field.{Field}
 use Rattle.sheet_field.specs.Field.{little, fieldAt}
 use Rattle.sheet.specs.Index.{over}
-use Rattle.format.specs.Write.{bytes, records}
-use Rattle.format.proofs.Spans.{Spans, bytes-length, spans-cut, spans-length, over-spans}
-use Rattle.format.proofs.Fields.{field-read}
+use Rattle.sheet_bytes.specs.Write.{bytes, records}
+use Rattle.sheet_bytes.proofs.Spans.{Spans, bytes-length, spans-cut, spans-length}
+use Rattle.verdict_lines.proofs.Over.{over-spans}
+use Rattle.sheet_bytes.proofs.Fields.{field-read}
 use Rattle.verdict_lines.specs.Lines.{Line, lineBytes}
 use Rattle.verdict_lines.proofs.Written.{line-length, lines-length}
 use Rattle.theorems.specs.Lines.{lineAt}

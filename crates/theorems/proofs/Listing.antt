@@ -16,7 +16,7 @@ use Rattle.sheet.specs.declared.Reading.the-variants as reading
 use Rattle.sheet.specs.Sheet.{sheetAt, readingOf}
 use Rattle.sheet.specs.Index.{over}
 use Rattle.sheet.proofs.Fronts.{over-length}
-use Rattle.format.specs.Write.{Bytes, records}
+use Rattle.sheet_bytes.specs.Write.{Bytes, records}
 use Rattle.format.specs.Sheet.{Byte, numbers}
 use Rattle.format.proofs.Unique.{all-bytes}
 use Rattle.verdict.specs.declared.Verdict.{Verdict}
@@ -28,9 +28,9 @@ use Rattle.verdict_lines.proofs.Written.{lines-length}
 use Rattle.verdict_sheet.specs.Said.{Said, judgedUpTo, linesOf}
 use Rattle.verdict_sheet.specs.Said as said-of
 use Rattle.verdict_sheet.specs.Said.Judged.{all, refused as nodeRefused}
-use Rattle.pomthija.specs.Node.{nodeAnswer}
-use Rattle.pomthija.specs.Listing.{Listing, turnedBack, written, onJudged, listingOn, listingOf}
-use Rattle.pomthija.specs.Listing.ListedNumbers.{lines, refused as refusedListing}
+use Rattle.answer_node.specs.Node.{nodeAnswer}
+use Rattle.answer_listing.specs.Listing.{Listing, turnedBack, written, onJudged, listingOn, listingOf}
+use Rattle.answer_listing.specs.Listing.ListedNumbers.{lines, refused as refusedListing}
 use Rattle.theorems.specs.Lines.{AllDue, lineAt, Listed, Judged, Refuses, TrueOf}
 use Rattle.theorems.specs.Lines.Refuses.{byReading, byNode, noRoom}
 use Rattle.theorems.proofs.First.{Given, AllSay, JudgedAs, judged-as}

@@ -14,7 +14,7 @@ use Rattle.value.specs.Run.{Choices, run}
 use Rattle.sheet.specs.declared.Sheet.{Sheet}
 use Rattle.sheet.specs.declared.Reading.the-variants as reading-is
 use Rattle.sheet.specs.Sheet.{readingOf, nodeNumbered, nodePlace}
-use Rattle.format.specs.Write.{All}
+use Rattle.sheet_bytes.specs.Write.{All}
 use Rattle.format.specs.Sheet.{Byte, numbers, Format}
 use Rattle.format.specs.Examples.{Example, examples}
 use Rattle.format.proofs.Unique.{all-bytes, format}
@@ -27,13 +27,13 @@ use Rattle.substitution.specs.Substitution.{into, withAssignments}
 use Rattle.decide.proofs.Complete.{decided}
 use Rattle.parity.proofs.Evaluation.{ev-low}
 use Rattle.evaluate_node.specs.Evaluate.{StartsFrom}
-use Rattle.pomthija.specs.Block.{blockAnswer}
-use Rattle.pomthija.specs.Node.{nodeAnswer}
-use Rattle.pomthija.specs.Listing.{listingOf}
-use Rattle.pomthija.specs.Listing.ListedNumbers.{lines, refused as refused-listing}
-use Rattle.pomthija.specs.Evaluation.{evaluationAnswer, nodeRun, SaysOf, AnswerFromRun}
-use Rattle.pomthija.specs.Evaluation.Evaluated.{outcome, refused}
-use Rattle.theorems.specs.Runs.{Source, answerFor, Ends, ForcedEnd}
+use Rattle.answer_block.specs.Block.{blockAnswer}
+use Rattle.answer_node.specs.Node.{nodeAnswer}
+use Rattle.answer_listing.specs.Listing.{listingOf}
+use Rattle.answer_listing.specs.Listing.ListedNumbers.{lines, refused as refused-listing}
+use Rattle.answer_evaluation.specs.Evaluation.{evaluationAnswer}
+use Rattle.answer_evaluation.specs.Evaluation.Evaluated.{outcome, refused}
+use Rattle.theorems.specs.Runs.{Source, answerFor, Ends, ForcedEnd, nodeRun, SaysOf, AnswerFromRun}
 use Rattle.theorems.specs.Lines.{lineAt, Listed, Refuses, TrueOf}
 use Rattle.theorems.specs.Rows.{Yields, rows, probe, marked}
 use Rattle.theorems.proofs.Public.{answers-forced}

@@ -46,12 +46,12 @@ use Rattle.sheet.specs.declared.Sheet.{Sheet}
 use Rattle.sheet.specs.declared.Reading.{Reading}
 use Rattle.sheet.specs.declared.Reading.the-variants as reading
 use Rattle.sheet.specs.Sheet.{sheetAt, readingOf, noNode, nodeNumbered, nodePlace}
-use Rattle.format.specs.Write.{Bytes}
+use Rattle.sheet_bytes.specs.Write.{Bytes}
 use Rattle.format.proofs.Admitted.{node-admitted-at}
-use Rattle.pomthija.specs.Evaluation.{nodeRun, evaluationAnswer, SaysOf}
-use Rattle.pomthija.specs.Evaluation.Evaluated.{outcome}
-use Rattle.pomthija.specs.Node.{onNode, nodeAnswer}
-use Rattle.theorems.specs.Runs.{Ends}
+use Rattle.answer_evaluation.specs.Evaluation.{evaluationAnswer}
+use Rattle.answer_evaluation.specs.Evaluation.Evaluated.{outcome}
+use Rattle.answer_node.specs.Node.{onNode, nodeAnswer}
+use Rattle.theorems.specs.Runs.{Ends, nodeRun, SaysOf}
 use Rattle.theorems.specs.Runs.Source.{node}
 use Rattle.theorems.proofs.Apart.{no-decision}
 use Rattle.theorems.proofs.Outcomes.{lent, answers-run, outcome-bit}

@@ -24,9 +24,11 @@ use Rattle.evaluate_node.specs.declared.Evaluation.{Evaluation}
 use Rattle.evaluate_node.specs.declared.Evaluation.the-variants as evaluation
 use Rattle.evaluate_node.specs.Evaluate.{onTruth, StartsFrom, Gives, FromRun}
 use Rattle.evaluate_node.proofs.Every.{every-run, evaluation-outcome, evaluation-number}
-use Rattle.pomthija.specs.Evaluation.{Evaluated, inNumbers, evaluatedNode, nodeOn, evaluationAnswer, nodeRun, SaysOf, AnswerFromRun, Returned}
-use Rattle.pomthija.specs.Evaluation.Evaluated.{outcome, refused}
+use Rattle.answer_evaluation.specs.Evaluation.{Evaluated, inNumbers, evaluatedNode, nodeOn, evaluationAnswer}
+use Rattle.answer_evaluation.specs.Evaluation.Evaluated.{outcome, refused}
+use Rattle.pomthija.specs.Returned.{Returned}
 use Rattle.laws.proofs.Booleans.{byTest}
+use Rattle.theorems.specs.Runs.{nodeRun, SaysOf, AnswerFromRun}
 
 -- a node of an accepted sheet reads only variables that it declares
 declared-only : (s : List ℕ) (sheet : Sheet) → readingOf s ≡ reading.Accepted sheet → (number : ℕ) → number < sheet .nodes .count

@@ -22,7 +22,7 @@ use Rattle.verdict.proofs.Apart.{answers-apart}
 use Rattle.verdict_block.specs.declared.Jump.{Jump}
 use Rattle.verdict_block.specs.declared.Jump.the-variants.{Conditional, Nothing}
 use Rattle.verdict_block.specs.Verdict.{judged, endOn, verdictOn}
-use Rattle.pomthija.specs.Block.{onReading, blockAnswer}
+use Rattle.answer_block.specs.Block.{onReading, blockAnswer}
 use Rattle.theorems.specs.Runs.{Ends, ForcedEnd}
 use Rattle.theorems.specs.Runs.Source.{block}
 use Rattle.theorems.specs.Runs.Outcome.{jumped}

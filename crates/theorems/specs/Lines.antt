@@ -14,7 +14,7 @@ use Rattle.sheet.specs.Sheet.{sheetAt, readingOf}
 use Rattle.verdict.specs.Numbers.Numbers.{decision, refused}
 use Rattle.verdict_lines.specs.Lines.{Line}
 use Rattle.verdict_sheet.specs.Sites.{blockSite, nodeSite}
-use Rattle.pomthija.specs.Node.{nodeAnswer}
+use Rattle.answer_node.specs.Node.{nodeAnswer}
 use Rattle.theorems.specs.Runs.{Source, answerFor, Ends}
 use Rattle.theorems.specs.Runs.Source.{block, node}
 

@@ -1,5 +1,5 @@
 -- Runs: of a block, and of a block or node alike; and when a branch is forced.
-use Prim.Native.Nat.{ℕ}
+use Prim.Native.Nat.{ℕ, zero, suc}
 use mathlib.Core.Path.{_≡_}
 use mathlib.Core.List.{List}
 use mathlib.Core.Bool.{Bool, cond}
@@ -9,14 +9,17 @@ use Rattle.concrete.specs.Agreement.{Agrees}
 use Rattle.machine.specs.declared.State.{State}
 use Rattle.machine.specs.Registers.{nothingKnown}
 use Rattle.verdict.specs.Numbers.{Numbers}
+use Rattle.sheet.specs.Sheet.{nodeNumbered}
 use Rattle.verdict_block.specs.declared.Jump.the-variants.{Conditional}
 use Rattle.verdict_block.specs.Verdict.{Parts, apart, codeOf, endOn}
 use Rattle.verdict_block.specs.Verdict.Parts.{none, ending}
+use Rattle.value.specs.declared.Truth.{Truth}
 use Rattle.value.specs.declared.Truth.the-variants as truth
-use Rattle.value.specs.Run.{Choices}
-use Rattle.pomthija.specs.Block.{blockAnswer}
-use Rattle.pomthija.specs.Node.{nodeAnswer}
-use Rattle.pomthija.specs.Evaluation.{nodeRun}
+use Rattle.value.specs.Run.{Choices, run}
+use Rattle.answer_block.specs.Block.{blockAnswer}
+use Rattle.answer_node.specs.Node.{nodeAnswer}
+use Rattle.answer_evaluation.specs.Evaluation.{Evaluated}
+use Rattle.answer_evaluation.specs.Evaluation.Evaluated.{outcome as evaluated, refused}
 
 -- A run's outcome: whether its last instruction jumps; none where that is no conditional branch.
 pub data Outcome : Type 0 where
@@ -33,6 +36,21 @@ runAt start free last (ending before i) =
 -- the run of the block of that number
 unfoldable pub runOn : List ℕ → ℕ → Processor → (ℕ → Choice) → Bool → Outcome
 runOn s number start free last = runAt start free last (apart (codeOf s number))
+
+-- the run of the node of that number
+abbrev pub nodeRun : List ℕ → ℕ → Choices → Truth
+nodeRun s number c = run (nodeNumbered s number .types) (nodeNumbered s number .statements) (nodeNumbered s number .condition) c
+
+-- What an answer says of a run's outcome: 1 that the condition holds, 0 that it does not, 14 that there is none; other refusals say nothing.
+abbrev pub SaysOf : Evaluated → Truth → Type 0
+SaysOf (evaluated zero) t = t ≡ truth.Fails
+SaysOf (evaluated (suc value)) t = t ≡ truth.Holds
+SaysOf (refused number place) t = number ≡ 14 → t ≡ truth.NoOutcome
+
+-- an answer that comes from the node's run: an outcome, or 14
+abbrev pub AnswerFromRun : Evaluated → Type 0
+AnswerFromRun (evaluated value) = Unit {0}
+AnswerFromRun (refused number place) = number ≡ 14
 
 -- What a verdict is about, and a line comes from: a block or a node of a sheet, by its number from 0.
 pub data Source : Type 0 where

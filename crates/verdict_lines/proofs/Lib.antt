@@ -2,3 +2,4 @@
 pub mod Decided
 pub mod Puts
 pub mod Written
+pub mod Over

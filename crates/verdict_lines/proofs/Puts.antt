@@ -6,7 +6,7 @@ use native.Mathlib.Omega.{arith}
 use native.Mathlib.Numerals.{add-one}
 use lib.ListN.{length, set, length-set, take-append-drop}
 use Rattle.sheet.specs.Index.{over}
-use Rattle.format.specs.Write.{bytes}
+use Rattle.sheet_bytes.specs.Write.{bytes}
 use Rattle.verdict_lines.specs.Slots.{putAt}
 
 over-nothing : (bs : List ℕ) → over bs [] ≡ []

@@ -6,8 +6,8 @@ use native.Mathlib.Omega.{arith}
 use native.Mathlib.Numerals.{add-one}
 use lib.ListN.{length, getD, set, drop, length-append, drop-of-length-le}
 use lib.Seq.{drop-cons}
-use Rattle.format.specs.Write.{bytes, records}
-use Rattle.format.proofs.Spans.{bytes-length}
+use Rattle.sheet_bytes.specs.Write.{bytes, records}
+use Rattle.sheet_bytes.proofs.Spans.{bytes-length}
 use Rattle.verdict_lines.specs.Lines.{Line, lineBytes}
 use Rattle.verdict_lines.specs.Slots.{decidedOf, slotLine, linesIn, putAt}
 use Rattle.verdict_lines.proofs.Decided.{slot-line}

@@ -5,7 +5,7 @@ use Rattle.isa.specs.declared.Instruction.{Instruction}
 use Rattle.verdict.specs.declared.Verdict.{Verdict}
 use Rattle.verdict.specs.declared.Verdict.the-variants.{Always, Never, Undecided, NoBranch}
 use Rattle.verdict.specs.Numbers.{reasonNumber}
-use Rattle.format.specs.Write.{bytes}
+use Rattle.sheet_bytes.specs.Write.{bytes}
 
 -- A line: a branch's address, its target, 1 for always or 0 for never, and the reason's number.
 pub record Line : Type 0 where

@@ -5,7 +5,7 @@ ghost use mathlib.Core.Path.{_≡_};
 ghost use Prim.Native.Nat.{_+_, _*_, _≤_, _<_};
 ghost use lib.ListN.{length, replicate};
 ghost use Rattle.sheet.specs.Index.{over};
-ghost use Rattle.format.specs.Write.{bytes, records};
+ghost use Rattle.sheet_bytes.specs.Write.{bytes, records};
 ghost use Rattle.verdict_lines.specs.Lines.{lineBytes};
 ghost use Rattle.verdict_lines.specs.Slots.{slotOf, kept, decidedOf, decidedIn, slotLine, linesIn, putAt, RoomFor};
 

@@ -1,5 +1,5 @@
-use Rattle.pomthija.specs.Listing.{listingOf}
-use Rattle.pomthija.proofs.Listings.{returned-lines, returned-refusal}
+use Rattle.answer_listing.specs.Listing.{listingOf}
+use Rattle.pomthija.proofs.Host.{returned-lines, returned-refusal}
 use borrow.Author.Needs.{needs}
 use Rattle.pomthija.proofs.pomthija_listing.Statement.{statement}
 use Rattle.pomthija.proofs.pomthija_listing.Tie as tie

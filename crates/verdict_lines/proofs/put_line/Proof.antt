@@ -1,4 +1,4 @@
-use Rattle.format.specs.Write.{bytes}
+use Rattle.sheet_bytes.specs.Write.{bytes}
 use Prim.Native.Nat.{_+_}
 use mathlib.Core.Path.{_∙_}
 use lib.ListN.{length-set}

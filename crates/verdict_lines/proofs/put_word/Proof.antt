@@ -3,7 +3,7 @@ use mathlib.Core.Path.{refl, sym, _∙_, _≡_}
 use Rattle.verdict_lines.proofs.Puts.{put-byte, put-done}
 use native.Mathlib.Omega.{arith}
 use Rattle.verdict_lines.specs.Slots.{putAt}
-use Rattle.format.specs.Write.{bytes}
+use Rattle.sheet_bytes.specs.Write.{bytes}
 use Prim.Native.Nat.{_+_}
 use Rattle.verdict_lines.proofs.put_word.Statement.{statement}
 use Rattle.verdict_lines.proofs.put_word.Tie as tie

@@ -7,7 +7,7 @@ use borrow.Author.Needs.{needs}
 use native.Mathlib.Omega.{arith}
 use Rattle.verdict_lines.specs.Lines.{lineBytes}
 use Rattle.sheet.specs.Index.{over}
-use Rattle.format.specs.Write.{records}
+use Rattle.sheet_bytes.specs.Write.{records}
 use mathlib.Core.Path.{_≡_, refl, _∙_}
 use Prim.Native.Nat.{_+_, _*_, _-_, _≤_}
 use Rattle.verdict_lines.proofs.write.Statement.{statement}

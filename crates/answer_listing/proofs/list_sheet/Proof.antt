@@ -1,0 +1,76 @@
+use native.Mathlib.Omega.{arith}
+use mathlib.Core.Path.{sym, _∙_}
+use lib.Seq.{length-take-le}
+use Rattle.sheet.specs.Sheet.{sheetAt}
+use Rattle.sheet.proofs.Accepted.{accepted}
+use Rattle.sheet.proofs.ByNumber.{addresses-rise, instructions-count}
+use Rattle.verdict_sheet.specs.Said.{judgedUpTo}
+use Rattle.answer_listing.proofs.Listings.{slots-count, slots-front, listed-through, listed-refused}
+use borrow.Author.Needs.{needs}
+use Rattle.answer_listing.proofs.list_sheet.Statement.{statement}
+use Rattle.answer_listing.proofs.list_sheet.Tie as tie
+
+slice-aggregate-sites : tie.Need-slice-aggregate-sites
+slice-aggregate-sites c = sym (length-take-le _ _ (c .before .before .before .before .before .before .before .before .before .before .pre .1 .0 .0 .room))
+
+empty-slots-requires : tie.Need-empty-slots-requires
+empty-slots-requires c κs = search needs
+
+array-borrow-prefix-room : tie.Need-array-borrow-prefix-room
+array-borrow-prefix-room c = omega (arith, (accepted (c .before .before .before .before .before .before .before .before .before .before .before .args .s .now) (c .before .before .before .before .before .before .before .before .before .before .before .args .sheet) (c .before .before .before .before .before .before .before .before .before .before .before .pre .0) .few))
+
+slice-aggregate-slots : tie.Need-slice-aggregate-slots
+slice-aggregate-slots c = slots-count (c .before .before .before .before .before .before .before .before .before .before .before .before .args .sheet .instructions .count) (c .before .empty-slots .ensures) (accepted (c .before .before .before .before .before .before .before .before .before .before .before .before .args .s .now) (c .before .before .before .before .before .before .before .before .before .before .before .before .args .sheet) (c .before .before .before .before .before .before .before .before .before .before .before .before .pre .0) .few)
+
+slice-aggregate-judge : tie.Need-slice-aggregate-judge
+slice-aggregate-judge c = sym (length-take-le _ _ (c .before .before .before .before .before .before .before .before .before .before .before .before .before .pre .1 .0 .1 .room))
+
+slice-aggregate-judge-2 : tie.Need-slice-aggregate-judge-2
+slice-aggregate-judge-2 c = sym (length-take-le _ _ (c .before .before .before .before .before .before .before .before .before .before .before .before .before .before .pre .1 .1 .0 .1 .room))
+
+slice-aggregate-judge-3 : tie.Need-slice-aggregate-judge-3
+slice-aggregate-judge-3 c = sym (length-take-le _ _ (c .before .before .before .before .before .before .before .before .before .before .before .before .before .before .before .pre .1 .1 .1 .room))
+
+judge-requires : tie.Need-judge-requires
+judge-requires c κs = (c .before .before .before .before .before .before .before .before .before .before .before .before .before .before .before .before .pre .0, (record { addresses = c .before .before .before .before .before .before .before .before .before .before .before .before .before .before .before .before .pre .1 .0 .0 .are; branches = c .before .before .before .before .before .before .before .before .before .before .before .before .before .before .before .before .pre .1 .1 .0 .1 .are; rising = rw (c .before .before .before .before .before .before .before .before .before .before .before .before .before .before .before .before .pre .1 .0 .0 .are) (addresses-rise (c .before .before .before .before .before .before .before .before .before .before .before .before .before .before .before .before .args .s .now) (c .before .before .before .before .before .before .before .before .before .before .before .before .before .before .before .before .args .sheet) (c .before .before .before .before .before .before .before .before .before .before .before .before .before .before .before .before .pre .0)) }, ((c .before .before .before .before .before .before .before .before .before .before .before .before .before .before .before .before .pre .1 .0 .1 .are, c .before .before .before .before .before .before .before .before .before .before .before .before .before .before .before .before .pre .1 .1 .1 .are), slots-front (sheetAt (c .before .before .before .before .before .before .before .before .before .before .before .before .before .before .before .before .args .s .now) .instructions .list) (c .before .before .before .before .before .before .before .before .before .before .before .before .before .before .before .before .args .sheet .instructions .count) (c .before .before .before .before .before .empty-slots .ensures) (instructions-count (c .before .before .before .before .before .before .before .before .before .before .before .before .before .before .before .before .args .s .now) (c .before .before .before .before .before .before .before .before .before .before .before .before .before .before .before .before .args .sheet) (c .before .before .before .before .before .before .before .before .before .before .before .before .before .before .before .before .pre .0)) (accepted (c .before .before .before .before .before .before .before .before .before .before .before .before .before .before .before .before .args .s .now) (c .before .before .before .before .before .before .before .before .before .before .before .before .before .before .before .before .args .sheet) (c .before .before .before .before .before .before .before .before .before .before .before .before .before .before .before .before .pre .0) .few))))
+
+enum-told : tie.Need-enum-told
+enum-told c = search needs
+
+slice-aggregate-write-lines : tie.Need-slice-aggregate-write-lines
+slice-aggregate-write-lines c = sym (length-take-le _ _ (c .before .before .before .before .before .before .before .before .before .before .before .before .before .before .before .before .before .before .before .before .before .before .pre .1 .1 .0 .0 .room))
+
+write-lines-requires : tie.Need-write-lines-requires
+write-lines-requires c κs = (length-take-le _ _ (c .before .before .before .before .before .before .before .before .before .before .before .before .before .before .before .before .before .before .before .before .before .before .before .before .pre .1 .0 .0 .room) ∙ sym (c .before .before .before .before .before .before .before .judge .kept .1 .1 .1 .1 .1 .1 .0 ∙ sym (slots-count (c .before .before .before .before .before .before .before .before .before .before .before .before .before .before .before .before .before .before .before .before .before .before .before .before .args .sheet .instructions .count) (c .before .before .before .before .before .before .before .before .before .before .before .before .before .empty-slots .ensures) (accepted (c .before .before .before .before .before .before .before .before .before .before .before .before .before .before .before .before .before .before .before .before .before .before .before .before .args .s .now) (c .before .before .before .before .before .before .before .before .before .before .before .before .before .before .before .before .before .before .before .before .before .before .before .before .args .sheet) (c .before .before .before .before .before .before .before .before .before .before .before .before .before .before .before .before .before .before .before .before .before .before .before .before .pre .0) .few))), length-take-le _ _ (c .before .before .before .before .before .before .before .before .before .before .before .before .before .before .before .before .before .before .before .before .before .before .before .before .pre .1 .1 .0 .0 .room) ∙ sym (c .before .before .before .before .before .before .before .judge .kept .1 .1 .1 .1 .1 .1 .0 ∙ sym (slots-count (c .before .before .before .before .before .before .before .before .before .before .before .before .before .before .before .before .before .before .before .before .before .before .before .before .args .sheet .instructions .count) (c .before .before .before .before .before .before .before .before .before .before .before .before .before .empty-slots .ensures) (accepted (c .before .before .before .before .before .before .before .before .before .before .before .before .before .before .before .before .before .before .before .before .before .before .before .before .args .s .now) (c .before .before .before .before .before .before .before .before .before .before .before .before .before .before .before .before .before .before .before .before .before .before .before .before .args .sheet) (c .before .before .before .before .before .before .before .before .before .before .before .before .before .before .before .before .before .before .before .before .before .before .before .before .pre .0) .few))))
+
+enum-known-reached : tie.Need-enum-known-reached
+enum-known-reached c = search needs
+
+same-length : tie.Need-same-length
+same-length c = search needs
+
+returns : tie.Need-returns
+returns c = listed-through (c .before .before .before .before .before .before .before .before .before .before .before .before .before .before .before .before .before .before .before .before .before .before .before .before .before .before .before .before .args .s .now) (judgedUpTo (c .before .before .before .before .before .before .before .before .before .before .before .before .before .before .before .before .before .before .before .before .before .before .before .before .before .before .before .before .args .s .now) (c .before .before .before .before .before .before .before .before .before .before .before .before .before .before .before .before .before .before .before .before .before .before .before .before .before .before .before .before .args .sheet .blocks .count) (c .before .before .before .before .before .before .before .before .before .before .before .before .before .before .before .before .before .before .before .before .before .before .before .before .before .before .before .before .args .sheet .nodes .count)) (c .before .before .before .before .before .before .before .before .before .before .before .judge .last .1 .1 .1 .1 .1 .1 .0) (c .before .before .before .write-lines .result) (c .before .before .before .write-lines .last .1 .1 .1 .1 .0) (c .before .before .before .before .before .before .before .before .before .before .before .before .before .before .before .before .before .before .before .before .before .before .before .before .before .before .before .before .args .list .now) (c .before .before .before .before .before .before .before .before .before .before .before .before .before .before .before .before .before .before .before .before .before .before .before .before .before .before .before .before .pre .1 .0 .0 .are) (c .before .before .before .before .before .before .before .before .before .before .before .before .before .before .before .before .before .before .before .before .before .before .before .before .before .before .before .before .pre .1 .1 .0 .0 .are) (rw (c .before .before .before .before .before .before .before .enum-told .given .1) at (c .before .before .before .before .before .before .before .before .before .before .before .judge .ensures)) (c .before .before .before .write-lines .ensures)
+
+returns-2 : tie.Need-returns-2
+returns-2 c = listed-refused (c .before .before .before .before .before .before .before .before .before .before .before .before .before .before .before .before .before .before .before .before .before .before .before .args .s .now) (judgedUpTo (c .before .before .before .before .before .before .before .before .before .before .before .before .before .before .before .before .before .before .before .before .before .before .before .args .s .now) (c .before .before .before .before .before .before .before .before .before .before .before .before .before .before .before .before .before .before .before .before .before .before .before .args .sheet .blocks .count) (c .before .before .before .before .before .before .before .before .before .before .before .before .before .before .before .before .before .before .before .before .before .before .before .args .sheet .nodes .count)) (c .before .before .before .before .before .before .judge .last .1 .1 .1 .1 .1 .1 .0) (c .before .before .reached .given .0 .0) (c .before .before .reached .given .0 .1 .0) (c .before .before .before .before .before .before .before .before .before .before .before .before .before .before .before .before .before .before .before .before .before .before .before .args .list .now) (rw (c .before .before .reached .given .1) at (c .before .before .before .before .before .before .judge .ensures))
+
+pub list-sheet-spec : {M : Type 1} → statement M
+list-sheet-spec =
+    tie.close
+    (tie.spec
+    slice-aggregate-sites
+    empty-slots-requires
+    array-borrow-prefix-room
+    slice-aggregate-slots
+    slice-aggregate-judge
+    slice-aggregate-judge-2
+    slice-aggregate-judge-3
+    judge-requires
+    enum-told
+    slice-aggregate-write-lines
+    write-lines-requires
+    enum-known-reached
+    same-length
+    returns
+    returns-2)

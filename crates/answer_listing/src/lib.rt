@@ -1,0 +1,103 @@
+// The listing: it takes any bytes and a lent list, refuses what reading refuses, and writes the lines by the rules.
+use sheet::Reading;
+use sheet::Sheet;
+use verdict_sheet::Progress;
+ghost use mathlib.Core.Path.{_≡_};
+ghost use lib.ListN.{length};
+ghost use Rattle.sheet.specs.declared.Reading.the-variants.{Accepted};
+ghost use Rattle.sheet.specs.Sheet.{sheetAt, readingOf};
+ghost use Rattle.sheet.specs.Index.{addressesOf, targetsOf, branchesOf, InFront};
+ghost use Rattle.verdict_lines.specs.Slots.{linesIn};
+ghost use Rattle.verdict_sheet.specs.Said.{judgedUpTo};
+ghost use Rattle.answer_listing.specs.Listing.{Gives, written, onJudged, listingOf};
+
+// What the listing answers: how many lines there are, or a refusal, its number and its place.
+pub enum Listed {
+    Lines(u64),
+    Refused(u64, usize),
+}
+
+// The lines that slots hold, written where the list has room for them.
+fn write_lines(s: &[u8], sites: &[u64], targets: &[u64], slots: &[u8], list: &mut [u8]) -> Listed
+    requires { ⌜ length (now sites) ≡ length (now slots) ⌝ }
+    requires { ⌜ length (now targets) ≡ length (now slots) ⌝ }
+    ensures { λ r. ⌜ Gives r (now (list .exit)) (written (now (s .entry)) (linesIn (now (sites .entry)) (now (targets .entry)) (now (slots .entry))) (now (list .entry))) ⌝ }
+{
+    let n = verdict_lines::count(slots);
+    if ((list.len() / 18) as u64) < n {
+        return Listed::Refused(12, s.len());
+    }
+    verdict_lines::write(sites, targets, slots, list);
+    Listed::Lines(n)
+}
+
+// The listing of an accepted sheet with its index at the front of five lists.
+fn list_sheet(
+    s: &[u8],
+    sheet: Sheet,
+    addresses: &[u64],
+    places: &[u64],
+    targets: &[u64],
+    branches: &[bool],
+    nodes: &[u64],
+    list: &mut [u8],
+) -> Listed
+    requires { ⌜ readingOf (now s) ≡ Accepted sheet ⌝ }
+    requires { ⌜ InFront (sheet .instructions .count) (now addresses) (addressesOf (sheetAt (now s) .instructions .list)) × InFront (sheet .instructions .count) (now places) (sheetAt (now s) .instructions .places) ⌝ }
+    requires { ⌜ InFront (sheet .instructions .count) (now targets) (targetsOf (sheetAt (now s) .instructions .list)) × InFront (sheet .instructions .count) (now branches) (branchesOf (sheetAt (now s) .instructions .list)) ⌝ }
+    requires { ⌜ InFront (sheet .nodes .count) (now nodes) (sheetAt (now s) .nodes .places) ⌝ }
+    ensures { λ r. ⌜ Gives r (now (list .exit)) (onJudged (judgedUpTo (now (s .entry)) (sheet .blocks .count) (sheet .nodes .count)) (now (s .entry)) (now (list .entry))) ⌝ }
+{
+    let instructions = sheet.instructions;
+    let n = instructions.count as usize;
+    let node_section = sheet.nodes;
+    let m = node_section.count as usize;
+    let sites = &addresses[..n];
+    let mut room = verdict_lines::empty_slots();
+    let slots = &mut room[..n];
+    let reached = verdict_sheet::judge(
+        s,
+        sheet,
+        sites,
+        &places[..n],
+        &branches[..n],
+        &nodes[..m],
+        slots,
+    );
+    match reached {
+        Progress::Through => write_lines(s, sites, &targets[..n], slots, list),
+        Progress::Refused(k, at) => Listed::Refused(k, at),
+    }
+}
+
+// The lines of a sheet, written over the front of a lent list.
+pub fn listing(s: &[u8], list: &mut [u8]) -> Listed
+    ensures { λ r. ⌜ Gives r (now (list .exit)) (listingOf (now (s .entry)) (now (list .entry))) ⌝ }
+{
+    let mut addresses = [0u64; 2048];
+    let mut places = [0u64; 2048];
+    let mut targets = [0u64; 2048];
+    let mut branches = [false; 2048];
+    let mut nodes = [0u64; 1024];
+    let reading = sheet::read_index(
+        s,
+        &mut addresses,
+        &mut places,
+        &mut targets,
+        &mut branches,
+        &mut nodes,
+    );
+    match reading {
+        Reading::Refused(k, at) => Listed::Refused(k, at),
+        Reading::Accepted(sheet) => list_sheet(
+            s,
+            sheet,
+            &addresses,
+            &places,
+            &targets,
+            &branches,
+            &nodes,
+            list,
+        ),
+    }
+}

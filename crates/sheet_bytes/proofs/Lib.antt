@@ -1,0 +1,3 @@
+-- laws of the definitions, which other proofs cite
+pub mod Spans
+pub mod Fields
