@@ -1,2 +1,4 @@
 pub mod Decide
+pub mod Decided
+pub mod Rows
 pub mod Answers

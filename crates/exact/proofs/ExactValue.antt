@@ -71,7 +71,7 @@ unfolding operate
 strict-right o s t x h = rw (ne-eqb o 16 (λ e. omega arith), ne-eqb o 17 (λ e. omega arith))
 
 -- how a binary part is exact
-data Shaped (o : ℕ) (a b : Expr) : Shape → Type 0 where
+pub data Shaped (o : ℕ) (a b : Expr) : Shape → Type 0 where
   low-left : o ≡ 5 → isConstant 1 b ≡ true → Shaped o a b lowLeft
   low-right : o ≡ 5 → isConstant 1 a ≡ true → Shaped o a b lowRight
   rem-two : o ≡ 4 → isConstant 2 b ≡ true → Shaped o a b even
@@ -80,7 +80,7 @@ data Shaped (o : ℕ) (a b : Expr) : Shape → Type 0 where
   zero-right : (o ≡ 5) ⊎ (o ≡ 2) → isConstant 0 b ≡ true → Shaped o a b vanishes
   no-shape : Shaped o a b other
 
-shaped : (o : ℕ) (a b : Expr) → Shaped o a b (shape o a b)
+pub shaped : (o : ℕ) (a b : Expr) → Shaped o a b (shape o a b)
 unfolding shape
 shaped o a b = first (eqb o 5) refl (isConstant 1 b) refl (isConstant 1 a) refl
   where
@@ -201,20 +201,21 @@ xor-same : (s x z : ℕ) → operate 7 s s (Of x) (Of x) ≡ Of z → z ≡ 0
 unfolding operate operators arithmetics shifts comparisons
 xor-same s x z e = sym (value-is e) ∙ xor-self (convert s (together s s) x)
 
+-- a polynomial that is decided has the value of that bit everywhere
+pub decided-low : (p : List ℕ) (γ : ℕ → Bool) (v : ℕ) → decidedBit p ≡ some v → (value γ p ≡ eqb v 1) × (v < 2)
+unfolding value
+decided-low [] γ v e = let is : 0 ≡ v = cc in (rw (← is), omega arith)
+decided-low (n ∷ []) γ v e = go (eqb n 0) refl e
+  where
+    go : (b : Bool) → eqb n 0 ≡ b → cond b (some 1) none ≡ some v → (value γ (n ∷ []) ≡ eqb v 1) × (v < 2)
+    go true test e = let is : 1 ≡ v = cc in let z = eqb-true n 0 test in (rw (z, ← is) (value-one γ), omega arith)
+    go false test e = let z : _≡_ {A = ℕ} 0 1 = cc in absurd (omega arith)
+decided-low (n ∷ k ∷ l) γ v e = let z : _≡_ {A = ℕ} 0 1 = cc in absurd (omega arith)
+
 -- a polynomial that is decided gives the low bit of the part's value
 module _ (types : List ℕ) (ρ σ : Values) (m : Contents) where
   abbrev at : Effects → Expr → Value
   at f e = ev types ρ σ (shared m) f e
-
-  decided-low : (p : List ℕ) (γ : ℕ → Bool) (v : ℕ) → decidedBit p ≡ some v → (value γ p ≡ eqb v 1) × (v < 2)
-  unfolding value
-  decided-low [] γ v e = let is : 0 ≡ v = cc in (rw (← is), omega arith)
-  decided-low (n ∷ []) γ v e = go (eqb n 0) refl e
-    where
-      go : (b : Bool) → eqb n 0 ≡ b → cond b (some 1) none ≡ some v → (value γ (n ∷ []) ≡ eqb v 1) × (v < 2)
-      go true test e = let is : 1 ≡ v = cc in let z = eqb-true n 0 test in (rw (z, ← is) (value-one γ), omega arith)
-      go false test e = let z : _≡_ {A = ℕ} 0 1 = cc in absurd (omega arith)
-  decided-low (n ∷ k ∷ l) γ v e = let z : _≡_ {A = ℕ} 0 1 = cc in absurd (omega arith)
 
   pub low-value : (f : Effects) (e : Expr) (v x : ℕ) → lowOf e ≡ some v → at f e ≡ Of x → x % 2 ≡ v
   low-value f e v x is has =
