@@ -541,3 +541,16 @@ reasons (binary o a b) v r = (
   back a b (decide a) (decide b) (Decided a) (Decided b) (reasons a) (reasons b) (judged a) o v r,
 )
 reasons (ternary c a b) v r = (open′, λ x. absurd x)
+
+-- It is undecided exactly where the relation has nothing.
+pub undecided-where : (e : Expr) → (verdictNumbers (decide e) ≡ undecided) ↔ ((value reason : ℕ) → Decided e value reason → ⊥)
+undecided-where e = (there′, back′ (decide e) refl)
+  where
+    there′ : verdictNumbers (decide e) ≡ undecided → (value reason : ℕ) → Decided e value reason → ⊥
+    there′ h v r d = open′ (sym h ∙ reasons e v r .1 d)
+
+    back′ : (d : Verdict) → decide e ≡ d → ((value reason : ℕ) → Decided e value reason → ⊥) → verdictNumbers (decide e) ≡ undecided
+    back′ (Always p) h n = absurd (n 1 (reasonNumber p) (reasons e 1 (reasonNumber p) .0 (ap verdictNumbers h)))
+    back′ (Never p) h n = absurd (n 0 (reasonNumber p) (reasons e 0 (reasonNumber p) .0 (ap verdictNumbers h)))
+    back′ Undecided h n = ap verdictNumbers h
+    back′ NoBranch h n = absurd (has-branch e h)

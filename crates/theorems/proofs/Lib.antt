@@ -2,6 +2,7 @@
 pub mod Apart
 pub mod Sound
 pub mod Nodes
+pub mod Reasons
 pub mod Forced
 pub mod Public
 pub mod Outcomes

@@ -20,9 +20,11 @@ use Rattle.format.specs.Examples.{Example, examples}
 use Rattle.format.proofs.Unique.{all-bytes, format}
 use Rattle.format.proofs.Examples.{examples-hold}
 use Rattle.verdict.specs.declared.Verdict.the-variants as verdict
-use Rattle.verdict.specs.Numbers.Numbers.{decision, undecided}
+use Rattle.verdict.specs.Numbers.Numbers.{decision, undecided, refused as refused-answer}
 use Rattle.parity.specs.LowBit.{lowBit, AlwaysDiffer, low, Has, sharedBits, ownBits}
 use Rattle.decide.specs.Decide.{decide}
+use Rattle.decide.specs.Decided.{Decided}
+use Rattle.decide.specs.Rows.{Yields as YieldsEach, rows as conditions, worked}
 use Rattle.substitution.specs.Substitution.{into, withAssignments}
 use Rattle.decide.proofs.Complete.{decided}
 use Rattle.parity.proofs.Evaluation.{ev-low}
@@ -38,6 +40,7 @@ use Rattle.theorems.specs.Lines.{lineAt, Listed, Refuses, TrueOf}
 use Rattle.theorems.specs.Rows.{Yields, rows, probe, marked}
 use Rattle.theorems.proofs.Public.{answers-forced}
 use Rattle.theorems.proofs.Nodes.{node-decided, evaluation-agrees, probe-run}
+use Rattle.theorems.proofs.Reasons.{node-decided-as, node-undecided-where}
 use Rattle.theorems.proofs.Outcomes.{answers-run, fourteen, refusal-number}
 use Rattle.theorems.proofs.Whole.{runs-right}
 use Rattle.theorems.proofs.Listing.{lines-true, lines-due, refused-for, list-kept}
@@ -93,6 +96,25 @@ pub low-bit-nodes : (s : List ℕ) (number : ℕ) (equal : Bool) (a b : Expr)
     → withAssignments (nodeNumbered s number .statements) (nodeNumbered s number .condition) ≡ into (binary (cond equal opEqual opNotEqual) a b)
     → AlwaysDiffer a b → nodeAnswer s number ≡ undecided → ⊥
 low-bit-nodes = node-decided
+
+-- Where a node is not refused, its answer has a value and a reason exactly where the steps, said as a relation in numbers, give them for its
+-- substituted condition.
+pub node-reasons : (s : List ℕ) (number : ℕ) (e : Expr)
+    → withAssignments (nodeNumbered s number .statements) (nodeNumbered s number .condition) ≡ into e
+    → ((k at : ℕ) → nodeAnswer s number ≡ refused-answer k at → ⊥)
+    → (value reason : ℕ) → (nodeAnswer s number ≡ decision value reason) ↔ Decided e value reason
+node-reasons = node-decided-as
+
+-- And it is undecided exactly where no step gives any.
+pub node-undecided : (s : List ℕ) (number : ℕ) (e : Expr)
+    → withAssignments (nodeNumbered s number .statements) (nodeNumbered s number .condition) ≡ into e
+    → ((k at : ℕ) → nodeAnswer s number ≡ refused-answer k at → ⊥)
+    → (nodeAnswer s number ≡ undecided) ↔ ((value reason : ℕ) → Decided e value reason → ⊥)
+node-undecided = node-undecided-where
+
+-- Conditions worked out by hand have their verdicts: every reason of a node, and the order of the steps.
+pub worked-conditions : YieldsEach conditions
+worked-conditions = worked
 
 -- In every evaluation the low bit of a part that has a value is its low bit at the bits that its atoms' values have.
 pub low-bit-values : (types : List ℕ) (ρ σ : Values) (m : Contents) (f : Effects) (e : Expr) → Has (ev types ρ σ (shared m) f e)
