@@ -12,4 +12,5 @@ pub mod Deciding
 pub mod DueLines
 pub mod InList
 pub mod Listing
+pub mod Worked
 pub mod Main

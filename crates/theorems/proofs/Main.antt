@@ -38,6 +38,8 @@ use Rattle.answer_evaluation.specs.Evaluation.Evaluated.{outcome, refused}
 use Rattle.theorems.specs.Runs.{Source, answerFor, Ends, ForcedEnd, nodeRun, SaysOf, AnswerFromRun}
 use Rattle.theorems.specs.Lines.{lineAt, Listed, Refuses, TrueOf}
 use Rattle.theorems.specs.Rows.{Yields, rows, probe, marked}
+use Rattle.theorems.specs.Sheets.{Worked}
+use Rattle.theorems.proofs.Worked.{as-worked}
 use Rattle.theorems.proofs.Public.{answers-forced}
 use Rattle.theorems.proofs.Nodes.{node-decided, evaluation-agrees, probe-run}
 use Rattle.theorems.proofs.Reasons.{node-decided-as, node-undecided-where}
@@ -145,6 +147,11 @@ evaluations-agree s = evaluation-agrees (numbers s) (all-bytes s)
 -- The marked rows are as the scope document's table has them, of blocks and of nodes.
 pub marked-rows : Yields rows
 marked-rows = marked
+
+-- The public answers for short sheets, given as bytes, are as worked out by hand: each mnemonic, each jump for six settings of the flags, each declared
+-- flag; the refusals 10 to 16 with their places; a listing's lines with their bytes.
+pub worked-sheets : Worked
+worked-sheets = as-worked
 
 -- The probe table's node is undecided (a marked row), and must be: there is a run in which its two sides agree.
 pub probe-table : (c : Choices) × (run (probe .types) (probe .statements) (probe .condition) c ≡ truth.Holds)

@@ -1,0 +1,441 @@
+-- Short sheets as bytes and the public answers for them, worked out by hand from docs/SHEET.md and the manual. Of the definitions only the answers
+-- are used: nothing of reading, of the format's writing or of the machine's rules.
+use Prim.Native.Nat.{ℕ, zero, suc, _+_}
+use mathlib.Core.Path.{_≡_}
+use mathlib.Core.List.{List, [], _∷_, _++_}
+use lib.ListN.{length}
+use Rattle.sheet_bytes.specs.Write.{All}
+use Rattle.verdict.specs.Numbers.{Numbers}
+use Rattle.verdict.specs.Numbers.Numbers.{decision, undecided, noBranch, refused}
+use Rattle.answer_block.specs.Block.{blockAnswer}
+use Rattle.answer_node.specs.Node.{nodeAnswer}
+use Rattle.answer_listing.specs.Listing.{Listing, listingOf}
+use Rattle.answer_listing.specs.Listing.ListedNumbers.{lines, refused as refusedListing}
+use Rattle.answer_evaluation.specs.Evaluation.{Evaluated, evaluationAnswer}
+use Rattle.answer_evaluation.specs.Evaluation.Evaluated.{outcome, refused as refusal}
+
+-- ---- fields
+
+-- a number below 256 in 8 bytes (S1, S2)
+abbrev word : ℕ → List ℕ
+word n = n ∷ 0 ∷ 0 ∷ 0 ∷ 0 ∷ 0 ∷ 0 ∷ 0 ∷ []
+
+-- operands: the code, then a register's class, index, size and offset (S17, S18)
+abbrev al : List ℕ
+al = 0 ∷ 1 ∷ 0 ∷ 8 ∷ 0 ∷ []
+
+abbrev rax : List ℕ
+rax = 0 ∷ 1 ∷ 0 ∷ 64 ∷ 0 ∷ []
+
+abbrev rcx : List ℕ
+rcx = 0 ∷ 1 ∷ 1 ∷ 64 ∷ 0 ∷ []
+
+-- immediates: a number below 256, 2 to the 16, 2 to the 32, and 64 ones (S17)
+abbrev imm : ℕ → List ℕ
+imm n = (1 ∷ []) ++ word n
+
+abbrev bit16 : List ℕ
+bit16 = 1 ∷ 0 ∷ 0 ∷ 1 ∷ 0 ∷ 0 ∷ 0 ∷ 0 ∷ 0 ∷ []
+
+abbrev bit32 : List ℕ
+bit32 = 1 ∷ 0 ∷ 0 ∷ 0 ∷ 0 ∷ 1 ∷ 0 ∷ 0 ∷ 0 ∷ []
+
+abbrev ones : List ℕ
+ones = 1 ∷ 255 ∷ 255 ∷ 255 ∷ 255 ∷ 255 ∷ 255 ∷ 255 ∷ 255 ∷ []
+
+-- ---- instructions, each at the address that it is given
+
+abbrev pub Placed : Type 0
+Placed = ℕ → List ℕ
+
+-- map, address, mnemonic (S6)
+abbrev start : (map mnemonic : ℕ) → Placed
+start map mnemonic at = (map ∷ []) ++ word at ++ (mnemonic ∷ [])
+
+-- no other field
+abbrev bare : ℕ → Placed
+bare mnemonic at = start 0 mnemonic at
+
+-- a conditional branch, to 99 (S7)
+abbrev jump : ℕ → Placed
+jump mnemonic at = start 1 mnemonic at ++ word 99
+
+-- one operand; one operand and all five flags declared; two operands (S9, S10, S12)
+abbrev one : ℕ → List ℕ → Placed
+one mnemonic first at = start 4 mnemonic at ++ first
+
+abbrev declaring : ℕ → List ℕ → Placed
+declaring mnemonic first at = start 36 mnemonic at ++ first ++ (31 ∷ [])
+
+abbrev two : ℕ → List ℕ → List ℕ → Placed
+two mnemonic first second at = start 12 mnemonic at ++ first ++ second
+
+-- the mnemonics, by number; an instruction of another mnemonic that declares flags, rcx, or is call-like (S8, S11, S22)
+abbrev other : ℕ → Placed
+other flags at = start 32 0 at ++ (flags ∷ [])
+
+abbrev otherOnRcx : Placed
+otherOnRcx at = start 16 0 at ++ (1 ∷ 0 ∷ 1 ∷ 1 ∷ 64 ∷ 0 ∷ [])
+
+abbrev call : Placed
+call at = start 2 0 at
+
+abbrev stc : Placed
+stc = bare 1
+
+abbrev clc : Placed
+clc = bare 2
+
+abbrev cmc : Placed
+cmc = bare 3
+
+abbrev mov : List ℕ → List ℕ → Placed
+mov = two 4
+
+abbrev not : List ℕ → Placed
+not = one 5
+
+abbrev add : List ℕ → List ℕ → Placed
+add = two 6
+
+abbrev sub : List ℕ → List ℕ → Placed
+sub = two 7
+
+abbrev cmp : List ℕ → List ℕ → Placed
+cmp = two 8
+
+abbrev and : List ℕ → List ℕ → Placed
+and = two 9
+
+abbrev or : List ℕ → List ℕ → Placed
+or = two 10
+
+abbrev xor : List ℕ → List ℕ → Placed
+xor = two 11
+
+abbrev test : List ℕ → List ℕ → Placed
+test = two 12
+
+abbrev inc : List ℕ → Placed
+inc = declaring 13
+
+abbrev dec : List ℕ → Placed
+dec = declaring 14
+
+abbrev neg : List ℕ → Placed
+neg = declaring 15
+
+-- those jumps by name that the rows below name; the table of conditions has all (S23, S24)
+abbrev je : Placed
+je = jump 16
+
+abbrev jb : Placed
+jb = jump 22
+
+abbrev js : Placed
+js = jump 26
+
+abbrev jp : Placed
+jp = jump 28
+
+abbrev jo : Placed
+jo = jump 30
+
+abbrev jrcxz : Placed
+jrcxz = jump 32
+
+abbrev jecxz : Placed
+jecxz = jump 33
+
+abbrev jcxz : Placed
+jcxz = jump 34
+
+-- ---- blocks
+
+-- instructions at one address after the other
+unfoldable pub placed : ℕ → List Placed → List ℕ
+placed at [] = []
+placed at (i ∷ code) = i at ++ placed (suc at) code
+
+-- a sheet of these instructions, one block over all of them, and no node (S3, S25)
+abbrev pub sheet : List Placed → List ℕ
+sheet code = (length code ∷ 0 ∷ []) ++ placed 0 code ++ (1 ∷ 0 ∷ []) ++ word 0 ++ word (length code) ++ (0 ∷ 0 ∷ [])
+
+-- A row: instructions, the number of the block that is asked for, and the answer for it.
+pub record BlockRow : Type 0 where
+  pub code : List Placed
+  pub number : ℕ
+  pub answer : Numbers
+
+abbrev always : List Placed → BlockRow
+always code = record { code = code; number = 0; answer = decision 1 1 }
+
+abbrev never : List Placed → BlockRow
+never code = record { code = code; number = 0; answer = decision 0 1 }
+
+abbrev either : List Placed → BlockRow
+either code = record { code = code; number = 0; answer = undecided }
+
+-- Instructions, each by what it leaves in a flag or in rcx for the jump after it. Exchanging two mnemonics changes an answer here or below
+-- (S22, M6, M20, M22, M31).
+unfoldable pub instructions : List BlockRow
+instructions =
+    always (stc ∷ jb ∷ [])
+    ∷ never (clc ∷ jb ∷ [])
+    ∷ never (stc ∷ cmc ∷ jb ∷ [])
+    ∷ always (clc ∷ cmc ∷ jb ∷ [])
+    ∷ always (mov rcx (imm 0) ∷ jrcxz ∷ [])
+    ∷ always (mov rcx ones ∷ not rcx ∷ jrcxz ∷ [])
+    ∷ always (mov rcx (imm 1) ∷ add rcx ones ∷ jrcxz ∷ [])
+    ∷ never (mov rcx (imm 1) ∷ add rcx (imm 1) ∷ jrcxz ∷ [])
+    ∷ always (mov rcx (imm 1) ∷ sub rcx (imm 1) ∷ jrcxz ∷ [])
+    ∷ always (mov rcx (imm 1) ∷ sub rcx (imm 2) ∷ jb ∷ [])
+    ∷ never (mov rcx (imm 1) ∷ cmp rcx (imm 1) ∷ jrcxz ∷ [])
+    ∷ always (mov rcx (imm 1) ∷ cmp rcx (imm 1) ∷ je ∷ [])
+    ∷ always (mov rcx (imm 1) ∷ and rcx (imm 2) ∷ jrcxz ∷ [])
+    ∷ never (mov rcx (imm 0) ∷ or rcx (imm 2) ∷ jrcxz ∷ [])
+    ∷ always (mov rcx (imm 3) ∷ xor rcx (imm 3) ∷ jrcxz ∷ [])
+    ∷ never (mov rcx (imm 1) ∷ test rcx (imm 2) ∷ jrcxz ∷ [])
+    ∷ always (mov rcx (imm 1) ∷ test rcx (imm 2) ∷ je ∷ [])
+    ∷ always (mov rcx ones ∷ inc rcx ∷ jrcxz ∷ [])
+    ∷ always (mov rcx (imm 1) ∷ dec rcx ∷ jrcxz ∷ [])
+    ∷ always (mov rcx (imm 1) ∷ neg rcx ∷ jb ∷ [])
+    ∷ never (mov rcx (imm 0) ∷ neg rcx ∷ jb ∷ [])
+    -- a call-like instruction, a declared register, a conditional branch that is no jump, no branch at the end
+    ∷ either (stc ∷ call ∷ jb ∷ [])
+    ∷ either (mov rcx (imm 0) ∷ otherOnRcx ∷ jrcxz ∷ [])
+    ∷ either (xor rax rax ∷ jump 0 ∷ [])
+    ∷ record { code = stc ∷ []; number = 0; answer = noBranch }
+    -- there is no block 1
+    ∷ record { code = stc ∷ jb ∷ []; number = 1; answer = refused 13 0 }
+    ∷ []
+
+-- the jumps from a number on after `mov rax, a` and `cmp al, b`: 1 for one that jumps, 0 for one that does not
+unfoldable pub compared : (a b number : ℕ) → List ℕ → List BlockRow
+compared a b number [] = []
+compared a b number (jumps ∷ rest) =
+    record { code = mov rax (imm a) ∷ cmp al (imm b) ∷ jump number ∷ []; number = 0; answer = decision jumps 1 } ∷ compared a b (suc number) rest
+
+-- The conditions of the jumps 16 to 31, for six settings of the flags (S23, M18).
+unfoldable pub conditions : List BlockRow
+conditions =
+    -- e ne l ge le g b ae be a s ns p np o no; PF and ZF are set
+    compared 1 1 16 (1 ∷ 0 ∷ 0 ∷ 1 ∷ 1 ∷ 0 ∷ 0 ∷ 1 ∷ 1 ∷ 0 ∷ 0 ∷ 1 ∷ 1 ∷ 0 ∷ 0 ∷ 1 ∷ [])
+    -- CF, PF and SF are set
+    ++ compared 0 1 16 (0 ∷ 1 ∷ 1 ∷ 0 ∷ 1 ∷ 0 ∷ 1 ∷ 0 ∷ 1 ∷ 0 ∷ 1 ∷ 0 ∷ 1 ∷ 0 ∷ 0 ∷ 1 ∷ [])
+    -- none is set
+    ++ compared 1 0 16 (0 ∷ 1 ∷ 0 ∷ 1 ∷ 0 ∷ 1 ∷ 0 ∷ 1 ∷ 0 ∷ 1 ∷ 0 ∷ 1 ∷ 0 ∷ 1 ∷ 0 ∷ 1 ∷ [])
+    -- OF is set
+    ++ compared 128 1 16 (0 ∷ 1 ∷ 1 ∷ 0 ∷ 1 ∷ 0 ∷ 0 ∷ 1 ∷ 0 ∷ 1 ∷ 0 ∷ 1 ∷ 0 ∷ 1 ∷ 1 ∷ 0 ∷ [])
+    -- CF, PF, SF and OF are set
+    ++ compared 127 128 16 (0 ∷ 1 ∷ 0 ∷ 1 ∷ 0 ∷ 1 ∷ 1 ∷ 0 ∷ 1 ∷ 0 ∷ 1 ∷ 0 ∷ 1 ∷ 0 ∷ 1 ∷ 0 ∷ [])
+    -- CF is set
+    ++ compared 1 255 16 (0 ∷ 1 ∷ 0 ∷ 1 ∷ 0 ∷ 1 ∷ 1 ∷ 0 ∷ 1 ∷ 0 ∷ 0 ∷ 1 ∷ 0 ∷ 1 ∷ 0 ∷ 1 ∷ [])
+
+-- The count-register jumps: 64, 32 and 16 bits of rcx (S24, M19).
+unfoldable pub counters : List BlockRow
+counters =
+    never (mov rcx bit32 ∷ jrcxz ∷ [])
+    ∷ always (mov rcx bit32 ∷ jecxz ∷ [])
+    ∷ never (mov rcx bit16 ∷ jecxz ∷ [])
+    ∷ always (mov rcx bit16 ∷ jcxz ∷ [])
+    ∷ []
+
+-- Each declared flag, by its bit: all five are known, PF and ZF set; declared, a flag is not known any more, and where the other four are declared it
+-- still is (S12, M17).
+unfoldable pub flags : List BlockRow
+flags =
+    -- CF
+    either (xor rax rax ∷ other 1 ∷ jb ∷ [])
+    ∷ never (xor rax rax ∷ other 30 ∷ jb ∷ [])
+    -- PF
+    ∷ either (xor rax rax ∷ other 2 ∷ jp ∷ [])
+    ∷ always (xor rax rax ∷ other 29 ∷ jp ∷ [])
+    -- ZF
+    ∷ either (xor rax rax ∷ other 4 ∷ je ∷ [])
+    ∷ always (xor rax rax ∷ other 27 ∷ je ∷ [])
+    -- SF
+    ∷ either (xor rax rax ∷ other 8 ∷ js ∷ [])
+    ∷ never (xor rax rax ∷ other 23 ∷ js ∷ [])
+    -- OF
+    ∷ either (xor rax rax ∷ other 16 ∷ jo ∷ [])
+    ∷ never (xor rax rax ∷ other 15 ∷ jo ∷ [])
+    ∷ []
+
+-- The rows of blocks together.
+unfoldable pub blockRows : List BlockRow
+blockRows = instructions ++ conditions ++ counters ++ flags
+
+-- ---- nodes
+
+-- records of an expression: a variable, a constant of one byte, true, an effect and a load of unsigned 8, a binary (S37, S38, S39, S40, S41, S43)
+abbrev variable : ℕ → List ℕ
+variable number = 0 ∷ number ∷ []
+
+abbrev constant : ℕ → List ℕ
+constant value = (1 ∷ 1 ∷ []) ++ word value
+
+abbrev yes : List ℕ
+yes = 2 ∷ []
+
+abbrev effect : List ℕ
+effect = 4 ∷ 4 ∷ []
+
+abbrev load : List ℕ
+load = 5 ∷ 4 ∷ []
+
+abbrev binary : ℕ → List ℕ
+binary operator = 7 ∷ operator ∷ []
+
+unfoldable pub joined : List (List ℕ) → List ℕ
+joined [] = []
+joined (r ∷ rest) = r ++ joined rest
+
+-- how many there are, and then each
+abbrev counted : List (List ℕ) → List ℕ
+counted l = (length l ∷ 0 ∷ []) ++ joined l
+
+-- a node: types, statements, the condition's records, and no address (S27, S28, S29, S30)
+abbrev node : List (List ℕ) → List (List ℕ) → List (List ℕ) → List ℕ
+node types statements condition = counted types ++ counted statements ++ counted condition ++ (0 ∷ 0 ∷ [])
+
+-- a sheet without instructions, with one block and two nodes: one of 9 bytes at 22, whose condition is true, and this one, at 31 (S3)
+abbrev pub withNode : List ℕ → List ℕ
+withNode n = (0 ∷ 0 ∷ 1 ∷ 0 ∷ []) ++ word 0 ++ word 0 ++ (2 ∷ 0 ∷ []) ++ node [] [] (yes ∷ []) ++ n
+
+-- an assignment of these records to a variable, and a statement that is none (S31, S32)
+abbrev assign : ℕ → List (List ℕ) → List ℕ
+assign number value = (3 ∷ number ∷ []) ++ counted value
+
+abbrev anything : List ℕ
+anything = 0 ∷ []
+
+-- A row: a node, the number of the node that is asked for, and the answer for it.
+pub record NodeRow : Type 0 where
+  pub node : List ℕ
+  pub number : ℕ
+  pub answer : Numbers
+
+-- each of eight unsigned 32 variables is the sum of the one before it with itself, so that variable 6 has 127 records and variable 7 has 255
+abbrev twice : ℕ → ℕ → List ℕ
+twice number before = assign number (variable before ∷ variable before ∷ binary 0 ∷ [])
+
+abbrev chain : List (List ℕ) → List (List ℕ) → List ℕ
+chain last condition =
+    node ((6 ∷ []) ∷ (6 ∷ []) ∷ (6 ∷ []) ∷ (6 ∷ []) ∷ (6 ∷ []) ∷ (6 ∷ []) ∷ (6 ∷ []) ∷ (6 ∷ []) ∷ [])
+    (twice 1 0 ∷ twice 2 1 ∷ twice 3 2 ∷ twice 4 3 ∷ twice 5 4 ∷ twice 6 5 ∷ last) condition
+
+-- (v + 1) × ... of n variables from v on: 2 to the n terms
+abbrev odd : ℕ → List (List ℕ)
+odd v = variable v ∷ constant 1 ∷ binary 0 ∷ []
+
+unfoldable pub odds : (n v : ℕ) → List (List ℕ)
+odds zero v = odd v
+odds (suc n) v = odds n v ++ odd (suc n + v) ++ (binary 2 ∷ [])
+
+-- a product of that and another of other variables, compared with 0
+abbrev product : List (List ℕ) → List (List ℕ) → List ℕ
+product left right =
+    node ((6 ∷ []) ∷ (6 ∷ []) ∷ (6 ∷ []) ∷ (6 ∷ []) ∷ (6 ∷ []) ∷ (6 ∷ []) ∷ (6 ∷ []) ∷ (6 ∷ []) ∷ (6 ∷ []) ∷ (6 ∷ []) ∷ (6 ∷ []) ∷ (6 ∷ []) ∷ (6 ∷ []) ∷ []) []
+    (left ++ right ++ (binary 2 ∷ constant 0 ∷ binary 10 ∷ []))
+
+-- The node verdict: its refusals with their places (N25, N26, N27, N30).
+unfoldable pub nodeRows : List NodeRow
+nodeRows =
+    -- there is no node 2
+    record { node = node [] [] (yes ∷ []); number = 2; answer = refused 13 0 }
+    -- a value of 127 records, one of 255, and a condition of 255
+    ∷ record { node = chain [] (yes ∷ []); number = 1; answer = decision 1 3 }
+    ∷ record { node = chain (twice 7 6 ∷ []) (yes ∷ []); number = 1; answer = refused 10 31 }
+    ∷ record { node = chain [] (variable 6 ∷ variable 6 ∷ binary 10 ∷ []); number = 1; answer = refused 10 31 }
+    -- 64 times 65 terms; 256 terms; 272 terms
+    ∷ record { node = product (odds 5 0) (odds 5 6 ++ (variable 12 ∷ binary 0 ∷ [])); number = 1; answer = refused 11 31 }
+    ∷ record { node = product (odds 3 0) (odds 3 6); number = 1; answer = undecided }
+    ∷ record { node = product (odds 3 0) (odds 3 6 ++ (variable 12 ∷ binary 0 ∷ [])); number = 1; answer = refused 11 31 }
+    ∷ []
+
+-- A row: a node, the number of the node that is asked for, lent values, and the answer of the evaluation.
+pub record EvaluationRow : Type 0 where
+  pub node : List ℕ
+  pub number : ℕ
+  pub values : List ℕ
+  pub answer : Evaluated
+
+-- variables of unsigned 8, unsigned 16 and bool; and 1 / the variable, of unsigned 8
+abbrev three : List ℕ
+three = node ((4 ∷ []) ∷ (5 ∷ []) ∷ (9 ∷ []) ∷ []) [] (yes ∷ [])
+
+abbrev quotient : List ℕ
+quotient = node ((4 ∷ []) ∷ []) [] (constant 1 ∷ variable 0 ∷ binary 3 ∷ [])
+
+-- The evaluation: its refusals with their places (E2, E3, E4, E5, E6, E7, E8).
+unfoldable pub evaluationRows : List EvaluationRow
+evaluationRows =
+    -- there is no node 2
+    record { node = three; number = 2; values = []; answer = refusal 13 0 }
+    -- an effect, a load, a 0-statement; 15 comes before 16
+    ∷ record { node = node [] [] (effect ∷ []); number = 1; values = []; answer = refusal 15 31 }
+    ∷ record { node = node [] [] (constant 0 ∷ load ∷ []); number = 1; values = []; answer = refusal 15 31 }
+    ∷ record { node = node ((4 ∷ []) ∷ []) (anything ∷ []) (yes ∷ []); number = 1; values = []; answer = refusal 15 31 }
+    -- values: none; one; too wide, the lowest variable first; as wide as may be, and one more
+    ∷ record { node = three; number = 1; values = []; answer = refusal 16 0 }
+    ∷ record { node = three; number = 1; values = 255 ∷ []; answer = refusal 16 1 }
+    ∷ record { node = three; number = 1; values = 256 ∷ []; answer = refusal 16 0 }
+    ∷ record { node = three; number = 1; values = 255 ∷ 65_536 ∷ 2 ∷ []; answer = refusal 16 1 }
+    ∷ record { node = three; number = 1; values = 255 ∷ 65_535 ∷ 2 ∷ []; answer = refusal 16 2 }
+    ∷ record { node = three; number = 1; values = 255 ∷ 65_535 ∷ 1 ∷ 256 ∷ []; answer = outcome 1 }
+    -- 1 / 0, 1 / 1 and 1 / 2; 16 comes before 14
+    ∷ record { node = quotient; number = 1; values = 0 ∷ []; answer = refusal 14 31 }
+    ∷ record { node = quotient; number = 1; values = 1 ∷ []; answer = outcome 1 }
+    ∷ record { node = quotient; number = 1; values = 2 ∷ []; answer = outcome 0 }
+    ∷ []
+
+-- ---- listings
+
+-- A row: a sheet, a lent list, and what the listing gives: its answer and the list after it.
+pub record ListingRow : Type 0 where
+  pub bytes : List ℕ
+  pub list : List ℕ
+  pub gives : Listing
+
+-- xor eax, eax at 16, je to 32 at 18, and one block, from 16 to 20: 60 bytes
+abbrev first : List ℕ
+first =
+    (2 ∷ 0 ∷ []) ++ two 11 (0 ∷ 1 ∷ 0 ∷ 32 ∷ 0 ∷ []) (0 ∷ 1 ∷ 0 ∷ 32 ∷ 0 ∷ []) 16 ++ start 1 16 18 ++ word 32 ++ (1 ∷ 0 ∷ []) ++ word 16 ++ word 20
+    ++ (0 ∷ 0 ∷ [])
+
+-- jb at 0, je at 1 and stc at 2, no block, and two nodes that list 1, 0 and 2: the condition of one is true, of the other false
+abbrev listing : List ℕ → List ℕ
+listing condition = (0 ∷ 0 ∷ 0 ∷ 0 ∷ 1 ∷ 0 ∷ []) ++ condition ++ (3 ∷ 0 ∷ []) ++ word 1 ++ word 0 ++ word 2
+
+abbrev jumps : List ℕ
+jumps = (3 ∷ 0 ∷ []) ++ jb 0 ++ je 1 ++ stc 2 ++ (0 ∷ 0 ∷ 2 ∷ 0 ∷ []) ++ listing yes ++ listing (3 ∷ [])
+
+abbrev sevens : List ℕ
+sevens = 7 ∷ 7 ∷ 7 ∷ 7 ∷ 7 ∷ 7 ∷ 7 ∷ 7 ∷ 7 ∷ 7 ∷ 7 ∷ 7 ∷ 7 ∷ 7 ∷ 7 ∷ 7 ∷ 7 ∷ []
+
+-- The listing: lines, their bytes, and 12 (L1, L2, L4, L6, L9, S33, T15).
+unfoldable pub listingRows : List ListingRow
+listingRows =
+    -- the site 18, the target 32, always by flags; the rest of the list stays
+    record {
+      bytes = first;
+      list = sevens ++ (7 ∷ 8 ∷ 9 ∷ []);
+      gives = record { answer = lines 1; list = word 18 ++ word 32 ++ (1 ∷ 1 ∷ 8 ∷ 9 ∷ []) };
+    }
+    -- 17 bytes are one too few; the place is the sheet's length
+    ∷ record { bytes = first; list = sevens; gives = record { answer = refusedListing 12 60; list = sevens } }
+    -- of 1, 0 and 2 the last branch is 0; of two nodes the earlier one gives the line, always as its condition is true
+    ∷ record {
+      bytes = jumps;
+      list = sevens ++ (7 ∷ []);
+      gives = record { answer = lines 1; list = word 0 ++ word 99 ++ (1 ∷ 3 ∷ []) };
+    }
+    ∷ []
+
+-- Every row is as the definitions answer.
+pub record Worked : Type 0 where
+  pub blocks : All (λ (r : BlockRow). blockAnswer (sheet (r .code)) (r .number) ≡ r .answer) blockRows
+  pub nodes : All (λ (r : NodeRow). nodeAnswer (withNode (r .node)) (r .number) ≡ r .answer) nodeRows
+  pub evaluations : All (λ (r : EvaluationRow). evaluationAnswer (withNode (r .node)) (r .number) (r .values) ≡ r .answer) evaluationRows
+  pub listings : All (λ (r : ListingRow). listingOf (r .bytes) (r .list) ≡ r .gives) listingRows
