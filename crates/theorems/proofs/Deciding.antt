@@ -3,7 +3,7 @@
 use Prim.Native.Nat.{ℕ, _<_}
 use mathlib.Core.Path.{_≡_, sym, ap, _∙_}
 use mathlib.Core.List.{List, _++_}
-use mathlib.Core.Option.{some}
+use mathlib.Core.Option.{Option, some}
 use mathlib.Core.Logic.{_⊎_, inl, inr, ⊎-elim}
 use native.Mathlib.Omega.{arith}
 use lib.Dec.{ltb}
@@ -24,9 +24,14 @@ use Rattle.answer_block.specs.Block.{blockAnswer}
 use Rattle.answer_node.specs.Node.{nodeAnswer}
 use Rattle.theorems.specs.Runs.{Source, answerFor}
 use Rattle.theorems.specs.Runs.Source.{block, node}
-use Rattle.theorems.specs.Lines.{siteOf, Before}
+use Rattle.theorems.specs.Lines.{Before}
 use Rattle.theorems.proofs.Apart.{no-decision}
 use Rattle.theorems.proofs.First.{undeciding-none, first-append, sayUpTo, First, Found, Silent, found, blocks-say, verdictIn, nodeVerdictOf, nodesSay, Given}
+
+-- the branch that the code finds for a block or a node
+abbrev pub siteOf : List ℕ → Source → Option ℕ
+siteOf s (block number) = blockSite s number
+siteOf s (node number) = nodeSite s number
 
 -- the answers for records of an accepted sheet
 module _ (s : List ℕ) (sheet : Sheet) (read : readingOf s ≡ reading.Accepted sheet) where

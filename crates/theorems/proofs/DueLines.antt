@@ -1,19 +1,21 @@
 -- The lines of the listing are those due. In the instructions' order each branch that is decided has one, so they rise by site.
 use Prim.Native.Nat.{ℕ, zero, suc, _+_, _^_, _<_, _≤_}
-use mathlib.Core.Path.{_≡_, refl, ap, subst, _∙_}
-use mathlib.Core.Bool.{Bool, true, false, cond, _&&_}
+use mathlib.Core.Path.{_≡_, refl, sym, ap, subst, _∙_}
+use mathlib.Core.Bool.{Bool, true, false, cond}
 use mathlib.Core.List.{List, [], _∷_, _++_, map}
 use mathlib.Core.Option.{Option, none, some}
 use mathlib.Core.Logic.{_⊎_, inl, inr, ⊎-elim}
 use native.Mathlib.Omega.{arith}
-use lib.Dec.{eqb, leb, ltb}
-use lib.ListN.{length, getD}
+use lib.Dec.{eqb}
+use lib.ListN.{length, getD, length-append}
 use borrow.Author.Tests.{eqb-true, eqb-false, eq-eqb, ne-eqb}
 use Rattle.laws.proofs.Booleans.{byTest}
 use Rattle.isa.specs.declared.Instruction.{Instruction}
+use Rattle.sheet_field.specs.declared.Place.{Place}
 use Rattle.sheet.specs.declared.Sheet.{Sheet}
 use Rattle.sheet.specs.declared.Reading.the-variants as reading
-use Rattle.sheet.specs.Sheet.{noBlock, sheetAt, readingOf, nodeNumbered}
+use Rattle.sheet.specs.Sheet.{nodesFrom, sheetAt, readingOf}
+use Rattle.sheet.proofs.Accepted.{accepted}
 use Rattle.sheet_bytes.specs.Write.{All, Bytes, WhereThere}
 use Rattle.format.specs.Syntax as syntax
 use Rattle.format.specs.Syntax.{meansInstruction, valueOf}
@@ -24,18 +26,20 @@ use Rattle.verdict.specs.declared.Verdict.{Verdict}
 use Rattle.verdict.specs.declared.Verdict.the-variants.{Always, Never, Undecided, NoBranch}
 use Rattle.verdict.specs.Numbers.{reasonNumber, verdictNumbers}
 use Rattle.verdict.specs.Numbers.Numbers.{decision}
-use Rattle.verdict_block.specs.Verdict.{Parts, preceded, apart, within, codeOf}
+use Rattle.verdict_block.specs.Verdict.{Parts, apart, codeOf}
 use Rattle.verdict_block.specs.Verdict.Parts.{none as noInstruction, ending}
 use Rattle.verdict_lines.specs.Lines.{Line, lineOf}
 use Rattle.verdict_lines.proofs.Decided.{reason-small}
-use Rattle.verdict_sheet.specs.Sites.{branchAt, unlessLater, lastBranch, lastSite}
+use Rattle.verdict_sheet.specs.Sites.{lastSite}
 use Rattle.verdict_sheet.specs.Said.{Said, blocksSay, firstDecided, linesOf}
-use Rattle.theorems.specs.Runs.{Source}
+use Rattle.theorems.specs.Runs.{Source, answerFor}
 use Rattle.theorems.specs.Runs.Source.{block, node}
-use Rattle.theorems.specs.Lines.{siteOf, targetAt, Due}
+use Rattle.theorems.specs.Branches.{In, InOrder, Branch}
+use Rattle.theorems.specs.Lines.{About, Due}
 use Rattle.theorems.proofs.Apart.{some-same, not-some}
 use Rattle.theorems.proofs.First.{nodesSay, Given}
-use Rattle.theorems.proofs.Deciding.{Decider, Decided, decided, one-decider}
+use Rattle.theorems.proofs.Found.{sheet-rising, ends-apart, apart-ends, jump-is, is-jump}
+use Rattle.theorems.proofs.Deciding.{siteOf, block-there, node-there, Decider, Decided, decided, one-decider}
 
 -- ---- the instructions of an accepted sheet
 
@@ -72,6 +76,11 @@ ordered s small sheet read =
 unfoldable pub Among : ℕ → List Instruction → Type 0
 Among a [] = ⊥
 Among a (i ∷ code) = (i .address ≡ a) ⊎ Among a code
+
+-- the target of the instruction at an address
+unfoldable pub targetAt : List Instruction → ℕ → ℕ
+targetAt [] site = 0
+targetAt (i ∷ code) site = cond (eqb (i .address) site) (i .target) (targetAt code site)
 
 -- ---- the lines
 
@@ -200,53 +209,60 @@ module _ (said : List Said) where
 
 -- ---- the branch of a block or a node is one of the sheet's
 
-last-among : (l : List Instruction) (a : ℕ) → lastSite (apart l) ≡ some a → Among a l
-unfolding apart Among
-last-among [] a e = not-some e
-last-among (i ∷ l) a e = go (apart l) e (last-among l a)
-  where
-    its : (t : Bool) → cond t (some (i .address)) none ≡ some a → i .address ≡ a
-    its true e = some-same e
-    its false e = not-some e
+listed-among : (l : List Instruction) (i : Instruction) → In i l → Among (i .address) l
+unfolding In Among
+listed-among [] i h = h
+listed-among (j ∷ l) i h = ⊎-elim (λ e. inl (ap (λ (x : Instruction). x .address) (sym e))) (λ later. inr (listed-among l i later)) h
 
-    go : (parts : Parts) → lastSite (preceded i parts) ≡ some a → (lastSite parts ≡ some a → Among a l) → (i .address ≡ a) ⊎ Among a l
-    go noInstruction e rest = inl (its (i .branch) e)
-    go (ending before last) e rest = inr (rest e)
+-- the target of an instruction that stands in a rising list
+listed-target : (l : List Instruction) → InOrder l → (i : Instruction) → In i l → targetAt l (i .address) ≡ i .target
+unfolding targetAt In InOrder
+listed-target [] up i h = absurd h
+listed-target (j ∷ l) up i h =
+    byTest (eqb (j .address) (i .address))
+    (λ t. rw t (⊎-elim (λ e. rw e) (λ later. let below = up .0 i later in absurd (omega (arith, below, eqb-true (j .address) (i .address) t))) h))
+    (λ t. rw t
+    (⊎-elim (λ e. absurd (eqb-false (j .address) (i .address) t (ap (λ (x : Instruction). x .address) (sym e)))) (λ later. listed-target l (up .1) i later) h))
 
-within-among : (from to : ℕ) (l : List Instruction) (a : ℕ) → Among a (within from to l) → Among a l
-unfolding within Among
-within-among from to [] a h = h
-within-among from to (i ∷ l) a h = go (leb from (i .address) && ltb (i .address) to) h (within-among from to l a)
-  where
-    go : (t : Bool) → Among a (cond t (i ∷ within from to l) (within from to l)) → (Among a (within from to l) → Among a l) → (i .address ≡ a) ⊎ Among a l
-    go true h rest = ⊎-elim (λ same. inl same) (λ later. inr (rest later)) h
-    go false h rest = inr (rest h)
+last-in : (before : List Instruction) (last : Instruction) → In last (before ++ (last ∷ []))
+unfolding In
+last-in [] last = inl refl
+last-in (i ∷ before) last = inr (last-in before last)
 
-branch-among : (code : List Instruction) (a : ℕ) → branchAt code a ≡ true → Among a code
-unfolding branchAt Among
-branch-among [] a e = let z : _≡_ {A = ℕ} 0 1 = cc in absurd (omega arith)
-branch-among (i ∷ code) a e =
-    byTest (eqb (i .address) a) (λ t. inl (eqb-true (i .address) a t)) (λ t. inr (branch-among code a (rw t at e)))
+nodes-length : (s : List ℕ) (p : Place) (k : ℕ) → length (nodesFrom s p k .list) ≡ k
+unfolding nodesFrom
+nodes-length s p zero = refl
+nodes-length s p (suc k) = let n = nodes-length s p k in length-append (nodesFrom s p k .list) (_ ∷ []) ∙ omega (arith, n)
 
-jump-among : (code : List Instruction) (l : List ℕ) (a : ℕ) → lastBranch code l ≡ some a → Among a code
-unfolding lastBranch
-jump-among code [] a e = not-some e
-jump-among code (b ∷ l) a e = go (lastBranch code l) e (jump-among code l a)
-  where
-    its : (t : Bool) → branchAt code b ≡ t → cond t (some b) none ≡ some a → Among a code
-    its true t e = rw (← some-same e) (branch-among code b t)
-    its false t e = not-some e
+module _ (s : List ℕ) (sheet : Sheet) (read : readingOf s ≡ reading.Accepted sheet) where
+  about-branch : (from : Source) (a : ℕ) → About s from a → (to : ℕ) × Branch s a to
+  about-branch (block k) a h =
+      let listed = h .2 .code .holds (h .1) .0 (last-in (h .0) (h .1)) .0 in
+      (h .1 .target, record { instruction = h .1; listed = listed; branch = h .2 .branch; at = h .3; to = refl })
+  about-branch (node k) a h = (h .target, h .branch)
 
-    go : (o : Option ℕ) → unlessLater (cond (branchAt code b) (some b) none) o ≡ some a → (o ≡ some a → Among a code) → Among a code
-    go none e rest = its (branchAt code b) refl e
-    go (some c) e rest = rest e
+  branch-target : (a to : ℕ) → Branch s a to → targetAt (sheetAt s .instructions .list) a ≡ to
+  branch-target a to b =
+      rw (← b .at) (listed-target (sheetAt s .instructions .list) (sheet-rising s sheet read) (b .instruction) (b .listed) ∙ b .to)
 
-site-among : (s : List ℕ) (from : Source) (a : ℕ) → siteOf s from ≡ some a → Among a (sheetAt s .instructions .list)
-unfolding codeOf
-site-among s (block k) a e =
-    let b = getD (sheetAt s .blocks .list) k noBlock in
-    within-among (b .from) (b .to) (sheetAt s .instructions .list) a (last-among (codeOf s k) a e)
-site-among s (node k) a e = jump-among (sheetAt s .instructions .list) (nodeNumbered s k .addresses) a e
+  -- what the code finds is what a block or a node is about, and that alone
+  about-found : (from : Source) (a : ℕ) → About s from a → siteOf s from ≡ some a
+  about-found (block k) a h = rw (ends-apart s sheet read k (h .0) (h .1) (h .2), h .2 .branch, h .3)
+  about-found (node k) a h = jump-is s sheet read k a h
+
+  found-about : (from : Source) (a value reason : ℕ) → answerFor s from ≡ decision value reason → siteOf s from ≡ some a → About s from a
+  found-about (block k) a value reason e site = go (apart (codeOf s k)) refl site
+    where
+      go : (parts : Parts) → apart (codeOf s k) ≡ parts → lastSite parts ≡ some a → About s (block k) a
+      go noInstruction q site = not-some site
+      go (ending before last) q site =
+          byTest (last .branch)
+          (λ t. (before, last, apart-ends s sheet read k before last (block-there s sheet read k value reason e) q t, some-same (rw t at site)))
+          (λ t. not-some (rw t at site))
+  found-about (node k) a value reason e site =
+      let acc = accepted s sheet read in
+      let long : length (sheetAt s .nodes .list) ≡ sheet .nodes .count = rw (← acc .nodes) (nodes-length s _ (sheet .nodes .count)) in
+      is-jump s sheet read k a (rw long (node-there s sheet read k value reason e)) site
 
 -- ---- due
 
@@ -259,7 +275,17 @@ module _ (s : List ℕ) (sheet : Sheet) (read : readingOf s ≡ reading.Accepted
   line-due l h = go (firstDecided (l .site) said) (decided s sheet read given (l .site) said is) (h .verdict)
     where
       by : (v : Verdict) → Decider s (l .site) v → verdictNumbers v ≡ decision (l .value) (l .reason) → Due s l
-      by v d e = record { from = d .from; answer = d .answer-is ∙ e; site = d .site; target = h .target; first = d .first }
+      by v d e =
+          let about = found-about s sheet read (d .from) (l .site) (l .value) (l .reason) (d .answer-is ∙ e) (d .site) in
+          let b = about-branch s sheet read (d .from) (l .site) about in
+          let to : b .0 ≡ l .target = sym (branch-target s sheet read (l .site) (b .0) (b .1)) ∙ h .target in
+          record {
+            from = d .from;
+            answer = d .answer-is ∙ e;
+            site = about;
+            target = rw to at (b .1);
+            first = λ other earlier there. d .first other earlier (about-found s sheet read other (l .site) there);
+          }
 
       go : (v : Verdict) → Decided s (l .site) v → verdictNumbers v ≡ decision (l .value) (l .reason) → Due s l
       go (Always r) d e = by (Always r) d e
@@ -269,18 +295,22 @@ module _ (s : List ℕ) (sheet : Sheet) (read : readingOf s ≡ reading.Accepted
 
   pub due-line : (l : Line) → Due s l → At said code l
   due-line l d =
-      subst (λ (t : ℕ). At said code (record { site = l .site; target = t; value = l .value; reason = l .reason })) (d .target)
-      (every said code (l .site) (l .value) (l .reason) (site-among s (d .from) (l .site) (d .site))
+      subst (λ (t : ℕ). At said code (record { site = l .site; target = t; value = l .value; reason = l .reason })) (branch-target s sheet read (l .site) (l .target) (d .target))
+      (every said code (l .site) (l .value) (l .reason) (rw (← d .target .at) (listed-among code (d .target .instruction) (d .target .listed)))
       (go (firstDecided (l .site) said) (decided s sheet read given (l .site) said is)))
     where
+      its-site : siteOf s (d .from) ≡ some (l .site)
+      its-site = about-found s sheet read (d .from) (l .site) (d .site)
+
       by : (p : ℕ) (r : Reason) (v : Verdict) → verdictNumbers v ≡ decision p (reasonNumber r) → Decider s (l .site) v
           → verdictNumbers v ≡ decision (l .value) (l .reason)
       by p r v e w =
           e
-          ∙ one-decider s (l .site) (w .from) (d .from) p (reasonNumber r) (l .value) (l .reason) (w .site) (w .answer-is ∙ e) (w .first) (d .site) (d .answer) (d .first)
+          ∙ one-decider s (l .site) (w .from) (d .from) p (reasonNumber r) (l .value) (l .reason) (w .site) (w .answer-is ∙ e) (w .first) its-site (d .answer)
+          (λ other earlier there value reason said. d .first other earlier (found-about s sheet read other (l .site) value reason said there) value reason said)
 
       go : (v : Verdict) → Decided s (l .site) v → verdictNumbers v ≡ decision (l .value) (l .reason)
       go (Always r) w = by 1 r (Always r) refl w
       go (Never r) w = by 0 r (Never r) refl w
-      go Undecided w = absurd (w (d .from) (d .site) (l .value) (l .reason) (d .answer))
-      go NoBranch w = absurd (w (d .from) (d .site) (l .value) (l .reason) (d .answer))
+      go Undecided w = absurd (w (d .from) its-site (l .value) (l .reason) (d .answer))
+      go NoBranch w = absurd (w (d .from) its-site (l .value) (l .reason) (d .answer))

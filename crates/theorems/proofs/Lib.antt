@@ -1,5 +1,6 @@
 -- the theorems
 pub mod Apart
+pub mod Found
 pub mod Sound
 pub mod Nodes
 pub mod Reasons
@@ -9,6 +10,7 @@ pub mod Outcomes
 pub mod Whole
 pub mod First
 pub mod Deciding
+pub mod Refusals
 pub mod DueLines
 pub mod InList
 pub mod Listing

@@ -280,4 +280,4 @@ pub lines-true : (s : List Byte) (list : List ℕ) (count k : ℕ) → listingOf
 lines-true s list count k e below =
     let d = lines-due s list count e .lines .due k below in
     let l = lineAt (listingOf (numbers s) list .list) k in
-    record { from = d .from; site = d .site; target = d .target; runs = runs-right s (d .from) (l .value) (l .reason) (d .answer) }
+    record { from = d .from; answer = d .answer; site = d .site; target = d .target; runs = runs-right s (d .from) (l .value) (l .reason) (d .answer) }

@@ -20,7 +20,7 @@ use Rattle.format.specs.Examples.{Example, examples}
 use Rattle.format.proofs.Unique.{all-bytes, format}
 use Rattle.format.proofs.Examples.{examples-hold}
 use Rattle.verdict.specs.declared.Verdict.the-variants as verdict
-use Rattle.verdict.specs.Numbers.Numbers.{decision, undecided, refused as refused-answer}
+use Rattle.verdict.specs.Numbers.Numbers.{decision, undecided, noBranch, refused as refused-answer}
 use Rattle.parity.specs.LowBit.{lowBit, AlwaysDiffer, low, Has, sharedBits, ownBits}
 use Rattle.decide.specs.Decide.{decide}
 use Rattle.decide.specs.Decided.{Decided}
@@ -43,6 +43,7 @@ use Rattle.theorems.proofs.Worked.{as-worked}
 use Rattle.theorems.proofs.Public.{answers-forced}
 use Rattle.theorems.proofs.Nodes.{node-decided, evaluation-agrees, probe-run}
 use Rattle.theorems.proofs.Reasons.{node-decided-as, node-undecided-where}
+use Rattle.theorems.proofs.Refusals.{node-branch, node-number, listing-number}
 use Rattle.theorems.proofs.Outcomes.{answers-run, fourteen, refusal-number}
 use Rattle.theorems.proofs.Whole.{runs-right}
 use Rattle.theorems.proofs.Listing.{lines-true, lines-due, refused-for, list-kept}
@@ -77,6 +78,10 @@ due-lines = lines-due
 pub refused-listings : (s : List Byte) (list : List ℕ) (number place : ℕ)
     → (listingOf (numbers s) list .answer ≡ refused-listing number place) ↔ Refuses (numbers s) list number place
 refused-listings = refused-for
+
+-- A listing is refused with a number from 1 to 12; so 0, which a C host gets with the lines, is no refusal.
+pub listing-refusals : (s list : List ℕ) {k at : ℕ} → listingOf s list .answer ≡ refused-listing k at → (1 ≤ k) × (k ≤ 12)
+listing-refusals = listing-number
 
 -- A refused listing leaves the list as it was.
 pub kept-list : (s : List Byte) (list : List ℕ) (number place : ℕ) → listingOf (numbers s) list .answer ≡ refused-listing number place
@@ -117,6 +122,14 @@ node-undecided = node-undecided-where
 -- Conditions worked out by hand have their verdicts: every reason of a node, and the order of the steps.
 pub worked-conditions : YieldsEach conditions
 worked-conditions = worked
+
+-- No answer for a node is 'no branch': a node that is not refused is undecided, or decided.
+pub node-has-branch : (s : List ℕ) (number : ℕ) → nodeAnswer s number ≡ noBranch → ⊥
+node-has-branch = node-branch
+
+-- A node verdict is refused with a number from 1 to 11 or with 13, so never with 0.
+pub node-refusals : (s : List ℕ) (number : ℕ) {k at : ℕ} → nodeAnswer s number ≡ refused-answer k at → ((1 ≤ k) × (k ≤ 11)) ⊎ (k ≡ 13)
+node-refusals = node-number
 
 -- In every evaluation the low bit of a part that has a value is its low bit at the bits that its atoms' values have.
 pub low-bit-values : (types : List ℕ) (ρ σ : Values) (m : Contents) (f : Effects) (e : Expr) → Has (ev types ρ σ (shared m) f e)

@@ -1,14 +1,16 @@
 -- Blocks, by the answers that the contract of the block verdict speaks of: whatever the bytes, no run goes against a decision, and a decision is
 -- given exactly where what is known forces the branch.
 use Prim.Native.Nat.{ℕ, _<_}
-use mathlib.Core.Path.{_≡_, refl, sym, ap, subst, _∙_}
+use mathlib.Core.Path.{_≡_, refl, sym, subst, _∙_}
 use mathlib.Core.List.{List}
 use mathlib.Core.Logic.{_↔_}
 use mathlib.Core.Bool.{Bool, true, false, cond}
 use native.Mathlib.Omega.{arith}
-use borrow.Author.Tests.{lt-ltb}
+use borrow.Author.Tests.{ltb-true, lt-ltb}
 use lib.Dec.{ltb}
+use Rattle.isa.specs.declared.Instruction.{Instruction}
 use Rattle.machine.specs.Registers.{nothingKnown}
+use Rattle.machine.specs.Rules.{steppedAll}
 use Rattle.sheet.specs.declared.Sheet.{Sheet}
 use Rattle.sheet.specs.declared.Reading.{Reading}
 use Rattle.sheet.specs.declared.Reading.the-variants as reading
@@ -19,15 +21,17 @@ use Rattle.verdict.specs.Numbers.{verdictNumbers, answerNumbers}
 use Rattle.verdict.specs.Numbers.Numbers.{decision}
 use Rattle.verdict.specs.declared.Answer.the-variants.{Given}
 use Rattle.verdict.proofs.Apart.{answers-apart}
-use Rattle.verdict_block.specs.declared.Jump.{Jump}
-use Rattle.verdict_block.specs.declared.Jump.the-variants.{Conditional, Nothing}
-use Rattle.verdict_block.specs.Verdict.{judged, endOn, verdictOn}
+use Rattle.verdict_block.specs.declared.Jump.the-variants.{Conditional}
+use Rattle.verdict_block.specs.Verdict.{Parts, apart, codeOf, endFrom, endOn, verdictOn}
+use Rattle.verdict_block.specs.Verdict.Parts.{none, ending}
 use Rattle.answer_block.specs.Block.{onReading, blockAnswer}
 use Rattle.theorems.specs.Runs.{Ends, ForcedEnd}
 use Rattle.theorems.specs.Runs.Source.{block}
-use Rattle.theorems.specs.Runs.Outcome.{jumped}
+use Rattle.theorems.specs.Branches.{EndsIn}
 use Rattle.theorems.proofs.Apart.{no-decision}
-use Rattle.theorems.proofs.Sound.{NotAgainst, blocks-right}
+use Rattle.theorems.proofs.Found.{ends-apart, apart-ends}
+use Rattle.theorems.proofs.Sound.{runOn, NotAgainst, blocks-right}
+use Rattle.theorems.proofs.Sound.Outcome.{jumped}
 use Rattle.theorems.proofs.Forced.{saying, blocks-forced}
 use Rattle.laws.proofs.Booleans.{byTest}
 
@@ -35,6 +39,7 @@ use Rattle.laws.proofs.Booleans.{byTest}
 record Decision (s : List ℕ) (number value reason : ℕ) : Type 0 where
   sheet : Sheet
   read : readingOf s ≡ reading.Accepted sheet
+  below : number < sheet .blocks .count
   is : verdictNumbers (verdictOn s number) ≡ decision value reason
 
 decided-by : (s : List ℕ) (number value reason : ℕ) → blockAnswer s number ≡ decision value reason → Decision s number value reason
@@ -45,7 +50,7 @@ decided-by s number value reason e = go (readingOf s) refl e
     go (reading.Refused k at) q h = no-decision h
     go (reading.Accepted sheet) q h =
         byTest (ltb number (sheet .blocks .count))
-        (λ t. record { sheet = sheet; read = q; is = rw t at h })
+        (λ t. record { sheet = sheet; read = q; below = ltb-true number (sheet .blocks .count) t; is = rw t at h })
         (λ t. no-decision (rw t at h))
 
 against : (v : Verdict) (value reason : ℕ) (went : Bool) → verdictNumbers v ≡ decision value reason → NotAgainst v (jumped went) → value ≡ cond went 1 0
@@ -59,10 +64,13 @@ against verdict.NoBranch value reason went e h = let z : _≡_ {A = ℕ} 0 1 = c
 -- The theorem: no run of a block goes against a decision on it.
 pub block-runs : (s : List ℕ) (number value reason : ℕ) → blockAnswer s number ≡ decision value reason
     → (went : Bool) → Ends s (block number) went → value ≡ cond went 1 0
+unfolding runOn
 block-runs s number value reason e went r =
     let d = decided-by s number value reason e in
+    let is : runOn s number (r .start) (r .free) (r .chosen) ≡ jumped went =
+    rw (ends-apart s (d .sheet) (d .read) number (r .before) (r .last) (r .ends), r .ends .branch, r .jumps) in
     against (verdictOn s number) value reason went (d .is)
-    (subst (NotAgainst (verdictOn s number)) (r .3) (blocks-right s (d .sheet) (d .read) number (r .0) (r .1) (r .2)))
+    (subst (NotAgainst (verdictOn s number)) is (blocks-right s (d .sheet) (d .read) number (r .start) (r .free) (r .chosen)))
 
 -- ---- forced
 
@@ -80,32 +88,42 @@ not-saying : {X : Type 0} (b : Bool) → verdict.NoBranch ≡ saying b → X
 not-saying true e = let z : _≡_ {A = ℕ} 0 1 = cc in absurd (omega arith)
 not-saying false e = let z : _≡_ {A = ℕ} 0 1 = cc in absurd (omega arith)
 
+-- what is known at a block's end
+ends-on : (s : List ℕ) (sheet : Sheet) → readingOf s ≡ reading.Accepted sheet → (number : ℕ) (before : List Instruction) (last : Instruction)
+    → EndsIn s number before last
+    → endOn s number nothingKnown ≡ record { known = steppedAll nothingKnown before; jump = Conditional (last .mnemonic) }
+unfolding endOn endFrom
+ends-on s sheet read number before last h = rw (ends-apart s sheet read number before last h, h .branch)
+
 -- an answer that is always (never) comes from a block that ends so
 answer-forces : (s : List ℕ) (number : ℕ) (b : Bool) → blockAnswer s number ≡ decision (cond b 1 0) 1 → ForcedEnd s number b
-unfolding verdictOn
+unfolding verdictOn endOn endFrom
 answer-forces s number b e =
     let d = decided-by s number (cond b 1 0) 1 e in
-    go d (endOn s number nothingKnown .jump) refl (saying-is (verdictOn s number) b (d .is))
+    go d (apart (codeOf s number)) refl (saying-is (verdictOn s number) b (d .is))
   where
-    go : Decision s number (cond b 1 0) 1 → (j : Jump) → endOn s number nothingKnown .jump ≡ j
-        → judged (endOn s number nothingKnown .known) (endOn s number nothingKnown .jump) ≡ saying b → ForcedEnd s number b
-    go d (Conditional m) q is =
-        let ends : endOn s number nothingKnown ≡ record { known = endOn s number nothingKnown .known; jump = Conditional m } =
-        ap (λ (x : Jump). record { known = endOn s number nothingKnown .known; jump = x }) q in
+    go : Decision s number (cond b 1 0) 1 → (parts : Parts) → apart (codeOf s number) ≡ parts → verdictOn s number ≡ saying b → ForcedEnd s number b
+    go d none q is = not-saying b (rw q at is)
+    go d (ending before last) q is =
+        byTest (last .branch)
+        (λ t.
+        let ends = apart-ends s (d .sheet) (d .read) number before last (d .below) q t in
+        let on = ends-on s (d .sheet) (d .read) number before last ends in
         record {
-          known = endOn s number nothingKnown .known;
-          mnemonic = m;
+          before = before;
+          last = last;
           ends = ends;
-          forces = blocks-forced s (d .sheet) (d .read) number (endOn s number nothingKnown .known) m ends b .0 is;
-        }
-    go d Nothing q is = not-saying b (rw q at is)
+          forces = blocks-forced s (d .sheet) (d .read) number (steppedAll nothingKnown before) (last .mnemonic) on b .0 is;
+        })
+        (λ t. not-saying b (rw (q, t) at is))
 
 -- and a block that ends so has that answer
 forced-answer : (s : List ℕ) (sheet : Sheet) → readingOf s ≡ reading.Accepted sheet → (number : ℕ) → number < sheet .blocks .count
     → (b : Bool) → ForcedEnd s number b → blockAnswer s number ≡ decision (cond b 1 0) 1
 unfolding blockAnswer
 forced-answer s sheet read number below b f =
-    rw (read, lt-ltb number (sheet .blocks .count) below, blocks-forced s sheet read number (f .known) (f .mnemonic) (f .ends) b .1 (f .forces))
+    let on = ends-on s sheet read number (f .before) (f .last) (f .ends) in
+    rw (read, lt-ltb number (sheet .blocks .count) below, blocks-forced s sheet read number (steppedAll nothingKnown (f .before)) (f .last .mnemonic) on b .1 (f .forces))
     (saying-said b)
 
 -- The theorem: for a block of an accepted sheet the answer is always (never) exactly where the block ends in a flag branch that what is known

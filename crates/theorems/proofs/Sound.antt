@@ -32,8 +32,20 @@ use Rattle.verdict.specs.declared.Verdict.the-variants as answer
 use Rattle.verdict_block.specs.Verdict.{within, codeOf, Parts, preceded, apart, flagVerdict, judged, verdictAt, endAt, endFrom, endOn, verdictOn, jumpOf}
 use Rattle.verdict_block.specs.Verdict.Parts.{none, ending}
 use Rattle.verdict.specs.declared.Verdict.{Verdict}
-use Rattle.theorems.specs.Runs.{Outcome, runAt, runOn}
-use Rattle.theorems.specs.Runs.Outcome.{jumped, nothing}
+
+-- a run's outcome: whether its last instruction jumps; none where that is no conditional branch
+pub data Outcome : Type 0 where
+  jumped : Bool → Outcome
+  nothing : Outcome
+
+abbrev pub runAt : Processor → (ℕ → Choice) → Bool → Parts → Outcome
+runAt start free last none = nothing
+runAt start free last (ending before i) =
+    cond (i .branch) (jumped (outcome (i .mnemonic) (executedAll start before free) last)) nothing
+
+-- the run of the block of that number, by the instructions that the code finds
+unfoldable pub runOn : List ℕ → ℕ → Processor → (ℕ → Choice) → Bool → Outcome
+runOn s number start free last = runAt start free last (apart (codeOf s number))
 
 -- Always means that the branch jumps, never that it does not; the other verdicts say nothing.
 abbrev pub NotAgainst : Verdict → Outcome → Type 0

@@ -1,3 +1,4 @@
+pub mod Branches
 pub mod Runs
 pub mod Lines
 pub mod Rows

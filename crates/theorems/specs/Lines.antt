@@ -2,26 +2,24 @@
 use Prim.Native.Nat.{ℕ, _+_, _*_, _≤_, _<_}
 use mathlib.Core.Path.{_≡_}
 use mathlib.Core.Bool.{Bool, cond}
-use mathlib.Core.List.{List, [], _∷_}
-use mathlib.Core.Option.{Option, some}
-use lib.Dec.{eqb}
+use mathlib.Core.List.{List}
 use lib.ListN.{length, getD}
 use Rattle.isa.specs.declared.Instruction.{Instruction}
 use Rattle.sheet_field.specs.Field.{little}
 use Rattle.sheet.specs.declared.Sheet.{Sheet}
 use Rattle.sheet.specs.declared.Reading.the-variants as reading
-use Rattle.sheet.specs.Sheet.{sheetAt, readingOf}
+use Rattle.sheet.specs.Sheet.{readingOf}
 use Rattle.verdict.specs.Numbers.Numbers.{decision, refused}
 use Rattle.verdict_lines.specs.Lines.{Line}
-use Rattle.verdict_sheet.specs.Sites.{blockSite, nodeSite}
 use Rattle.answer_node.specs.Node.{nodeAnswer}
+use Rattle.theorems.specs.Branches.{EndsIn, Branch, JumpAt}
 use Rattle.theorems.specs.Runs.{Source, answerFor, Ends}
 use Rattle.theorems.specs.Runs.Source.{block, node}
 
--- The address of the branch that a block or a node is about, if there is one: of a block's last instruction, of a node's jump (M22, S33).
-abbrev pub siteOf : List ℕ → Source → Option ℕ
-siteOf s (block number) = blockSite s number
-siteOf s (node number) = nodeSite s number
+-- The branch that a block or a node is about, by its address: the conditional branch that a block ends in, the jump of a node (M22, S33).
+abbrev pub About : List ℕ → Source → ℕ → Type 0
+About s (block number) site = (before : List Instruction) × (last : Instruction) × EndsIn s number before last × (last .address ≡ site)
+About s (node number) site = JumpAt s number site
 
 -- Blocks come before nodes, and earlier records before later ones (L4).
 abbrev pub Before : Source → Source → Type 0
@@ -30,19 +28,14 @@ Before (block a) (node b) = Unit {0}
 Before (node a) (block b) = ⊥
 Before (node a) (node b) = a < b
 
--- the target of the instruction at an address
-unfoldable pub targetAt : List Instruction → ℕ → ℕ
-targetAt [] site = 0
-targetAt (i ∷ code) site = cond (eqb (i .address) site) (i .target) (targetAt code site)
-
 -- A line is due: some block or node decides the branch at its site, with the line's value and reason, and none before it decides that branch; the
 -- target is that branch's (L4, L5, D7).
 pub record Due (s : List ℕ) (l : Line) : Type 0 where
   pub from : Source
   pub answer : answerFor s from ≡ decision (l .value) (l .reason)
-  pub site : siteOf s from ≡ some (l .site)
-  pub target : targetAt (sheetAt s .instructions .list) (l .site) ≡ l .target
-  pub first : (other : Source) → Before other from → siteOf s other ≡ some (l .site) → (value reason : ℕ) → answerFor s other ≡ decision value reason → ⊥
+  pub site : About s from (l .site)
+  pub target : Branch s (l .site) (l .target)
+  pub first : (other : Source) → Before other from → About s other (l .site) → (value reason : ℕ) → answerFor s other ≡ decision value reason → ⊥
 
 -- Lines, by number from 0, that are all lines due and no other; they rise by site, so that no site has two (L3, L4, L5).
 pub record AllDue (s : List ℕ) (count : ℕ) (line : ℕ → Line) : Type 0 where
@@ -81,10 +74,11 @@ pub data Refuses (s list : List ℕ) : ℕ → ℕ → Type 0 where
   noRoom : (sheet : Sheet) → Judged s sheet (sheet .nodes .count) → (count : ℕ) (line : ℕ → Line) → AllDue s count line → length list < 18 * count
       → Refuses s list 12 (length s)
 
--- A line is true of every run of the block or node that it comes from: that has its branch at the line's site, and a run of it that has an outcome
+-- A line is true of every run of the block or node that it comes from: the answer for that is the line's, its branch is at the line's site, and a run of it that has an outcome
 -- jumps, or its condition holds, where the line says always, which is 1, and does not where it says never, 0 (L7, D8).
 pub record TrueOf (s : List ℕ) (l : Line) : Type 0 where
   pub from : Source
-  pub site : siteOf s from ≡ some (l .site)
-  pub target : targetAt (sheetAt s .instructions .list) (l .site) ≡ l .target
+  pub answer : answerFor s from ≡ decision (l .value) (l .reason)
+  pub site : About s from (l .site)
+  pub target : Branch s (l .site) (l .target)
   pub runs : (went : Bool) → Ends s from went → l .value ≡ cond went 1 0

@@ -4,15 +4,14 @@ use mathlib.Core.Path.{_≡_}
 use mathlib.Core.List.{List}
 use mathlib.Core.Bool.{Bool, cond}
 use Rattle.isa.specs.declared.Mnemonic.{Mnemonic}
+use Rattle.isa.specs.declared.Instruction.{Instruction}
 use Rattle.concrete.specs.Concrete.{Processor, Choice, executedAll, outcome}
 use Rattle.concrete.specs.Agreement.{Agrees}
 use Rattle.machine.specs.declared.State.{State}
 use Rattle.machine.specs.Registers.{nothingKnown}
+use Rattle.machine.specs.Rules.{steppedAll}
 use Rattle.verdict.specs.Numbers.{Numbers}
 use Rattle.sheet.specs.Sheet.{nodeNumbered}
-use Rattle.verdict_block.specs.declared.Jump.the-variants.{Conditional}
-use Rattle.verdict_block.specs.Verdict.{Parts, apart, codeOf, endOn}
-use Rattle.verdict_block.specs.Verdict.Parts.{none, ending}
 use Rattle.value.specs.declared.Truth.{Truth}
 use Rattle.value.specs.declared.Truth.the-variants as truth
 use Rattle.value.specs.Run.{Choices, run}
@@ -20,22 +19,19 @@ use Rattle.answer_block.specs.Block.{blockAnswer}
 use Rattle.answer_node.specs.Node.{nodeAnswer}
 use Rattle.answer_evaluation.specs.Evaluation.{Evaluated}
 use Rattle.answer_evaluation.specs.Evaluation.Evaluated.{outcome as evaluated, refused}
+use Rattle.theorems.specs.Branches.{EndsIn}
 
--- A run's outcome: whether its last instruction jumps; none where that is no conditional branch.
-pub data Outcome : Type 0 where
-  jumped : Bool → Outcome
-  nothing : Outcome
-
--- A block's run, from a start state: the instructions in order, each with what it takes from outside. The outcome tells whether the last instruction
--- jumps: by the manual, or, where its mnemonic is no jump's, as is chosen (M24, M29).
-abbrev pub runAt : Processor → (ℕ → Choice) → Bool → Parts → Outcome
-runAt start free last none = nothing
-runAt start free last (ending before i) =
-    cond (i .branch) (jumped (outcome (i .mnemonic) (executedAll start before free) last)) nothing
-
--- the run of the block of that number
-unfoldable pub runOn : List ℕ → ℕ → Processor → (ℕ → Choice) → Bool → Outcome
-runOn s number start free last = runAt start free last (apart (codeOf s number))
+-- A run of the block of a number, which has an outcome where the block ends in a conditional branch: from a start state the instructions before that
+-- in order, each with what it takes from outside. The outcome tells whether the branch jumps: by the manual, or, where its mnemonic is no jump's, as
+-- is chosen (M24, M29).
+pub record BlockRun (s : List ℕ) (number : ℕ) (went : Bool) : Type 0 where
+  pub before : List Instruction
+  pub last : Instruction
+  pub ends : EndsIn s number before last
+  pub start : Processor
+  pub free : ℕ → Choice
+  pub chosen : Bool
+  pub jumps : outcome (last .mnemonic) (executedAll start before free) chosen ≡ went
 
 -- the run of the node of that number
 abbrev pub nodeRun : List ℕ → ℕ → Choices → Truth
@@ -63,7 +59,7 @@ answerFor s (node number) = nodeAnswer s number
 
 -- Some run of it has an outcome, and this one: the branch jumps, or the condition holds, or not (M24, M29, N20, N23, S34).
 abbrev pub Ends : List ℕ → Source → Bool → Type 0
-Ends s (block number) went = (start : Processor) × (free : ℕ → Choice) × (last : Bool) × (runOn s number start free last ≡ jumped went)
+Ends s (block number) went = BlockRun s number went
 Ends s (node number) went = (c : Choices) × (nodeRun s number c ≡ cond went truth.Holds truth.Fails)
 
 -- Forced (a term of the scope document) one way: the branch jumps, or does not, in every concrete state that agrees with
@@ -71,9 +67,10 @@ Ends s (node number) went = (c : Choices) × (nodeRun s number c ≡ cond went t
 abbrev pub Forced : State → Mnemonic → Bool → Type 0
 Forced known mnemonic b = (q : Processor) (free : Bool) → Agrees known q → outcome mnemonic q free ≡ b
 
--- The block of that number ends in a flag branch, and what is known there forces it one way (M21, M23).
+-- The block of that number ends in a conditional branch, and what the rules of the machine yield from the instructions before it, where nothing is known
+-- at the start, forces it one way (M4, M21, M23).
 pub record ForcedEnd (s : List ℕ) (number : ℕ) (b : Bool) : Type 0 where
-  pub known : State
-  pub mnemonic : Mnemonic
-  pub ends : endOn s number nothingKnown ≡ record { known = known; jump = Conditional mnemonic }
-  pub forces : Forced known mnemonic b
+  pub before : List Instruction
+  pub last : Instruction
+  pub ends : EndsIn s number before last
+  pub forces : Forced (steppedAll nothingKnown before) (last .mnemonic) b
