@@ -90,7 +90,8 @@ pub too-long : (s : List ℕ) {old new : List ℕ} {r : ℕ} → 65536 < length 
 unfolding printed
 too-long s long w = rw (lt-ltb 65536 (length s) long) w
 
-within : (s : List ℕ) → length s ≤ 65536 → printed s ≡ readText (readingOf s) s
+-- at most 65,536 bytes are read
+pub within : (s : List ℕ) → length s ≤ 65536 → printed s ≡ readText (readingOf s) s
 unfolding printed
 within s short = rw (le-ltb 65536 (length s) short)
 

@@ -15,4 +15,5 @@ pub mod DueLines
 pub mod InList
 pub mod Listing
 pub mod Worked
+pub mod Program
 pub mod Main

@@ -5,6 +5,7 @@ use mathlib.Core.Path.{_≡_}
 use mathlib.Core.List.{List}
 use mathlib.Core.Logic.{_⊎_, _↔_}
 use mathlib.Core.Bool.{Bool, cond}
+use lib.ListN.{length}
 use Rattle.expr.specs.Codes.{opEqual, opNotEqual}
 use Rattle.expr.specs.Tree.{Expr}
 use Rattle.expr.specs.Tree.Expr.{binary}
@@ -35,8 +36,11 @@ use Rattle.answer_listing.specs.Listing.{listingOf}
 use Rattle.answer_listing.specs.Listing.ListedNumbers.{lines, refused as refused-listing}
 use Rattle.answer_evaluation.specs.Evaluation.{evaluationAnswer}
 use Rattle.answer_evaluation.specs.Evaluation.Evaluated.{outcome, refused}
+use Rattle.listing.specs.Program.{printed}
 use Rattle.theorems.specs.Runs.{Source, answerFor, Ends, ForcedEnd, nodeRun, SaysOf, AnswerFromRun}
 use Rattle.theorems.specs.Lines.{lineAt, Listed, Refuses, TrueOf}
+use Rattle.theorems.specs.Ascii.{ascii}
+use Rattle.theorems.specs.Text.{textOf, Sample, samples}
 use Rattle.theorems.specs.Rows.{Yields, rows, probe, marked}
 use Rattle.theorems.specs.Sheets.{Worked}
 use Rattle.theorems.proofs.Worked.{as-worked}
@@ -46,6 +50,7 @@ use Rattle.theorems.proofs.Reasons.{node-decided-as, node-undecided-whe
 use Rattle.theorems.proofs.Refusals.{node-branch, node-number, listing-number}
 use Rattle.theorems.proofs.Outcomes.{answers-run, fourteen, refusal-number}
 use Rattle.theorems.proofs.Whole.{runs-right}
+use Rattle.theorems.proofs.Program.{text-is, limit-is, as-sampled}
 use Rattle.theorems.proofs.Listing.{lines-true, lines-due, refused-for, list-kept}
 
 -- Reading accepts exactly the bytes of the valid sheets, and yields their content; a refusal has a number from 1 to 9 and a place within the sheet.
@@ -87,6 +92,20 @@ listing-refusals = listing-number
 pub kept-list : (s : List Byte) (list : List ℕ) (number place : ℕ) → listingOf (numbers s) list .answer ≡ refused-listing number place
     → listingOf (numbers s) list .list ≡ list
 kept-list = list-kept
+
+-- What the listing program writes for at most 65,536 bytes is the text of the listing's answer and lines, on any list with room for a line of each
+-- instruction that a sheet can have.
+pub program-text : (s list : List ℕ) → length s ≤ 65536 → 36864 ≤ length list
+    → printed s ≡ textOf (listingOf s list .answer) (listingOf s list .list)
+program-text = text-is
+
+-- For longer input it is a refusal, whatever the bytes.
+pub program-limit : (s : List ℕ) → 65536 < length s → printed s ≡ ascii "refused 1 at 65536\n"
+program-limit = limit-is
+
+-- For short inputs it is the text worked out by hand, the scope document's two lines first.
+pub program-samples : All (λ (x : Sample). printed (x .bytes) ≡ ascii (x .text)) samples
+program-samples = as-sampled
 
 -- For a block of an accepted sheet the answer is always (never) exactly where the block ends in a flag branch that what is known there forces to jump
 -- (not to jump); its reason is 1.

@@ -11,7 +11,7 @@ use Rattle.theorems.specs.Sheets as worked
 use Rattle.theorems.specs.Sheets.{BlockRow, NodeRow, EvaluationRow, ListingRow, sheet, withNode, Worked}
 
 -- two functions that are the same on a list are so on each of its entries
-each : {A B : Type 0} (f g : A → B) (l : List A) → map f l ≡ map g l → All (λ (x : A). f x ≡ g x) l
+pub each : {A B : Type 0} (f g : A → B) (l : List A) → map f l ≡ map g l → All (λ (x : A). f x ≡ g x) l
 unfolding All
 each f g [] e = tt
 each f g (x ∷ l) e = (cc, each f g l cc)

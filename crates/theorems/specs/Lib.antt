@@ -1,5 +1,7 @@
 pub mod Branches
 pub mod Runs
 pub mod Lines
+pub mod Ascii
+pub mod Text
 pub mod Rows
 pub mod Sheets
