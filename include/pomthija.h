@@ -3,10 +3,11 @@
  * The host answers for this much; the library checks everything else by itself:
  *   - a pointer is good for as many elements as the length beside it says. Where that is 0, any
  *     pointer will do, also NULL;
- *   - out is not NULL, and shares no byte with the sheet, the values or the list, nor these with
- *     each other;
- *   - nothing writes to the sheet or to the values, and nothing touches the list, while a call runs.
- * A call writes to *out, and the listing to the list where it is not refused; to nothing else.
+ *   - out and reason are not NULL, and share no byte with each other, the sheet, the values or the
+ *     list, nor these with each other;
+ *   - nothing writes to the sheet or to the values, and nothing touches the list, while a call runs;
+ *   - the calling thread has POMTHIJA_STACK bytes of its stack left.
+ * A call writes to *out and *reason, and the listing to the list where it is not refused; to nothing else.
  * Nothing is allocated or kept, so threads may call at the same time.
  *
  * The functions are proved; that this header describes them, and what a host does, is not. */
@@ -25,6 +26,50 @@ _Static_assert(sizeof(size_t) == 8, "the library takes lengths of 64 bits");
 #ifdef __cplusplus
 extern "C" {
 #endif
+
+/* The number of this interface. pomthija_version gives the library's: where the two differ, this is not
+ * the header of the library that the host is linked with. */
+#define POMTHIJA_VERSION 1
+
+uint64_t pomthija_version(void);
+
+/* Limits: a sheet with more is refused. */
+enum {
+    POMTHIJA_MAX_INSTRUCTIONS = 2048, /* of a sheet */
+    POMTHIJA_MAX_BLOCKS = 1024,
+    POMTHIJA_MAX_NODES = 1024,
+    POMTHIJA_MAX_VARIABLES = 32,      /* of a node */
+    POMTHIJA_MAX_STATEMENTS = 64,
+    POMTHIJA_MAX_ADDRESSES = 16,
+    POMTHIJA_MAX_RECORDS = 128        /* of an expression */
+};
+
+/* Bytes: of a line of the listing, of a list that is long enough for every sheet, and of stack that is
+ * enough for every call (measured, not proved). */
+enum {
+    POMTHIJA_LINE = 18,
+    POMTHIJA_LIST = POMTHIJA_MAX_INSTRUCTIONS * POMTHIJA_LINE,
+    POMTHIJA_STACK = 512 * 1024
+};
+
+/* What is said of a branch. */
+enum pomthija_verdict {
+    POMTHIJA_NEVER = 0,
+    POMTHIJA_ALWAYS = 1,
+    POMTHIJA_UNDECIDED = 2
+};
+
+/* Why it is decided. */
+enum pomthija_reason {
+    POMTHIJA_REASON_NONE = 0,          /* it is not */
+    POMTHIJA_REASON_FLAGS = 1,         /* what is known of flags and registers, of a block; the others are of nodes */
+    POMTHIJA_REASON_EQUAL_SIDES = 2,   /* a comparison of equal sides */
+    POMTHIJA_REASON_TRUTH = 3,         /* a condition that is true or false itself */
+    POMTHIJA_REASON_UNSIGNED_ZERO = 4, /* an unsigned cast compared with 0 */
+    POMTHIJA_REASON_EXACT_SIDES = 5,   /* exact low bits */
+    POMTHIJA_REASON_PARITY = 6,        /* low bits that differ */
+    POMTHIJA_REASON_HALVES = 7         /* both halves of && or || together */
+};
 
 /* What a function returns: 0, or the number of a refusal, which is never 0. A refusal leaves its
  * place in *out. That is an offset in bytes from the start of the sheet, except for
@@ -66,17 +111,20 @@ enum {
 uint64_t pomthija_evaluation(const uint8_t *sheet, size_t sheet_length, uint64_t node,
                              const uint64_t *values, size_t value_count, uint64_t *out);
 
+/* The verdict on one node of a sheet, numbered from 0: returns POMTHIJA_OK with the verdict in *out and
+ * the reason in *reason, POMTHIJA_REASON_NONE where it is undecided, or else a refusal, with POMTHIJA_REASON_NONE
+ * in *reason. POMTHIJA_ALWAYS says that the condition holds in every run of the node that has an outcome,
+ * POMTHIJA_NEVER that it holds in none. */
+uint64_t pomthija_node_verdict(const uint8_t *sheet, size_t sheet_length, uint64_t node, uint64_t *out,
+                               uint64_t *reason);
+
 /* Lists the decided branches of a sheet: returns POMTHIJA_OK with the number of lines in *out, or else
  * a refusal, which leaves the list as it was.
  *
  * A line has POMTHIJA_LINE bytes: the branch's address in 8 and its target in 8, lowest byte first, then
- * 1 if it always jumps or 0 if it never does, then the number of the reason: 1 what is known of flags
- * and registers, 2 equal sides, 3 a condition that is true or false itself, 4 an unsigned cast compared
- * with 0, 5 exact low bits, 6 low bits that differ, 7 both halves together. The lines stand at the front
- * of the list, with rising addresses, at most one for each address; the list after them stays as it was.
- * A sheet has at most 2,048 instructions, so 2,048 * POMTHIJA_LINE bytes always suffice. */
-enum { POMTHIJA_LINE = 18 };
-
+ * POMTHIJA_ALWAYS or POMTHIJA_NEVER in one, then the reason in one. The lines stand at the front of the
+ * list, with rising addresses, at most one for each address; the list after them stays as it was. A list
+ * of POMTHIJA_LIST bytes always suffices. */
 uint64_t pomthija_listing(const uint8_t *sheet, size_t sheet_length, uint8_t *list, size_t list_length,
                           uint64_t *out);
 

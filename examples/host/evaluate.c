@@ -5,11 +5,11 @@
 #include "pomthija.h"
 
 static uint8_t sheet[1 << 20];
-static uint64_t values[32]; /* a node has no more variables */
+static uint64_t values[POMTHIJA_MAX_VARIABLES];
 
 int main(int argc, char **argv)
 {
-    FILE *file = argc >= 3 && argc <= 35 ? fopen(argv[1], "rb") : NULL;
+    FILE *file = argc >= 3 && argc <= 3 + POMTHIJA_MAX_VARIABLES ? fopen(argv[1], "rb") : NULL;
     size_t length = file ? fread(sheet, 1, sizeof sheet, file) : 0;
     if (!file || ferror(file) || length == sizeof sheet) {
         fprintf(stderr, "usage: evaluate SHEET NODE [VALUE ...], the sheet below 1 MiB\n");

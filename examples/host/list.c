@@ -4,7 +4,7 @@
 #include "pomthija.h"
 
 static uint8_t sheet[1 << 20];
-static uint8_t list[2048 * POMTHIJA_LINE]; /* never too short */
+static uint8_t list[POMTHIJA_LIST]; /* never too short */
 
 static uint64_t address(const uint8_t *bytes)
 {
@@ -29,6 +29,6 @@ int main(int argc, char **argv)
     }
     for (const uint8_t *line = list; out > 0; out--, line += POMTHIJA_LINE)
         printf("0x%" PRIx64 " to 0x%" PRIx64 ": %s taken, reason %d\n", address(line), address(line + 8),
-               line[16] ? "always" : "never", line[17]);
+               line[16] == POMTHIJA_ALWAYS ? "always" : "never", line[17]);
     return 0;
 }

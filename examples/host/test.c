@@ -1,11 +1,12 @@
-/* The test of the C interface, in C and in C++: the evaluation and the listing on good sheets, and on a sheet, a list or values
- * for each refusal. What is lent to be read may only be read, and the pages on both sides of all that is lent may not be touched
- * at all; each case is tried with its last byte at the end of its page and with its first byte at the start. Says how many cases
- * went wrong. */
+/* The test of the C interface, in C and in C++: each function on good sheets, and on a sheet, a list or values for each refusal.
+ * What is lent to be read may only be read, and the pages on both sides of all that is lent may not be touched at all; each case is
+ * tried with its last byte at the end of its page and with its first byte at the start. All calls run on a stack of POMTHIJA_STACK
+ * bytes. Says how many cases went wrong. */
 #include <inttypes.h>
 #include <stdio.h>
 #include <string.h>
 #include <sys/mman.h>
+#include <ucontext.h>
 #include "pomthija.h"
 
 enum { PAGE = 4096 };
@@ -77,6 +78,19 @@ static void evaluates(const char *name, const uint8_t *s, size_t length, uint64_
         uint64_t returned = pomthija_evaluation(lent_sheet, length, node, lent_values, count, &got[1]);
         if (returned != answer || got[1] != out || got[0] != 55 || got[2] != 77) {
             printf("%s: returned %" PRIu64 " with %" PRIu64 "\n", name, returned, got[1]);
+            wrong++;
+        }
+    }
+}
+
+static void judges(const char *name, const uint8_t *s, size_t length, uint64_t node, uint64_t answer, uint64_t out, uint64_t reason)
+{
+    for (int at_end = 0; at_end < 2; at_end++) {
+        const uint8_t *lent_sheet = s ? (const uint8_t *)lent(sheet_page, s, length, at_end) : NULL;
+        uint64_t got[5] = {55, 66, 77, 88, 99};
+        uint64_t returned = pomthija_node_verdict(lent_sheet, length, node, &got[1], &got[3]);
+        if (returned != answer || got[1] != out || got[3] != reason || got[0] != 55 || got[2] != 77 || got[4] != 99) {
+            printf("%s: returned %" PRIu64 " with %" PRIu64 " and %" PRIu64 "\n", name, returned, got[1], got[3]);
             wrong++;
         }
     }
@@ -188,6 +202,48 @@ static void write_wide(void)
     put(0, 2);
 }
 
+/* a sheet whose one node has two variables of type 6, no statement and this condition */
+static void write_condition(uint64_t records, const uint8_t *bytes, size_t length)
+{
+    used = 0;
+    put(0, 2), put(0, 2), put(1, 2);
+    put(2, 2), put(6, 1), put(6, 1);
+    put(0, 2);
+    put(records, 2);
+    for (size_t i = 0; i < length; i++)
+        put(bytes[i], 1);
+    put(0, 2);
+}
+
+/* a sheet that reading refuses, before anything else is asked */
+static void refuses(const char *name, const uint8_t *s, size_t length, uint64_t answer, uint64_t place)
+{
+    evaluates(name, s, length, 0, NULL, 0, answer, place);
+    judges(name, s, length, 0, answer, place, POMTHIJA_REASON_NONE);
+    lists(name, s, length, 100, answer, place, NULL, 0);
+}
+
+static void refusals(void)
+{
+    refuses("no bytes", NULL, 0, POMTHIJA_ENDS, 0);
+    refuses("cut", sheet, sizeof sheet - 1, POMTHIJA_ENDS, sizeof sheet - 2);
+    uint8_t bad[sizeof sheet];
+    memcpy(bad, sheet, sizeof sheet);
+    bad[8] = 10;
+    refuses("a type outside its table", bad, sizeof bad, POMTHIJA_CODE, 8);
+    bad[8] = 6;
+    bad[6] = 33;
+    refuses("a count over its limit", bad, sizeof bad, POMTHIJA_COUNT, 6);
+    refuses("an address twice", twice, sizeof twice, POMTHIJA_ADDRESS, 13);
+    refuses("an ill formed register", ill_formed, sizeof ill_formed, POMTHIJA_REGISTER, 13);
+    refuses("undeclared flags", undeclared, sizeof undeclared, POMTHIJA_INSTRUCTION, 2);
+    bad[6] = 1;
+    bad[11] = 4;
+    refuses("not one tree", bad, sizeof bad, POMTHIJA_TREE, sizeof bad - 4);
+    refuses("a constant above its width", wide, sizeof wide, POMTHIJA_CONSTANT, 14);
+    refuses("a value of another type", untyped, sizeof untyped, POMTHIJA_TYPE, 11);
+}
+
 static void evaluations(void)
 {
     const uint64_t five[] = {5, 99}, three[] = {3}, zero[] = {0}, large[] = {0x100000000};
@@ -201,33 +257,71 @@ static void evaluations(void)
     evaluates("-1 with bits above its type", negative, sizeof negative, 0, extended, 1, POMTHIJA_VALUE, 0);
     evaluates("no such node", sheet, sizeof sheet, 1, five, 1, POMTHIJA_NUMBER, 0);
     evaluates("an effect", effect, sizeof effect, 0, NULL, 0, POMTHIJA_NOT_PLAIN, 6);
-    evaluates("no bytes", NULL, 0, 0, NULL, 0, POMTHIJA_ENDS, 0);
-    evaluates("cut", sheet, sizeof sheet - 1, 0, five, 1, POMTHIJA_ENDS, sizeof sheet - 2);
-    evaluates("an address twice", twice, sizeof twice, 0, NULL, 0, POMTHIJA_ADDRESS, 13);
-    evaluates("an ill formed register", ill_formed, sizeof ill_formed, 0, NULL, 0, POMTHIJA_REGISTER, 13);
-    evaluates("undeclared flags", undeclared, sizeof undeclared, 0, NULL, 0, POMTHIJA_INSTRUCTION, 2);
-    evaluates("a constant above its width", wide, sizeof wide, 0, NULL, 0, POMTHIJA_CONSTANT, 14);
-    evaluates("a value of another type", untyped, sizeof untyped, 0, NULL, 0, POMTHIJA_TYPE, 11);
-    uint8_t bad[sizeof sheet];
-    for (size_t i = 0; i < sizeof sheet; i++)
-        bad[i] = sheet[i];
-    bad[8] = 10;
-    evaluates("a type outside its table", bad, sizeof bad, 0, five, 1, POMTHIJA_CODE, 8);
-    bad[8] = 6;
-    bad[6] = 33;
-    evaluates("a count over its limit", bad, sizeof bad, 0, five, 1, POMTHIJA_COUNT, 6);
-    bad[6] = 1;
-    bad[11] = 4;
-    evaluates("not one tree", bad, sizeof bad, 0, five, 1, POMTHIJA_TREE, sizeof bad - 4);
+}
+
+/* a constant of width 4 */
+#define NUMBER(n) 1, 4, n, 0, 0, 0, 0, 0, 0, 0
+
+static void judges_condition(const char *name, uint64_t records, const uint8_t *bytes, size_t length, uint64_t out, uint64_t reason)
+{
+    write_condition(records, bytes, length);
+    judges(name, written, used, 0, POMTHIJA_OK, out, reason);
+}
+
+static void verdicts(void)
+{
+    const uint8_t truth[] = {2}, falsity[] = {3};
+    const uint8_t equal[] = {0, 0, 0, 0, 7, 11};                                      /* x != x */
+    const uint8_t cast[] = {0, 0, 6, 6, NUMBER(0), 7, 15};                            /* (unsigned)x >= 0 */
+    const uint8_t exact[] = {0, 0, 0, 0, NUMBER(1), 7, 0, 7, 2, NUMBER(1), 7, 5, NUMBER(0), 7, 10}; /* (x * (x + 1) & 1) == 0 */
+    const uint8_t odd[] = {0, 0, 0, 0, 7, 0, NUMBER(2), 0, 1, 7, 2, NUMBER(1), 7, 0, 7, 10};        /* x + x == 2 * y + 1 */
+    const uint8_t halves[] = {2, 2, 7, 16};                                           /* true && true */
+    judges("undecided", sheet, sizeof sheet, 0, POMTHIJA_OK, POMTHIJA_UNDECIDED, POMTHIJA_REASON_NONE);
+    judges_condition("true", 1, truth, sizeof truth, POMTHIJA_ALWAYS, POMTHIJA_REASON_TRUTH);
+    judges_condition("false", 1, falsity, sizeof falsity, POMTHIJA_NEVER, POMTHIJA_REASON_TRUTH);
+    judges_condition("equal sides", 3, equal, sizeof equal, POMTHIJA_NEVER, POMTHIJA_REASON_EQUAL_SIDES);
+    judges_condition("an unsigned cast", 4, cast, sizeof cast, POMTHIJA_ALWAYS, POMTHIJA_REASON_UNSIGNED_ZERO);
+    judges_condition("exact sides", 9, exact, sizeof exact, POMTHIJA_ALWAYS, POMTHIJA_REASON_EXACT_SIDES);
+    judges_condition("low bits that differ", 9, odd, sizeof odd, POMTHIJA_NEVER, POMTHIJA_REASON_PARITY);
+    judges_condition("both halves", 3, halves, sizeof halves, POMTHIJA_ALWAYS, POMTHIJA_REASON_HALVES);
+    judges("no such node", sheet, sizeof sheet, 1, POMTHIJA_NUMBER, 0, POMTHIJA_REASON_NONE);
+    write_long();
+    judges("more than 128 records", written, used, 0, POMTHIJA_RECORDS, 6, POMTHIJA_REASON_NONE);
+    write_wide();
+    judges("more than 256 terms", written, used, 0, POMTHIJA_TERMS, 6, POMTHIJA_REASON_NONE);
+}
+
+/* a node whose condition has 127 records: whether a sum of 63 variables, nested to the right, is 0; of all chains it needs
+ * the most stack */
+static void deepest(void)
+{
+    static const uint64_t zeros[POMTHIJA_MAX_VARIABLES] = {0};
+    used = 0;
+    put(0, 2), put(0, 2), put(1, 2);
+    put(POMTHIJA_MAX_VARIABLES, 2);
+    for (int v = 0; v < POMTHIJA_MAX_VARIABLES; v++)
+        put(6, 1);
+    put(0, 2);
+    put(127, 2);
+    for (int i = 0; i < 63; i++)
+        put(0, 1), put((uint64_t)i % POMTHIJA_MAX_VARIABLES, 1);
+    for (int i = 0; i < 62; i++)
+        put(7, 1), put(0, 1); /* sum */
+    put(1, 1), put(4, 1), put(0, 8);
+    put(7, 1), put(10, 1); /* equal */
+    put(0, 2);
+    evaluates("127 records", written, used, 0, zeros, POMTHIJA_MAX_VARIABLES, POMTHIJA_OK, 1);
+    judges("127 records", written, used, 0, POMTHIJA_OK, POMTHIJA_UNDECIDED, POMTHIJA_REASON_NONE);
+    lists("127 records", written, used, 0, POMTHIJA_OK, 0, NULL, 0);
 }
 
 static void listings(void)
 {
     static const uint8_t none[6] = {0}; /* no instructions, no blocks, no nodes */
     const uint8_t lines[] = {
-        0x12, 0, 0, 0, 0, 0, 0, 0, 0x20, 0, 0, 0, 0, 0, 0, 0, 1, 1,
-        0x16, 0, 0, 0, 0, 0, 0, 0, 0x30, 0, 0, 0, 0, 0, 0, 0, 0, 1,
-        0x18, 0, 0, 0, 0, 0, 0, 0, 0x88, 0x77, 0x66, 0x55, 0x44, 0x33, 0x22, 0x11, 1, 3,
+        0x12, 0, 0, 0, 0, 0, 0, 0, 0x20, 0, 0, 0, 0, 0, 0, 0, POMTHIJA_ALWAYS, POMTHIJA_REASON_FLAGS,
+        0x16, 0, 0, 0, 0, 0, 0, 0, 0x30, 0, 0, 0, 0, 0, 0, 0, POMTHIJA_NEVER, POMTHIJA_REASON_FLAGS,
+        0x18, 0, 0, 0, 0, 0, 0, 0, 0x88, 0x77, 0x66, 0x55, 0x44, 0x33, 0x22, 0x11, POMTHIJA_ALWAYS, POMTHIJA_REASON_TRUTH,
     };
     write_three();
     lists("a list as long as the lines", written, used, sizeof lines, POMTHIJA_OK, 3, lines, sizeof lines);
@@ -236,26 +330,43 @@ static void listings(void)
     lists("a list of no bytes", written, used, 0, POMTHIJA_ROOM, used, NULL, 0);
     lists("no lines and a list of no bytes", none, sizeof none, 0, POMTHIJA_OK, 0, NULL, 0);
     lists("no bytes and a list of no bytes", NULL, 0, 0, POMTHIJA_ENDS, 0, NULL, 0);
-    lists("no bytes", NULL, 0, 100, POMTHIJA_ENDS, 0, NULL, 0);
-    lists("cut", written, used - 1, 100, POMTHIJA_ENDS, used - 8, NULL, 0);
+    lists("the last address cut", written, used - 1, 100, POMTHIJA_ENDS, used - 8, NULL, 0);
     written[2] = 64;
     lists("a map outside its table", written, used, 100, POMTHIJA_CODE, 2, NULL, 0);
     write_three();
     written[1] = 9;
     lists("too many instructions", written, used, 100, POMTHIJA_COUNT, 0, NULL, 0);
-    lists("an address twice", twice, sizeof twice, 100, POMTHIJA_ADDRESS, 13, NULL, 0);
-    lists("an ill formed register", ill_formed, sizeof ill_formed, 100, POMTHIJA_REGISTER, 13, NULL, 0);
-    lists("undeclared flags", undeclared, sizeof undeclared, 100, POMTHIJA_INSTRUCTION, 2, NULL, 0);
-    uint8_t two[sizeof sheet];
-    memcpy(two, sheet, sizeof sheet);
-    two[11] = 4;
-    lists("not one tree", two, sizeof two, 100, POMTHIJA_TREE, sizeof two - 4, NULL, 0);
-    lists("a constant above its width", wide, sizeof wide, 100, POMTHIJA_CONSTANT, 14, NULL, 0);
-    lists("a value of another type", untyped, sizeof untyped, 100, POMTHIJA_TYPE, 11, NULL, 0);
     write_long();
     lists("more than 128 records", written, used, 100, POMTHIJA_RECORDS, 6, NULL, 0);
     write_wide();
     lists("more than 256 terms", written, used, 100, POMTHIJA_TERMS, 6, NULL, 0);
+}
+
+static void all(void)
+{
+    if (pomthija_version() != POMTHIJA_VERSION) {
+        printf("the library's version is %" PRIu64 "\n", pomthija_version());
+        wrong++;
+    }
+    refusals();
+    evaluations();
+    verdicts();
+    listings();
+    deepest();
+}
+
+/* runs all cases on a stack of POMTHIJA_STACK bytes, with pages below it that may not be touched */
+static void on_small_stack(void)
+{
+    static ucontext_t here, there;
+    uint8_t *stack = (uint8_t *)mmap(NULL, 2 * POMTHIJA_STACK, PROT_NONE, MAP_PRIVATE | MAP_ANONYMOUS, -1, 0);
+    mprotect(stack + POMTHIJA_STACK, POMTHIJA_STACK, PROT_READ | PROT_WRITE);
+    getcontext(&there);
+    there.uc_stack.ss_sp = stack + POMTHIJA_STACK;
+    there.uc_stack.ss_size = POMTHIJA_STACK;
+    there.uc_link = &here;
+    makecontext(&there, all, 0);
+    swapcontext(&here, &there);
 }
 
 int main(void)
@@ -264,8 +375,7 @@ int main(void)
     value_page = page();
     list_page = page();
     mprotect(list_page, PAGE, PROT_READ | PROT_WRITE);
-    evaluations();
-    listings();
+    on_small_stack();
     printf("%d wrong\n", wrong);
     return wrong != 0;
 }

@@ -1,2 +1,3 @@
 -- laws of the definitions, which other proofs cite
 pub mod Nodes
+pub mod Judged

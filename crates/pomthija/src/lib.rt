@@ -1,10 +1,61 @@
 // What C hosts call: each function gives the answer of one operation in numbers.
 use answer_listing::Listed;
 use evaluate_node::Evaluation;
+use verdict::Answer;
+use verdict::Verdict;
 ghost use mathlib.Core.Path.{_≡_};
+ghost use Rattle.answer_node.specs.Node.{nodeAnswer};
 ghost use Rattle.answer_evaluation.specs.Evaluation.{evaluationAnswer};
 ghost use Rattle.answer_listing.specs.Listing.{listingOf};
-ghost use Rattle.pomthija.specs.Returned.{Returned, ReturnedListing};
+ghost use Rattle.pomthija.specs.Returned.{Returned, ReturnedListing, ReturnedVerdict, version};
+
+// The number of the interface, POMTHIJA_VERSION of the header that belongs to it.
+#[no_mangle]
+pub extern "C" fn pomthija_version() -> u64
+    ensures { λ r. ⌜ r ≡ version ⌝ }
+{
+    1
+}
+
+// The node verdict: 0, with 1 (always), 0 (never) or 2 (undecided) in `out` and the reason's number in `reason`, 0 where
+// undecided; or the refusal's number, with its place in `out` and 0 in `reason`.
+#[no_mangle]
+pub extern "C" fn pomthija_node_verdict(
+    s: &[u8],
+    number: u64,
+    out: &mut u64,
+    reason: &mut u64,
+) -> u64
+    ensures { λ r. ⌜ ReturnedVerdict r (now (out .exit)) (now (reason .exit)) (nodeAnswer (now (s .entry)) number) ⌝ }
+{
+    let a = answer_node::node_verdict(s, number);
+    match a {
+        Answer::Given(v) => match v {
+            Verdict::Always(r) => {
+                *out = 1;
+                *reason = verdict::reason_number(r) as u64;
+                0
+            }
+            Verdict::Never(r) => {
+                *out = 0;
+                *reason = verdict::reason_number(r) as u64;
+                0
+            }
+            Verdict::Undecided => {
+                *out = 2;
+                *reason = 0;
+                0
+            }
+            // of no node
+            Verdict::NoBranch => 0,
+        },
+        Answer::Refused(k, at) => {
+            *out = at as u64;
+            *reason = 0;
+            k
+        }
+    }
+}
 
 // The listing: 0, with the number of lines in `out`; or the refusal's number, with its place in `out`.
 #[no_mangle]

@@ -32,6 +32,7 @@ use Rattle.parity.proofs.Evaluation.{ev-low}
 use Rattle.evaluate_node.specs.Evaluate.{StartsFrom}
 use Rattle.answer_block.specs.Block.{blockAnswer}
 use Rattle.answer_node.specs.Node.{nodeAnswer}
+use Rattle.answer_node.proofs.Judged.{always-judged}
 use Rattle.answer_listing.specs.Listing.{listingOf}
 use Rattle.answer_listing.specs.Listing.ListedNumbers.{lines, refused as refused-listing}
 use Rattle.answer_evaluation.specs.Evaluation.{evaluationAnswer}
@@ -47,7 +48,7 @@ use Rattle.theorems.proofs.Worked.{as-worked}
 use Rattle.theorems.proofs.Public.{answers-forced}
 use Rattle.theorems.proofs.Nodes.{node-decided, evaluation-agrees, probe-run}
 use Rattle.theorems.proofs.Reasons.{node-decided-as, node-undecided-where}
-use Rattle.theorems.proofs.Refusals.{node-branch, node-number, listing-number}
+use Rattle.theorems.proofs.Refusals.{node-number, listing-number}
 use Rattle.theorems.proofs.Outcomes.{answers-run, fourteen, refusal-number}
 use Rattle.theorems.proofs.Whole.{runs-right}
 use Rattle.theorems.proofs.Program.{text-is, limit-is, as-sampled}
@@ -144,7 +145,7 @@ worked-conditions = worked
 
 -- No answer for a node is 'no branch': a node that is not refused is undecided, or decided.
 pub node-has-branch : (s : List ℕ) (number : ℕ) → nodeAnswer s number ≡ noBranch → ⊥
-node-has-branch = node-branch
+node-has-branch = always-judged
 
 -- A node verdict is refused with a number from 1 to 11 or with 13, so never with 0.
 pub node-refusals : (s : List ℕ) (number : ℕ) {k at : ℕ} → nodeAnswer s number ≡ refused-answer k at → ((1 ≤ k) × (k ≤ 11)) ⊎ (k ≡ 13)

@@ -1,4 +1,4 @@
--- The numbers of refusals of nodes and of listings; and no node is answered as if it had no branch.
+-- The numbers of refusals of nodes and of listings.
 use Prim.Native.Nat.{ℕ, _*_, _≤_}
 use mathlib.Core.Path.{_≡_, refl, sym}
 use mathlib.Core.Bool.{Bool, true, false, cond}
@@ -16,13 +16,12 @@ use Rattle.sheet.proofs.Refusals.{reading-number}
 use Rattle.sheet_bytes.specs.Write.{records}
 use Rattle.substitution.specs.Substitution.{Substituted, tooLong, into, withAssignments}
 use Rattle.decide.specs.Decide.{decide, fits}
-use Rattle.decide.proofs.Reasons.{has-branch}
 use Rattle.verdict.specs.declared.Verdict.{Verdict}
 use Rattle.verdict.specs.declared.Verdict.the-variants.{Always, Never, Undecided, NoBranch}
 use Rattle.verdict.specs.declared.Answer.{Answer}
 use Rattle.verdict.specs.declared.Answer.the-variants.{Given, Refused}
-use Rattle.verdict.specs.Numbers.{verdictNumbers, answerNumbers}
-use Rattle.verdict.specs.Numbers.Numbers.{noBranch, refused}
+use Rattle.verdict.specs.Numbers.{answerNumbers}
+use Rattle.verdict.specs.Numbers.Numbers.{refused}
 use Rattle.verdict_lines.specs.Lines.{Line, lineBytes}
 use Rattle.verdict_node.specs.NodeVerdict.{onSubstituted, nodeVerdict}
 use Rattle.verdict_sheet.specs.Said.{Judged, judgedUpTo, linesOf}
@@ -73,36 +72,6 @@ node-number s number {k} {at} e = go (readingOf s) refl (as-refused (onNode (rea
         let same = answer-number e in
         inl (omega (arith, n .0, same), omega (arith, n .1, same))
     go (reading.Accepted sheet) q e = there (ltb number (sheet .nodes .count)) e
-
--- No answer of a node is 'no branch'.
-pub node-branch : (s : List ℕ) (number : ℕ) → nodeAnswer s number ≡ noBranch → ⊥
-unfolding nodeAnswer nodeVerdict
-node-branch s number e = go (readingOf s) e
-  where
-    refused-branch : {k at : ℕ} → refused k at ≡ noBranch → ⊥
-    refused-branch e = let z : _≡_ {A = ℕ} 0 1 = cc in omega arith
-
-    verdict-branch : (v : Verdict) → verdictNumbers v ≡ noBranch → v ≡ NoBranch
-    verdict-branch (Always r) e = let z : _≡_ {A = ℕ} 0 1 = cc in absurd (omega arith)
-    verdict-branch (Never r) e = let z : _≡_ {A = ℕ} 0 1 = cc in absurd (omega arith)
-    verdict-branch Undecided e = let z : _≡_ {A = ℕ} 0 1 = cc in absurd (omega arith)
-    verdict-branch NoBranch e = refl
-
-    on : (d : Substituted) → answerNumbers (onSubstituted (nodePlace s number) d) ≡ noBranch → ⊥
-    on tooLong e = refused-branch e
-    on (into c) e = fitting (fits c) e
-      where
-        fitting : (b : Bool) → answerNumbers (cond b (Given (decide c)) (Refused 11 (nodePlace s number))) ≡ noBranch → ⊥
-        fitting true e = has-branch c (verdict-branch (decide c) e)
-        fitting false e = refused-branch e
-
-    there : (t : Bool) → answerNumbers (cond t (nodeVerdict (nodeNumbered s number) (nodePlace s number)) (Refused 13 0)) ≡ noBranch → ⊥
-    there true e = on (withAssignments (nodeNumbered s number .statements) (nodeNumbered s number .condition)) e
-    there false e = refused-branch e
-
-    go : (r : Reading) → answerNumbers (onNode r s number) ≡ noBranch → ⊥
-    go (reading.Refused k at) e = refused-branch e
-    go (reading.Accepted sheet) e = there (ltb number (sheet .nodes .count)) e
 
 -- ---- listings
 
