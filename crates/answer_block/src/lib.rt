@@ -17,7 +17,7 @@ pub fn block_verdict(s: &[u8], number: u64) -> Answer
         Reading::Accepted(sheet) => {
             let blocks = sheet.blocks;
             if blocks.count <= number {
-                return Answer::Refused(13, 0);
+                return Answer::Refused(refusal::NUMBER, 0);
             }
             let section = sheet.instructions;
             let n = section.count as usize;

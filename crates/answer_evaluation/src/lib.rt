@@ -4,7 +4,7 @@ use sheet_field::Place;
 ghost use mathlib.Core.Path.{_≡_};
 ghost use Rattle.answer_evaluation.specs.Evaluation.{inNumbers, evaluationAnswer};
 
-// The node of that number, from 0, run on the lent values of its variables; extra values are unread.
+// The node of that number, from 0, run on the borrowed values of its variables; extra values are unread.
 pub fn evaluation(s: &[u8], number: u64, values: &[u64]) -> Evaluation
     ensures { λ r. ⌜ inNumbers r ≡ evaluationAnswer (now (s .entry)) number (now (values .entry)) ⌝ }
 {

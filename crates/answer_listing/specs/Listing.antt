@@ -1,10 +1,11 @@
--- The listing: its answer, in the scope document's numbers, and the lent list after it, from any bytes and any lent list.
+-- The listing: its answer, in the scope document's numbers, and the borrowed list after it, from any bytes and any borrowed list.
 use Prim.Native.Nat.{ℕ, _*_}
 use mathlib.Core.Path.{_≡_}
 use mathlib.Core.List.{List}
 use mathlib.Core.Bool.{cond}
 use lib.Dec.{leb}
 use lib.ListN.{length}
+use Rattle.refusal.specs.Numbers.{ROOM}
 use Rattle.sheet.specs.declared.Reading.{Reading}
 use Rattle.sheet.specs.declared.Reading.the-variants as reading
 use Rattle.sheet.specs.Sheet.{sheetAt, readingOf}
@@ -16,7 +17,7 @@ use Rattle.verdict_sheet.specs.Said.Judged.{all, refused as nodeRefused}
 use Rattle.answer_listing.specs.declared.Listed.{Listed}
 use Rattle.answer_listing.specs.declared.Listed.the-variants as listed
 
--- An answer in numbers: how many lines there are; a refusal has a number and a place.
+-- An answer in numbers: how many lines there are; a refusal has a number and an offset.
 pub data ListedNumbers : Type 0 where
   lines : (count : ℕ) → ListedNumbers
   refused : (number place : ℕ) → ListedNumbers
@@ -25,22 +26,22 @@ abbrev pub listedNumbers : Listed → ListedNumbers
 listedNumbers (listed.Lines count) = lines count
 listedNumbers (listed.Refused number place) = refused number place
 
--- what the listing gives: its answer, and the lent list as it is then
+-- what the listing gives: its answer, and the borrowed list as it is then
 pub record Listing : Type 0 where
   pub answer : ListedNumbers
   pub list : List ℕ
 
--- A refusal leaves the lent list as it was (R1, D4).
+-- A refusal leaves the borrowed list as it was (R1, D4).
 abbrev pub turnedBack : ℕ → ℕ → List ℕ → Listing
 turnedBack number place list = record { answer = refused number place; list = list }
 
--- The lines' number, and their bytes over the front of the lent list, whose other bytes stay; 12, at the sheet's length, exactly where the list is
+-- The lines' number, and their bytes over the start of the borrowed list, whose other bytes stay; 12, at the sheet's length, exactly where the list is
 -- shorter than the lines (L5, L6, L9).
 abbrev pub written : List ℕ → List Line → List ℕ → Listing
 written s due list =
     cond (leb (18 * length due) (length list))
     (record { answer = lines (length due); list = over (records lineBytes due) list })
-    (turnedBack 12 (length s) list)
+    (turnedBack ROOM (length s) list)
 
 -- 10 or 11 of the first node that has one; else the lines due (L5, L8).
 abbrev pub onJudged : Judged → List ℕ → List ℕ → Listing
@@ -52,7 +53,7 @@ abbrev pub listingOn : Reading → List ℕ → List ℕ → Listing
 listingOn (reading.Refused number place) s list = turnedBack number place list
 listingOn (reading.Accepted sheet) s list = onJudged (judgedUpTo s (sheet .blocks .count) (sheet .nodes .count)) s list
 
--- The listing of any bytes on any lent list (R1, R5, D3).
+-- The listing of any bytes on any borrowed list (R1, R5, D3).
 unfoldable pub listingOf : List ℕ → List ℕ → Listing
 listingOf s list = listingOn (readingOf s) s list
 

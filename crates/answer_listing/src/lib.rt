@@ -1,4 +1,4 @@
-// The listing: it takes any bytes and a lent list, refuses what reading refuses, and writes the lines by the rules.
+// The listing: it takes any bytes and a borrowed list, refuses what reading refuses, and writes the lines by the rules.
 use sheet::Reading;
 use sheet::Sheet;
 use verdict_sheet::Progress;
@@ -11,13 +11,13 @@ ghost use Rattle.verdict_lines.specs.Slots.{linesIn};
 ghost use Rattle.verdict_sheet.specs.Said.{judgedUpTo};
 ghost use Rattle.answer_listing.specs.Listing.{Gives, written, onJudged, listingOf};
 
-// What the listing answers: how many lines there are, or a refusal, its number and its place.
+// What the listing answers: how many lines there are, or a refusal, its number and its offset.
 pub enum Listed {
     Lines(u64),
     Refused(u64, usize),
 }
 
-// The lines that slots hold, written where the list has room for them.
+// The lines that slots hold, written where the list can hold them.
 fn write_lines(s: &[u8], sites: &[u64], targets: &[u64], slots: &[u8], list: &mut [u8]) -> Listed
     requires { ⌜ length (now sites) ≡ length (now slots) ⌝ }
     requires { ⌜ length (now targets) ≡ length (now slots) ⌝ }
@@ -25,13 +25,13 @@ fn write_lines(s: &[u8], sites: &[u64], targets: &[u64], slots: &[u8], list: &mu
 {
     let n = verdict_lines::count(slots);
     if ((list.len() / 18) as u64) < n {
-        return Listed::Refused(12, s.len());
+        return Listed::Refused(refusal::ROOM, s.len());
     }
     verdict_lines::write(sites, targets, slots, list);
     Listed::Lines(n)
 }
 
-// The listing of an accepted sheet with its index at the front of five lists.
+// The listing of an accepted sheet with its index at the start of five lists.
 fn list_sheet(
     s: &[u8],
     sheet: Sheet,
@@ -70,7 +70,7 @@ fn list_sheet(
     }
 }
 
-// The lines of a sheet, written over the front of a lent list.
+// The lines of a sheet, written over the start of a borrowed list.
 pub fn listing(s: &[u8], list: &mut [u8]) -> Listed
     ensures { λ r. ⌜ Gives r (now (list .exit)) (listingOf (now (s .entry)) (now (list .entry))) ⌝ }
 {

@@ -56,7 +56,7 @@ pub fn converted(s: u64, t: u64, x: u64) -> u64
     cut(t, widened(s, x))
 }
 
-// Sum, difference and product of two values of type t: at 64 bits first, and then cut to the width.
+// Sum, difference and product of two values of type t: at 64 bits first, and then truncated to the width.
 pub fn sum(t: u64, a: u64, b: u64) -> u64
     ensures { λ r. ⌜ r ≡ sumOf t a b ⌝ }
 {

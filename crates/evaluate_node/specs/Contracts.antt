@@ -45,7 +45,7 @@ unfoldable pub assignedAll : List ℕ → List Statement → After → After
 assignedAll types [] a = a
 assignedAll types (x ∷ rest) a = assignedAll types rest (afterStatement types x a)
 
--- what statements leave in the lent values: whether they are plain, and the state after them
+-- what statements leave in the borrowed values: whether they are plain, and the state after them
 abbrev pub StateIs : Progress → List ℕ → Bool → After → Type 0
 StateIs Went values plain a = (plain ≡ true) × (a ≡ went values)
 StateIs Stopped values plain a = (plain ≡ true) × (a ≡ stopped values)
@@ -69,7 +69,7 @@ abbrev pub progressOf : Bool → Progress
 progressOf true = Went
 progressOf false = Stopped
 
--- what a run starts from in lent room: the values, where they fit
+-- what a run starts from in borrowed buffers: the values, where they fit
 abbrev pub Started : Bool → Fit → ℕ → List ℕ → List ℕ → List ℕ → Type 0
 Started r AllFit n values before after = (r ≡ true) × (after ≡ take n values ++ drop n before)
 Started r (Unfit v) n values before after = r ≡ false

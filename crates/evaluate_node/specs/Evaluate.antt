@@ -1,9 +1,10 @@
--- The evaluation: a node run on lent values.
+-- The evaluation: a node run on the caller's values.
 use Prim.Native.Nat.{ℕ, suc, _<_}
 use mathlib.Core.Path.{_≡_}
 use mathlib.Core.List.{List, [], _∷_}
 use mathlib.Core.Bool.{Bool, true, false, cond, _&&_}
 use lib.ListN.{length, getD}
+use Rattle.refusal.specs.Numbers.{DIVISION, NOT_PLAIN, VALUE}
 use Rattle.expr.specs.Scan.{plainExpr}
 use Rattle.expr.specs.Statement.{Statement}
 use Rattle.expr.specs.Statement.Statement.{assignment, other}
@@ -26,14 +27,14 @@ unfoldable pub plainAll : List Statement → Bool
 plainAll [] = true
 plainAll (x ∷ l) = plainStatement x && plainAll l
 
--- Refusal 16: the first declared variable, from number v on, that has no value or one that its type has no room for. Values beyond the
+-- Refusal 16: the first declared variable, from number v on, that has no value or one that its type cannot hold. Values beyond the
 -- declared variables are not looked at (E2, E5).
 unfoldable pub unfitFrom : ℕ → List ℕ → List ℕ → Fit
 unfitFrom v [] values = AllFit
 unfitFrom v (t ∷ types) [] = Unfit v
 unfitFrom v (t ∷ types) (x ∷ values) = cond (fits t x) (unfitFrom (suc v) types values) (Unfit v)
 
--- A run on lent values: each variable starts from the value of its number. What is free beside them has no part in the run of a node without
+-- A run on the caller's values: each variable starts from the value of its number. What is free beside them has no part in the run of a node without
 -- load, effect and 0-statement, and is taken as 0 (E1).
 abbrev pub onValues : List ℕ → Choices
 onValues values = record {
@@ -44,7 +45,7 @@ onValues values = record {
   renewed = λ i v. 0;
 }
 
--- the choices that start from the lent values of the declared variables; all else, also what other variables start from, is free
+-- the choices that start from the caller's values of the declared variables; all else, also what other variables start from, is free
 abbrev pub StartsFrom : List ℕ → List ℕ → Choices → Type 0
 StartsFrom types values c = (v : ℕ) → v < length types → c .start v ≡ getD values v 0
 
@@ -60,22 +61,22 @@ FromRun Holds = Unit {0}
 FromRun Fails = Unit {0}
 FromRun (Refused number place) = number ≡ 14
 
--- Refusal 16 is placed at the number of the variable (E5).
+-- Refusal 16 is reported at the number of the variable (E5).
 abbrev pub onFit : Fit → Evaluation → Evaluation
 onFit AllFit e = e
-onFit (Unfit v) e = Refused 16 v
+onFit (Unfit v) e = Refused VALUE v
 
--- What the outcome of the run makes of the evaluation: where there is none, refusal 14, placed at the node (E1, E7).
+-- What the outcome of the run makes of the evaluation: where there is none, refusal 14, reported at the node (E1, E7).
 abbrev pub onTruth : ℕ → Truth → Evaluation
 onTruth place truth.Holds = Holds
 onTruth place truth.Fails = Fails
-onTruth place truth.NoOutcome = Refused 14 place
+onTruth place truth.NoOutcome = Refused DIVISION place
 
--- The evaluation of a node that stands at a place: refusals 15, 16 and 14 in this order, else whether the condition holds at the end of the run
+-- The evaluation of a node that stands at an offset: refusals 15, 16 and 14 in this order, else whether the condition holds at the end of the run
 -- (E1, E4, E8).
 unfoldable pub evaluationOf : Node → ℕ → List ℕ → Evaluation
 evaluationOf n place values =
     cond (plainAll (n .statements) && plainExpr (n .condition))
     (onFit (unfitFrom 0 (n .types) values)
     (onTruth place (run (n .types) (n .statements) (n .condition) (onValues values))))
-    (Refused 15 place)
+    (Refused NOT_PLAIN place)

@@ -1,4 +1,4 @@
-// A node of an accepted sheet run on lent values: which nodes can be run, which values fit, and the run itself.
+// A node of an accepted sheet run on the caller's values: which nodes can be run, which values fit, and the run itself.
 use sheet_field::Place;
 use sheet_node::NodeReading;
 use value::Truth;
@@ -13,7 +13,7 @@ ghost use Rattle.sheet_node.specs.Contracts.{ReadNode};
 ghost use Rattle.evaluate_node.specs.Evaluate.{plainAll, unfitFrom, onFit, onTruth, evaluationOf};
 ghost use Rattle.evaluate_node.specs.Contracts.{stateOf, assignedAll, StateIs, Stepped, isRefused, hasGone, progressOf, Started, Running};
 
-// A node's evaluation: whether its condition holds, or a refusal, its number and its place.
+// A node's evaluation: whether its condition holds, or a refusal, its number and its offset.
 pub enum Evaluation {
     Holds,
     Fails,
@@ -33,7 +33,7 @@ pub enum Progress {
     NotPlain,
 }
 
-// The progress after a statement, and the place after it.
+// The progress after a statement, and the offset after it.
 pub struct Step {
     pub progress: Progress,
     pub next: Place,
@@ -62,7 +62,7 @@ fn first_unfit(types: &[u8], values: &[u64]) -> Fit
     Fit::AllFit
 }
 
-// The statement at a place, which was read whole: checked, and made in the values where the run goes on.
+// The statement at an offset, which was read whole: checked, and made in the values where the run goes on.
 fn run_statement(
     s: &[u8],
     p: Place,
@@ -144,7 +144,7 @@ fn reached(going: bool) -> Progress
     }
 }
 
-// The n statements from a place on, which were read whole: each is checked, and made in the values while the run goes on.
+// The n statements from an offset on, which were read whole: each is checked, and made in the values while the run goes on.
 fn run_statements(
     s: &[u8],
     p: Place,
@@ -180,7 +180,7 @@ fn outcome(t: Truth, place: usize) -> Evaluation
     match t {
         Truth::Holds => Evaluation::Holds,
         Truth::Fails => Evaluation::Fails,
-        Truth::NoOutcome => Evaluation::Refused(14, place),
+        Truth::NoOutcome => Evaluation::Refused(refusal::DIVISION, place),
     }
 }
 
@@ -204,8 +204,8 @@ fn stopped(fit: Fit, place: usize) -> Evaluation
     ensures { λ r. ⌜ r ≡ onFit fit (Evaluation.Refused 14 place) ⌝ }
 {
     match fit {
-        Fit::Unfit(v) => Evaluation::Refused(16, v),
-        Fit::AllFit => Evaluation::Refused(14, place),
+        Fit::Unfit(v) => Evaluation::Refused(refusal::VALUE, v),
+        Fit::AllFit => Evaluation::Refused(refusal::DIVISION, place),
     }
 }
 
@@ -228,13 +228,13 @@ fn run_node(
     let body = node.body;
     let end = run_statements(s, body, types, node.statements, fits, &mut room, &mut words);
     match end {
-        Progress::NotPlain => Evaluation::Refused(15, place),
+        Progress::NotPlain => Evaluation::Refused(refusal::NOT_PLAIN, place),
         Progress::Stopped => stopped(fit, place),
         Progress::Went => outcome(value::condition(condition, types, &room), place),
     }
 }
 
-// The node, read whole, that stands at a place. Its bytes are gone over once.
+// The node, read whole, that starts at an offset.
 pub fn evaluate_node(s: &[u8], node: NodeReading, place: usize, values: &[u64]) -> Evaluation
     requires { ⌜ ReadNode (now s) node ⌝ }
     ensures { λ r. ⌜ r ≡ evaluationOf (nodeOf (now (s .entry)) node) place (now (values .entry)) ⌝ }
@@ -245,7 +245,7 @@ pub fn evaluate_node(s: &[u8], node: NodeReading, place: usize, values: &[u64]) 
     let e = sheet_expression::take_expression(s, condition, node.variables, &mut words);
     let m = 2 * (e.records as usize);
     if !expr::is_plain(&words[..m]) {
-        return Evaluation::Refused(15, place);
+        return Evaluation::Refused(refusal::NOT_PLAIN, place);
     }
     run_node(s, node, place, types, values, &words[..m])
 }

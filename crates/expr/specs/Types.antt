@@ -21,7 +21,7 @@ signed t = ltb t unsigned8
 unfoldable pub plainType : ℕ → ℕ
 plainType t = cond (eqb t pointer) unsigned64 t
 
--- The type that an operand is taken at: signed 32 in place of every narrower type, bool among them (V3).
+-- The type that an operand is taken at: signed 32 instead of every narrower type, bool among them (V3).
 unfoldable pub promoted : ℕ → ℕ
 promoted t = cond (ltb (bits t) 32) signed32 (plainType t)
 

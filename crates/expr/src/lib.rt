@@ -289,7 +289,7 @@ pub fn record_type(tag: u64, types: &[u8], a: u64, b: u64) -> u64
 }
 
 // The static type of the tree, given its variables' types: one pass over the records, with the types of the trees that are complete so far
-// on a stack above two empty places.
+// on a stack above two empty entries.
 pub fn static_type(rs: &[u64], types: &[u8]) -> u64
     requires { ⌜ Wf (now rs) ⌝ }
     requires { ⌜ length (now rs) ≤ 256 ⌝ }

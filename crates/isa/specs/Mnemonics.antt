@@ -88,7 +88,7 @@ table =
     ∷ CountJump Cx
     ∷ []
 
--- The mnemonic of a number: its place in the table. A number past the table's end, which reading refuses, has none; what
+-- The mnemonic of a number: its index in the table. A number past the table's end, which reading refuses, has none; what
 -- stands for it here is met nowhere (S22, S23, S24).
 unfoldable pub named : ℕ → Mnemonic
 named number = getD table number Other

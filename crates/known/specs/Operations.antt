@@ -31,7 +31,7 @@ carryRule Stc cf = flag.Known true
 carryRule Clc cf = flag.Known false
 carryRule Cmc cf = opposite cf
 
--- not: the complement at 64 bits, which the write cuts to size (S22).
+-- not: the complement at 64 bits, which the write truncates to size (S22).
 abbrev pub complement : Value → Value
 complement v = onValue (λ x. 2 ^ 64 - 1 - x) v
 
@@ -67,7 +67,7 @@ noFlags = record { cf = flag.Unknown; pf = flag.Unknown; zf = flag.Unknown; sf =
 abbrev pub nothingLeft : Effect
 nothingLeft = record { value = Unknown; flags = noFlags }
 
--- an immediate, cut to a width (S17)
+-- an immediate, truncated to a width (S17)
 abbrev pub immediate : Size → ℕ → Value
 immediate (Of w) x = Known (x % 2 ^ bits w)
 immediate NoWidth x = Unknown

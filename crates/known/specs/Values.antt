@@ -19,7 +19,7 @@ start Quad offset = 0
 unfoldable pub extracted : Width → ℕ → ℕ → ℕ
 extracted w offset x = x / 2 ^ start w offset % 2 ^ bits w
 
--- a whole register with another part: the old part is taken out, the new one, cut to the width, put in
+-- a whole register with another part: the old part is taken out, the new one, truncated to the width, put in
 unfoldable pub inserted : Width → ℕ → ℕ → ℕ → ℕ
 inserted w offset old x =
     old - old / 2 ^ start w offset % 2 ^ bits w * 2 ^ start w offset + x % 2 ^ bits w * 2 ^ start w offset

@@ -146,7 +146,7 @@ pub fn write(size: Size, offset: u8, s: Slot, v: Value) -> Slot
     }
 }
 
-// An immediate, cut to a width.
+// An immediate, truncated to a width.
 pub fn immediate_of(size: Size, x: u64) -> Value
     ensures { λ r. ⌜ r ≡ immediate size x ⌝ }
 {

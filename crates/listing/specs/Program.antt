@@ -4,6 +4,7 @@ use mathlib.Core.Bool.{cond}
 use mathlib.Core.List.{List, [], _∷_, _++_}
 use lib.Dec.{ltb}
 use lib.ListN.{length}
+use Rattle.refusal.specs.Numbers.{ENDS}
 use Rattle.sheet.specs.declared.Reading.{Reading}
 use Rattle.sheet.specs.declared.Reading.the-variants as reading
 use Rattle.sheet.specs.Sheet.{sheetAt, readingOf}
@@ -31,4 +32,4 @@ readText (reading.Accepted sheet) s = judgedText (judgedUpTo s (sheet .blocks .c
 
 -- What the program writes. More than 65,536 bytes are refused as 1 at 65536, whatever they are (S5).
 unfoldable pub printed : List ℕ → List ℕ
-printed s = cond (ltb 65536 (length s)) (refusalText 1 65536) (readText (readingOf s) s)
+printed s = cond (ltb 65536 (length s)) (refusalText ENDS 65536) (readText (readingOf s) s)

@@ -112,7 +112,7 @@ fn text_of(s: &[u8], list: &mut [u8], text: &mut [u8]) -> usize
     ensures { λ r. ⌜ Written (now (text .entry)) (now (text .exit)) r (printed (now (s .entry))) ⌝ }
 {
     if s.len() > 65536 {
-        return listing_text::write_refusal(1, 65536, text);
+        return listing_text::write_refusal(refusal::ENDS, 65536, text);
     }
     let listed = answer_listing::listing(s, list);
     match listed {

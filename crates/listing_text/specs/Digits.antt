@@ -22,6 +22,6 @@ placesWithin (suc times) n = cond (ltb n 10) 1 (suc (placesWithin times (n / 10)
 abbrev pub placesOf : ℕ → ℕ
 placesOf n = placesWithin n n
 
--- n in base ten, with no zeros in front
+-- n in base ten, without leading zeros
 abbrev pub decimal : ℕ → List ℕ
 decimal n = digits 10 (placesOf n) n

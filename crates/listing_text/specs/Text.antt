@@ -38,12 +38,12 @@ unfoldable pub lineText : ℕ → ℕ → ℕ → ℕ → List ℕ
 lineText site target value reason =
     digits 16 16 site ++ space ++ digits 16 16 target ++ space ++ verdictWord value ++ space ++ decimal reason ++ lineFeed
 
--- The line of an entry of 18 bytes that starts at a place of a list (L1, L10).
+-- The line of an entry of 18 bytes that starts at an offset of a list (L1, L10).
 unfoldable pub entryText : List ℕ → ℕ → List ℕ
 entryText list from =
     lineText (little list from 8) (little list (from + 8) 8) (getD list (from + 16) 0) (getD list (from + 17) 0)
 
--- the lines of so many entries, from a place of a list on
+-- the lines of so many entries, from an offset of a list on
 unfoldable pub entriesText : List ℕ → ℕ → ℕ → List ℕ
 entriesText list from zero = []
 entriesText list from (suc count) = entryText list from ++ entriesText list (from + 18) count
@@ -52,6 +52,6 @@ entriesText list from (suc count) = entryText list from ++ entriesText list (fro
 unfoldable pub branchesText : ℕ → List ℕ → List ℕ
 branchesText count lines = branches ++ space ++ decimal count ++ lineFeed ++ lines
 
--- A refusal's line, with its number and its place (L11).
+-- A refusal's line, with its number and its offset (L11).
 unfoldable pub refusalText : ℕ → ℕ → List ℕ
 refusalText number place = refused ++ space ++ decimal number ++ atWord ++ decimal place ++ lineFeed

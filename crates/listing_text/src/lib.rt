@@ -1,4 +1,4 @@
-// The text that the listing program writes, put into a lent buffer: the branches of a list, or a refusal.
+// The text that the listing program writes, put into a borrowed buffer: the branches of a list, or a refusal.
 use sheet_field::Place;
 use sheet_field::Width;
 ghost use mathlib.Core.Path.{_≡_};
@@ -18,7 +18,7 @@ fn digit(d: u64) -> u8
     if d < 10 { 48 + d as u8 } else { 87 + d as u8 }
 }
 
-// Puts the last digits of n in a base, as many as the width, and gives the place after them.
+// Puts the last digits of n in a base, as many as the width, and gives the offset after them.
 fn put_digits(n: u64, base: u64, width: usize, out: &mut [u8], at: usize) -> usize
     requires { ⌜ 0 < base ⌝ }
     requires { ⌜ base ≤ 16 ⌝ }
@@ -90,7 +90,7 @@ fn put_verdict(v: u8, out: &mut [u8], at: usize) -> usize
     at
 }
 
-// The address in the 8 bytes from a place of the list on.
+// The address in the 8 bytes from an offset of the list on.
 fn address(list: &[u8], from: usize) -> u64
     requires { ⌜ from + 8 ≤ length (now list) ⌝ }
     ensures { λ r. ⌜ r ≡ little (now (list .entry)) from 8 ⌝ }
@@ -122,7 +122,7 @@ fn put_decision(value: u8, reason: u8, out: &mut [u8], at: usize) -> usize
     put_word(b"\n", out, end)
 }
 
-// Puts the line of the entry that starts at a place of the list.
+// Puts the line of the entry that starts at an offset of the list.
 fn put_entry(list: &[u8], from: usize, out: &mut [u8], at: usize) -> usize
     requires { ⌜ from + 18 ≤ length (now list) ⌝ }
     requires { ⌜ at + 45 ≤ length (now out) ⌝ }
@@ -148,7 +148,7 @@ fn put_entries(list: &[u8], count: usize, out: &mut [u8], from: usize) -> usize
     at
 }
 
-// Writes the number of branches and a line for each of the list's first entries at the front of the buffer, and gives the
+// Writes the number of branches and a line for each of the list's first entries at the start of the buffer, and gives the
 // length of this text.
 pub fn write_branches(list: &[u8], count: usize, out: &mut [u8]) -> usize
     requires { ⌜ 18 * count ≤ length (now list) ⌝ }
@@ -161,7 +161,7 @@ pub fn write_branches(list: &[u8], count: usize, out: &mut [u8]) -> usize
     put_entries(list, count, out, lines)
 }
 
-// Writes a refusal's number and place at the front of the buffer, and gives the length of this text.
+// Writes a refusal's number and offset at the start of the buffer, and gives the length of this text.
 pub fn write_refusal(number: u64, place: u64, out: &mut [u8]) -> usize
     requires { ⌜ 53 ≤ length (now out) ⌝ }
     ensures { λ r. ⌜ Written (now (out .entry)) (now (out .exit)) r (refusalText number place) ⌝ }

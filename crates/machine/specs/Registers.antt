@@ -1,5 +1,5 @@
 -- What is known of registers, each as a whole, and of flags, each by itself; reads, writes and forgetting.
-use Prim.Native.Nat.{ℕ, zero, suc, min, _+_}
+use Prim.Native.Nat.{ℕ, zero, suc, min, _+_, _*_}
 use mathlib.Core.Bool.{cond}
 use mathlib.Core.List.{List}
 use lib.ListN.{getD, replicate}
@@ -15,18 +15,18 @@ use Rattle.known.specs.declared.Slot.{Slot}
 use Rattle.known.specs.Registers.{unmarked, contents, partOf, withPart}
 use Rattle.known.specs.Operations.{noFlags, immediate, forgetFlags}
 use Rattle.machine.specs.declared.State.{State}
-use Rattle.machine.specs.States.{stateOf, replaced, withFlags, noRegister}
+use Rattle.machine.specs.States.{registerCount, stateOf, replaced, withFlags, noRegister}
 
 -- At the start nothing is known: of sixteen registers, nor of the five flags, each of which is known by itself (M3, M4).
 unfoldable pub nothingKnown : State
-nothingKnown = stateOf (replicate 32 0) noFlags
+nothingKnown = stateOf (replicate (2 * registerCount) 0) noFlags
 
 -- What is known of the register of that index: its value and, sixteen words on, its marks. There are sixteen registers; an
 -- index from 16 on, which no well-formed register has, names none (M2).
 unfoldable pub slotAt : State → ℕ → Slot
 slotAt s index =
-    cond (ltb index 16)
-    (record { known = getD (s .registers) (16 + index) 0; value = getD (s .registers) index 0 })
+    cond (ltb index registerCount)
+    (record { known = getD (s .registers) (registerCount + index) 0; value = getD (s .registers) index 0 })
     unmarked
 
 -- its value, whole (M2)
@@ -45,7 +45,7 @@ written s r v =
     (replaced s (r .index) (withPart (widthOf (r .size)) (r .offset) (slotAt s (r .index)) v))
     s
 
--- An operand's value: a register's where known; an immediate's, cut to the size of the instruction's register; memory is
+-- An operand's value: a register's where known; an immediate's, truncated to the size of the instruction's register; memory is
 -- unknown (M25).
 unfoldable pub operandOf : State → ℕ → Operand → Value
 operandOf s size Absent = Unknown
@@ -62,7 +62,7 @@ unfoldable pub forgetRegisters : State → List Register → ℕ → State
 forgetRegisters s rs zero = s
 forgetRegisters s rs (suc k) = forgetRegister (forgetRegisters s rs k) (getD rs k noRegister)
 
--- The registers and flags that an instruction declares are forgotten; it has room for eight registers (M17).
+-- The registers and flags that an instruction declares are forgotten; it has space for eight registers (M17).
 unfoldable pub forgotten : State → Instruction → State
 forgotten s i =
     let after = forgetRegisters s (i .written) (min (i .count) 8) in

@@ -9,15 +9,19 @@ use Rattle.alu.specs.declared.Flags.{Flags}
 use Rattle.known.specs.declared.Slot.{Slot}
 use Rattle.machine.specs.declared.State.{State}
 
--- the state of lent registers and flags
+-- how many registers there are (M2)
+abbrev pub registerCount : ℕ
+registerCount = 16
+
+-- the state of borrowed registers and flags
 abbrev pub stateOf : List ℕ → Flags → State
 stateOf registers flags = record { registers = registers; flags = flags }
 
 -- the state with something else known of a register: its value and its marks
 unfoldable pub replaced : State → ℕ → Slot → State
 replaced s index slot =
-    cond (ltb index 16)
-    (stateOf (set (set (s .registers) index (slot .value)) (16 + index) (slot .known)) (s .flags))
+    cond (ltb index registerCount)
+    (stateOf (set (set (s .registers) index (slot .value)) (registerCount + index) (slot .known)) (s .flags))
     s
 
 -- the state with other flags

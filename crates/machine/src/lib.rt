@@ -1,4 +1,4 @@
-// What is known of registers and flags; stepping over an instruction; what is known of a jump. The registers are lent as the
+// What is known of registers and flags; stepping over an instruction; what is known of a jump. The registers are borrowed as the
 // words of a state, the flags go in and come back: a state is not copied from call to call.
 use alu::Flag;
 use alu::Flags;
@@ -50,8 +50,8 @@ impl State {
 fn slot_at(registers: &Registers, index: u8) -> Slot
     ensures { λ r. ⌜ ((f : Flags) → r ≡ slotAt (stateOf (now (registers .entry)) f) index) ⌝ }
 {
-    if index < 16 {
-        let k = index as usize;
+    let k = index as usize;
+    if k < State::REGISTERS {
         let known = registers[State::REGISTERS + k];
         let value = registers[k];
         Slot { known, value }
@@ -64,8 +64,8 @@ fn slot_at(registers: &Registers, index: u8) -> Slot
 fn replace(registers: &mut Registers, index: u8, slot: Slot)
     ensures { λ _. ⌜ ((f : Flags) → stateOf (now (registers .exit)) f ≡ replaced (stateOf (now (registers .entry)) f) index slot) ⌝ }
 {
-    if index < 16 {
-        let k = index as usize;
+    let k = index as usize;
+    if k < State::REGISTERS {
         registers[k] = slot.value;
         registers[State::REGISTERS + k] = slot.known;
     }

@@ -9,7 +9,7 @@ use lib.ListN.{length, take, drop}
 use lib.Dec.{ltb, eqb}
 use lib.Bits.{bitOr}
 
--- An ascending list with one term added: put in its place, or taken out where it is there. (F16)
+-- An ascending list with one term added: inserted where the order has it, or taken out where it is there. (F16)
 unfoldable pub toggle : ℕ → List ℕ → List ℕ
 toggle t [] = t ∷ []
 toggle t (x ∷ l) = cond (ltb x t) (x ∷ toggle t l) (cond (eqb x t) l (t ∷ x ∷ l))
@@ -33,11 +33,11 @@ sumProduct l (x ∷ a) b = sumProduct (sumTimes l x b) a b
 abbrev pub product : List ℕ → List ℕ → List ℕ
 product a b = sumProduct [] a b
 
--- A lent list with t written over its front; what stands beyond t is as it was.
+-- A borrowed list with t written over its start; what stands beyond t is as it was.
 abbrev pub over : List ℕ → List ℕ → List ℕ
 over t l = t ++ drop (length t) l
 
--- t stands at the front of a lent list, as its first n entries; from `room` on the list is as it was. What stands between
+-- t stands at the start of a borrowed list, as its first n entries; from `room` on the list is as it was. What stands between
 -- them is left free: terms that cancelled.
 pub record Written (t : List ℕ) (n room : ℕ) (old new : List ℕ) : Type 0 where
   pub count : n ≡ length t

@@ -1,5 +1,5 @@
-// Polynomials modulo two in lent slices: the terms are 64-bit sets of atoms, in ascending order, at the front of the slice.
-// Terms are added in place, one at a time; a term that is there already cancels. What is lent needs room for every term
+// Polynomials modulo two in borrowed slices: the terms are 64-bit sets of atoms, in ascending order, at the start of the slice.
+// Terms are added in place, one at a time; a term that is there already cancels. The slice needs space for every term
 // that is added. The limits on terms and pairs are the caller's.
 ghost use mathlib.Core.Path.{_≡_};
 ghost use Prim.Native.Nat.{ℕ, _+_, _*_, _≤_, _<_};
@@ -8,7 +8,7 @@ ghost use Rattle.search.specs.Ascending.{Ascending};
 ghost use Rattle.poly.specs.Terms.{Written, toggle, sum, sumTimes, sumProduct, over};
 ghost use Rattle.poly.specs.Places.{PutIn, TakenOut};
 
-// Moves the terms from `at` on one place up, the last first, and puts a term there.
+// Moves the terms from `at` on one index up, the last first, and puts a term there.
 fn put_in(list: &mut [u64], count: usize, at: usize, term: u64)
     requires { ⌜ (at ≤ count) × (count < length (now list)) ⌝ }
     ensures { λ _. ⌜ PutIn (now (list .entry)) (now (list .exit)) count at term ⌝ }
@@ -21,7 +21,7 @@ fn put_in(list: &mut [u64], count: usize, at: usize, term: u64)
     list[at] = term;
 }
 
-// Moves the terms after `at` one place down, the first first.
+// Moves the terms after `at` one index down, the first first.
 fn take_out(list: &mut [u64], count: usize, at: usize)
     requires { ⌜ (at < count) × (count ≤ length (now list)) ⌝ }
     ensures { λ _. ⌜ TakenOut (now (list .entry)) (now (list .exit)) count at ⌝ }

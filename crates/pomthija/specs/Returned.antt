@@ -8,12 +8,12 @@ use Rattle.answer_listing.specs.Listing.ListedNumbers.{lines, refused as refuse
 use Rattle.answer_evaluation.specs.Evaluation.{Evaluated}
 use Rattle.answer_evaluation.specs.Evaluation.Evaluated.{outcome, refused}
 
--- The listing: 0 and the number of lines, or the refusal's number and place (R1, D3, F4).
+-- The listing: 0 and the number of lines, or the refusal's number and offset (R1, D3, F4).
 abbrev pub ReturnedListing : ℕ → ℕ → ListedNumbers → Type 0
 ReturnedListing r out (lines count) = (r ≡ 0) × (out ≡ count)
 ReturnedListing r out (refusedListing number place) = (r ≡ number) × (out ≡ place)
 
--- The evaluation: 0 and 1 where the condition holds, or 0; or the refusal's number and place (R1, D3, F4).
+-- The evaluation: 0 and 1 where the condition holds, or 0; or the refusal's number and offset (R1, D3, F4).
 abbrev pub Returned : ℕ → ℕ → Evaluated → Type 0
 Returned r out (outcome value) = (r ≡ 0) × (out ≡ value)
 Returned r out (refused number place) = (r ≡ number) × (out ≡ place)

@@ -57,7 +57,7 @@ pub extern "C" fn pomthija_node_verdict(
     }
 }
 
-// The listing: 0, with the number of lines in `out`; or the refusal's number, with its place in `out`.
+// The listing: 0, with the number of lines in `out`; or the refusal's number, with its offset in `out`.
 #[no_mangle]
 pub extern "C" fn pomthija_listing(s: &[u8], list: &mut [u8], out: &mut u64) -> u64
     ensures { λ r. ⌜ ReturnedListing r (now (out .exit)) (listingOf (now (s .entry)) (now (list .entry)) .answer) × (now (list .exit) ≡ listingOf (now (s .entry)) (now (list .entry)) .list) ⌝ }
@@ -75,7 +75,7 @@ pub extern "C" fn pomthija_listing(s: &[u8], list: &mut [u8], out: &mut u64) -> 
     }
 }
 
-// The evaluation: 0, with 1 or 0 in `out` where the condition holds or not; or the refusal's number, with its place
+// The evaluation: 0, with 1 or 0 in `out` where the condition holds or not; or the refusal's number, with its offset
 // in `out`.
 #[no_mangle]
 pub extern "C" fn pomthija_evaluation(s: &[u8], number: u64, values: &[u64], out: &mut u64) -> u64

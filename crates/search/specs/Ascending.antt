@@ -16,7 +16,7 @@ unfoldable pub countBelow : List ℕ → ℕ → ℕ
 countBelow [] x = 0
 countBelow (a ∷ l) x = cond (ltb a x) (suc (countBelow l x)) (countBelow l x)
 
--- A place in a list is one further on in the list with one more element in front.
+-- An index into a list is one larger in the list with one more element before it.
 abbrev pub later : Found → Found
 later (At i) = At (suc i)
 later Nothing = Nothing

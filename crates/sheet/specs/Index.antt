@@ -1,4 +1,4 @@
--- The index of a sheet: entries for its instructions and nodes, in reading order, at the front of lent lists.
+-- The index of a sheet: entries for its instructions and nodes, in reading order, at the start of borrowed lists.
 use Prim.Native.Nat.{ℕ, _≤_}
 use mathlib.Core.Path.{_≡_}
 use mathlib.Core.Bool.{Bool}
@@ -7,7 +7,7 @@ use lib.ListN.{length, take}
 use Rattle.isa.specs.declared.Instruction.{Instruction}
 use Rattle.sheet.specs.Sheet.{InstructionsRead, SheetRead}
 
--- entries written over the front of a list, as far as it reaches; the rest is as it was
+-- entries written over the start of a list, as far as it reaches; the rest is as it was
 unfoldable pub over : {A : Type 0} → List A → List A → List A
 over [] before = before
 over (x ∷ entries) [] = []
@@ -23,7 +23,7 @@ targetsOf l = map (λ (i : Instruction). i .target) l
 unfoldable pub branchesOf : List Instruction → List Bool
 branchesOf l = map (λ (i : Instruction). i .branch) l
 
--- what the index holds of instructions: each lent list, as it was and as it is
+-- what the index holds of instructions: each borrowed list, as it was and as it is
 pub record Noted (a₀ a p₀ p t₀ t : List ℕ) (b₀ b : List Bool) (r : InstructionsRead) : Type 0 where
   pub addresses : a ≡ over (addressesOf (r .list)) a₀
   pub places : p ≡ over (r .places) p₀

@@ -17,6 +17,7 @@ use Prim.Native.Nat.{ℕ, zero, suc, _+_}
 use mathlib.Core.List.{List, [], _∷_, _++_}
 use lib.Dec.{eqb, leb}
 use lib.ListN.{length, getD}
+use Rattle.refusal.specs.Numbers.{ENDS}
 use Rattle.expr.specs.Tree.Expr.{conditionTrue}
 use Rattle.sheet_field.specs.declared.Place.{Place}
 use Rattle.sheet_field.specs.declared.Place.the-variants.{At, Refused}
@@ -30,15 +31,15 @@ use Rattle.sheet.specs.declared.Reading.the-variants as reading
 use Rattle.sheet.specs.declared.Block.{Block}
 use Rattle.sheet.specs.declared.BlockReading.{BlockReading}
 
--- what instruction records that were read one after the other give: the instructions, the place of each, the last address,
--- and the place after them
+-- what instruction records that were read one after the other give: the instructions, the offset of each, the last address,
+-- and the offset after them
 pub record InstructionsRead : Type 0 where
   pub list : List Instruction
   pub places : List ℕ
   pub last : ℕ
   pub next : Place
 
--- after the first k instructions, from a place on
+-- after the first k instructions, from an offset on
 unfoldable pub instructionsFrom : List ℕ → Place → ℕ → InstructionsRead
 instructionsFrom s p zero = record { list = []; places = []; last = 0; next = p }
 instructionsFrom s p (suc k) =
@@ -74,7 +75,7 @@ blocksFrom s p (suc k) =
     let b = blockAt s (before .next) in
     record { list = before .list ++ (record { from = b .from; to = b .to } ∷ []); next = b .next }
 
--- the nodes, the place of each, and the place after them
+-- the nodes, the offset of each, and the offset after them
 pub record NodesRead : Type 0 where
   pub list : List Node
   pub places : List ℕ
@@ -88,11 +89,11 @@ nodesFrom s p (suc k) =
     let n = nodeAt s (before .next) in
     record { list = before .list ++ (nodeOf s n ∷ []); places = before .places ++ (startOf (before .next) ∷ []); next = n .next }
 
--- Refusal 1, placed at the first byte that follows the last record, where one does (R7).
+-- Refusal 1, reported at the first byte that follows the last record, where one does (R7).
 abbrev pub ended : List ℕ → Place → Place
-ended s p = judge (leb (length s) (startOf p)) 1 (startOf p) p
+ended s p = judge (leb (length s) (startOf p)) ENDS (startOf p) p
 
--- A sheet as syntax, the places of its records, and the place that reading came to.
+-- A sheet as syntax, the offsets of its records, and the offset that reading reached.
 pub record SheetRead : Type 0 where
   pub instructions : InstructionsRead
   pub blocks : BlocksRead
@@ -127,7 +128,7 @@ abbrev pub answerOf : Place → Sheet → Reading
 answerOf (At at) sheet = reading.Accepted sheet
 answerOf (Refused number at) sheet = reading.Refused number at
 
--- Reading: accepted, or the first refusal, its number and its place (R1, R3, R23, D3).
+-- Reading: accepted, or the first refusal, its number and its offset (R1, R3, R23, D3).
 unfoldable pub readingOf : List ℕ → Reading
 readingOf s = answerOf (sheetAt s .end) (sheetAt s .sheet)
 

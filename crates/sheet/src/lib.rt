@@ -14,7 +14,7 @@ ghost use Rattle.sheet.specs.Sheet.{noBlock, instructionsFrom, blockAt, 
 ghost use Rattle.sheet.specs.Index.{over, addressesOf, Noted, Indexed, InFront};
 ghost use Rattle.sheet.specs.Contracts.{foundOn};
 
-// How many records a section has, and the place of the first.
+// How many records a section has, and the offset of the first.
 pub struct Section {
     pub count: u64,
     pub at: usize,
@@ -28,7 +28,7 @@ pub struct Sheet {
 
 pub enum Reading {
     Accepted(Sheet),
-    // the refusal's number and place
+    // the refusal's number and offset
     Refused(u64, usize),
 }
 
@@ -38,7 +38,7 @@ pub struct Block {
     pub to: u64,
 }
 
-// A block as it was read, and the place after it.
+// A block as it was read, and the offset after it.
 pub struct BlockReading {
     pub from: u64,
     pub to: u64,
@@ -62,8 +62,8 @@ fn mark(list: &mut [bool], i: usize, x: bool)
     }
 }
 
-// The place after n instructions, with the address, the place, the target and the mark of a conditional branch of each at
-// the front of the lent lists, as far as these reach.
+// The offset after n instructions, with the address, the offset, the target and the mark of a conditional branch of each at
+// the start of the borrowed lists, as far as these reach.
 fn read_instructions(
     s: &[u8],
     p: Place,
@@ -95,7 +95,7 @@ fn read_instructions(
     next
 }
 
-// The block record at a place.
+// The block record at an offset.
 fn take_block(s: &[u8], p: Place) -> BlockReading
     ensures { λ r. ⌜ r ≡ blockAt (now (s .entry)) p ⌝ }
 {
@@ -126,7 +126,7 @@ fn check_blocks(s: &[u8], p: Place, n: u64) -> Place
     next
 }
 
-// The place after n nodes, with the place of each at the front of the lent list, as far as it reaches. `words` is lent for
+// The offset after n nodes, with the offset of each at the start of the borrowed list, as far as it reaches. `words` is a buffer for
 // the words of expressions.
 fn read_nodes(s: &[u8], p: Place, n: u64, words: &mut [u64], places: &mut [u64]) -> Place
     requires { ⌜ 256 ≤ length (now words) ⌝ }
@@ -151,7 +151,7 @@ fn end(s: &[u8], p: Place) -> Place
     ensures { λ r. ⌜ r ≡ ended (now (s .entry)) p ⌝ }
 {
     let at = sheet_field::start(p);
-    sheet_field::judged(p, s.len() <= at, 1, at)
+    sheet_field::judged(p, s.len() <= at, refusal::ENDS, at)
 }
 
 fn answer(p: Place, sheet: Sheet) -> Reading
@@ -163,8 +163,8 @@ fn answer(p: Place, sheet: Sheet) -> Reading
     }
 }
 
-// Any bytes: accepted, or the first refusal. Of an accepted sheet the index stands at the front of the lent lists, as far
-// as these reach: address, place, target and the mark of a conditional branch for each instruction, the place of each node.
+// Any bytes: accepted, or the first refusal. Of an accepted sheet the index stands at the start of the borrowed lists, as far
+// as these reach: address, offset, target and the mark of a conditional branch for each instruction, the offset of each node.
 pub fn read_index(
     s: &[u8],
     addresses: &mut [u64],
@@ -210,8 +210,8 @@ pub fn read_index(
     answer(end(s, after_nodes), sheet)
 }
 
-// Any bytes: accepted, or the first refusal. Of an accepted sheet the address and the place of each instruction stand at the
-// front of the lent lists, where these are long enough.
+// Any bytes: accepted, or the first refusal. Of an accepted sheet the address and the offset of each instruction stand at the
+// start of the borrowed lists, where these are long enough.
 pub fn index_instructions(s: &[u8], addresses: &mut [u64], places: &mut [u64]) -> Reading
     ensures { λ r. ⌜ (r ≡ readingOf (now (s .entry))) × ((sheet : Sheet) → r ≡ Accepted sheet → (sheet .instructions .count ≤ length (now (addresses .entry)) → InFront (sheet .instructions .count) (now (addresses .exit)) (addressesOf (sheetAt (now (s .entry)) .instructions .list))) × (sheet .instructions .count ≤ length (now (places .entry)) → InFront (sheet .instructions .count) (now (places .exit)) (sheetAt (now (s .entry)) .instructions .places))) ⌝ }
 {
@@ -228,7 +228,7 @@ pub fn index_instructions(s: &[u8], addresses: &mut [u64], places: &mut [u64]) -
     )
 }
 
-// Any bytes: accepted, or the first refusal. Of an accepted sheet the place of each node stands at the front of the lent
+// Any bytes: accepted, or the first refusal. Of an accepted sheet the offset of each node stands at the start of the borrowed
 // list, where it is long enough.
 fn index_nodes(s: &[u8], nodes: &mut [u64]) -> Reading
     ensures { λ r. ⌜ (r ≡ readingOf (now (s .entry))) × ((sheet : Sheet) → r ≡ Accepted sheet → sheet .nodes .count ≤ length (now (nodes .entry)) → InFront (sheet .nodes .count) (now (nodes .exit)) (sheetAt (now (s .entry)) .nodes .places)) ⌝ }
@@ -258,7 +258,7 @@ pub fn find_node(s: &[u8], number: u64) -> Place
         Reading::Accepted(sheet) => {
             let section = sheet.nodes;
             if section.count <= number {
-                return Place::Refused(13, 0);
+                return Place::Refused(refusal::NUMBER, 0);
             }
             let i = number as usize;
             Place::At(nodes[i] as usize)
@@ -288,7 +288,7 @@ pub fn nth_block(s: &[u8], sheet: Sheet, number: u64) -> Block
     }
 }
 
-// The instruction of that number, of an accepted sheet whose instructions stand at these places.
+// The instruction of that number, of an accepted sheet whose instructions stand at these offsets.
 pub fn nth_instruction(s: &[u8], sheet: Sheet, places: &[u64], number: usize) -> Instruction
     requires { ⌜ readingOf (now s) ≡ Accepted sheet ⌝ }
     requires { ⌜ now places ≡ sheetAt (now s) .instructions .places ⌝ }

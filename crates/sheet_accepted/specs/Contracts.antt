@@ -1,4 +1,4 @@
--- What the contracts give: what a record of an accepted sheet holds, at plain places.
+-- What the contracts give: what a record of an accepted sheet holds, at plain offsets.
 use Prim.Native.Nat.{ℕ, _+_}
 use mathlib.Core.List.{List}
 use mathlib.Core.Bool.{Bool, cond}
@@ -8,11 +8,11 @@ use Rattle.sheet_instruction.specs.Instruction.{tailAt}
 use Rattle.sheet_accepted.specs.declared.Number.{Number}
 use Rattle.sheet_accepted.specs.declared.Content.{Content}
 
--- the number of n bytes at a place and the place after it, or none
+-- the number of n bytes at an offset and the offset after it, or none
 abbrev pub numberIf : Bool → ℕ → List ℕ → ℕ → Number
 numberIf there n s at = cond there (record { value = little s at n; end = at + n }) (record { value = 0; end = at })
 
--- a tail without the place after it
+-- a tail without the offset after it
 abbrev pub contentAt : ℕ → List ℕ → Place → Content
 contentAt map s p =
     let t = tailAt map s p in

@@ -1,4 +1,4 @@
-// The instruction record at a place of an accepted sheet: what it holds, with nothing checked again.
+// The instruction record at an offset of an accepted sheet: what it holds, with nothing checked again.
 use isa::Instruction;
 use isa::Operand;
 use isa::Register;
@@ -12,13 +12,13 @@ ghost use Rattle.sheet_field.specs.Field.{WentOn, bytesOf};
 ghost use Rattle.sheet_instruction.specs.Instruction.{registerAt, operandAt, registersFrom, optionalOperand, tailAt, instructionAt};
 ghost use Rattle.sheet_accepted.specs.Contracts.{numberIf, contentAt};
 
-// A number, 0 where the record has none, and the place after it.
+// A number, 0 where the record has none, and the offset after it.
 struct Number {
     value: u64,
     end: usize,
 }
 
-// An operand and the place after it.
+// An operand and the offset after it.
 struct Part {
     operand: Operand,
     end: usize,
@@ -140,7 +140,7 @@ fn content_at(s: &[u8], at: usize, map: u64) -> Content
     }
 }
 
-// The instruction that was read at that place.
+// The instruction that was read at that offset.
 pub fn instruction_at(s: &[u8], at: usize) -> Instruction
     requires { ⌜ WentOn (instructionAt true 0 (now s) (At at) .next) ⌝ }
     ensures { λ r. ⌜ r ≡ instructionAt true 0 (now (s .entry)) (At at) .instruction ⌝ }

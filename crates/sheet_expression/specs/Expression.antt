@@ -4,6 +4,7 @@ use Prim.Native.Nat.{ℕ, zero, suc, _+_, _-_, _*_, _^_}
 use mathlib.Core.List.{List, [], _∷_, _++_}
 use mathlib.Core.Bool.{Bool, cond, not, _&&_, _||_}
 use lib.Dec.{leb, ltb, eqb}
+use Rattle.refusal.specs.Numbers.{CODE, TREE, CONSTANT}
 use Rattle.sheet_field.specs.declared.Place.{Place}
 use Rattle.sheet_field.specs.declared.Field.{Field}
 use Rattle.sheet_field.specs.Field.{fieldAt, startOf, judge, checkField, codeAt, countAt}
@@ -27,7 +28,7 @@ argumentOk variables kind x =
 unfoldable pub argumentAt : ℕ → ℕ → List ℕ → Place → Field
 argumentAt variables kind s p =
     let f = fieldAt 1 s p in
-    cond (hasArgument kind) (checkField (argumentOk variables kind (f .value)) 2 (startOf p) f) (record { value = 0; next = p })
+    cond (hasArgument kind) (checkField (argumentOk variables kind (f .value)) CODE (startOf p) f) (record { value = 0; next = p })
 
 -- A constant has a value of 8 bytes after its width (S38).
 unfoldable pub constantAt : ℕ → List ℕ → Place → Field
@@ -46,8 +47,8 @@ abbrev pub depthAfter : ℕ → ℕ → ℕ
 depthAfter depth arity = depth - arity + 1
 
 -- A record, with `depth` complete trees before it and `left` records after it. Its checks are made at its last byte, in the order of their numbers:
--- 7, a record lacks a child, placed at its kind byte; 7, after the last record there is more than one tree, placed at the byte after the
--- expression; 8, a constant above its width, placed at its value (S36, S37, S38, S40, S41, S42, S43, R2, R4, R8, R18, R19, R20).
+-- 7, a record lacks a child, reported at its kind byte; 7, after the last record there is more than one tree, reported at the byte after the
+-- expression; 8, a constant above its width, reported at its value (S36, S37, S38, S40, S41, S42, S43, R2, R4, R8, R18, R19, R20).
 unfoldable pub recordAt : ℕ → ℕ → ℕ → List ℕ → Place → RecordReading
 recordAt variables depth left s p =
     let kind = codeAt kindCount s p in
@@ -55,12 +56,12 @@ recordAt variables depth left s p =
     let value = constantAt (kind .value) s (argument .next) in
     let tag = kind .value + 16 * argument .value in
     let after = depthAfter depth (arityOf tag) in
-    let whole = judge (leb (arityOf tag) depth) 7 (startOf p) (value .next) in
-    let one = judge (not (eqb left 0) || eqb after 1) 7 (startOf (value .next)) whole in
-    let fits = judge (fitsWidth (kind .value) (argument .value) (value .value)) 8 (startOf (argument .next)) one in
+    let whole = judge (leb (arityOf tag) depth) TREE (startOf p) (value .next) in
+    let one = judge (not (eqb left 0) || eqb after 1) TREE (startOf (value .next)) whole in
+    let fits = judge (fitsWidth (kind .value) (argument .value) (value .value)) CONSTANT (startOf (argument .next)) one in
     record { tag = tag; value = value .value; depth = after; next = fits }
 
--- what records that were read one after the other give: their words, how many trees are complete, and the place after them
+-- what records that were read one after the other give: their words, how many trees are complete, and the offset after them
 pub record Taken : Type 0 where
   pub words : List ℕ
   pub depth : ℕ
@@ -72,7 +73,7 @@ takenMore variables left s before =
     let r = recordAt variables (before .depth) left s (before .next) in
     record { words = before .words ++ (r .tag ∷ r .value ∷ []); depth = r .depth; next = r .next }
 
--- after the first k of `total` records, from a place on
+-- after the first k of `total` records, from an offset on
 unfoldable pub takenFrom : ℕ → ℕ → List ℕ → Place → ℕ → Taken
 takenFrom variables total s p zero = record { words = []; depth = 0; next = p }
 takenFrom variables total s p (suc k) = takenMore variables (total - suc k) s (takenFrom variables total s p k)

@@ -9,7 +9,7 @@ ghost use lib.ListN.{length};
 ghost use Rattle.sheet_expression.specs.Expression.{hasArgument, argumentOk, argumentAt, constantAt, fitsWidth, depthAfter, recordAt, takenFrom, expressionAt};
 ghost use Rattle.sheet_expression.specs.Contracts.{Took};
 
-// A record's two words, how many trees are complete after it, and the place after it.
+// A record's two words, how many trees are complete after it, and the offset after it.
 pub struct RecordReading {
     pub tag: u64,
     pub value: u64,
@@ -17,7 +17,7 @@ pub struct RecordReading {
     pub next: Place,
 }
 
-// How many records an expression has, and the place after it.
+// How many records an expression has, and the offset after it.
 pub struct Expression {
     pub records: u64,
     pub next: Place,
@@ -46,7 +46,7 @@ fn take_argument(s: &[u8], p: Place, variables: u64, kind: u64) -> Field
     if has_argument(kind) {
         let f = sheet_field::take_field(s, p, Width::One);
         let ok = argument_ok(variables, kind, f.value);
-        sheet_field::checked(f, ok, 2, sheet_field::start(p))
+        sheet_field::checked(f, ok, refusal::CODE, sheet_field::start(p))
     } else {
         Field { value: 0, next: p }
     }
@@ -80,7 +80,7 @@ fn depth_after(depth: u64, arity: u64) -> u64
     if arity <= depth { depth - arity + 1 } else { 1 }
 }
 
-// The record at a place, with `depth` complete trees before it and `left` records after it.
+// The record at an offset, with `depth` complete trees before it and `left` records after it.
 fn take_record(s: &[u8], p: Place, variables: u64, depth: u64, left: u64) -> RecordReading
     requires { ⌜ (variables ≤ 32) × (depth ≤ 128) ⌝ }
     ensures { λ r. ⌜ r ≡ recordAt variables depth left (now (s .entry)) p ⌝ }
@@ -94,11 +94,11 @@ fn take_record(s: &[u8], p: Place, variables: u64, depth: u64, left: u64) -> Rec
     let tag = kind.value + 16 * argument.value;
     let arity = expr::arity(tag);
     let after = depth_after(depth, arity);
-    let whole = sheet_field::judged(end, arity <= depth, 7, sheet_field::start(p));
+    let whole = sheet_field::judged(end, arity <= depth, refusal::TREE, sheet_field::start(p));
     let one = sheet_field::judged(
         whole,
         (left != 0) | (after == 1),
-        7,
+        refusal::TREE,
         sheet_field::start(end),
     );
     let fits = fits_width(kind.value, argument.value, value.value);
@@ -106,11 +106,16 @@ fn take_record(s: &[u8], p: Place, variables: u64, depth: u64, left: u64) -> Rec
         tag,
         value: value.value,
         depth: after,
-        next: sheet_field::judged(one, fits, 8, sheet_field::start(after_argument)),
+        next: sheet_field::judged(
+            one,
+            fits,
+            refusal::CONSTANT,
+            sheet_field::start(after_argument),
+        ),
     }
 }
 
-// The first `total` records from a place on, as words at the front of `out`: the place after them, or where reading was
+// The first `total` records from an offset on, as words at the start of `out`: the offset after them, or where reading was
 // refused.
 fn take_records(s: &[u8], p: Place, variables: u64, total: u64, out: &mut [u64]) -> Place
     requires { ⌜ (variables ≤ 32) × (total ≤ 128) × (2 * total ≤ length (now out)) ⌝ }
@@ -134,7 +139,7 @@ fn take_records(s: &[u8], p: Place, variables: u64, total: u64, out: &mut [u64])
     next
 }
 
-// The expression at a place, its records as words at the front of `out`.
+// The expression at an offset, its records as words at the start of `out`.
 pub fn take_expression(s: &[u8], p: Place, variables: u64, out: &mut [u64]) -> Expression
     requires { ⌜ (variables ≤ 32) × (256 ≤ length (now out)) ⌝ }
     ensures { λ r. ⌜ Took (r .records) (r .next) (now (out .entry)) (now (out .exit)) (expressionAt variables (now (s .entry)) p) ⌝ }

@@ -1,17 +1,17 @@
-// Fields of a sheet: little-endian numbers of 1, 2 or 8 bytes, the place that reading has come to, and the checks
-// made on the way. A place that was refused stays refused, so the first refusal wins.
+// Fields of a sheet: little-endian numbers of 1, 2 or 8 bytes, the offset that reading has reached, and the checks
+// made on the way. Once refused, reading stays refused, so the first refusal wins.
 ghost use mathlib.Core.Path.{_≡_};
 ghost use Prim.Native.Nat.{_+_, _<_, _≤_};
 ghost use lib.ListN.{length};
 ghost use Rattle.sheet_field.specs.Field.{little, bytesOf, fieldAt, startOf, isRefused, judge, keep, checkField, codeAt, countAt};
 
-// Where reading stands: the next byte's place, or the first refusal, its number and its place.
+// The state of reading: the next byte's offset, or the first refusal, its number and its offset.
 pub enum Place {
     At(usize),
     Refused(u64, usize),
 }
 
-// What a field holds, 0 where it was refused, and the place after it.
+// What a field holds, 0 where it was refused, and the offset after it.
 pub struct Field {
     pub value: u64,
     pub next: Place,
@@ -99,7 +99,7 @@ pub fn take_field(s: &[u8], p: Place, w: Width) -> Field
             }
             Field {
                 value: 0,
-                next: Place::Refused(1, at),
+                next: Place::Refused(refusal::ENDS, at),
             }
         }
     }
@@ -123,14 +123,14 @@ pub fn take_byte(s: &[u8], p: Place) -> Byte
             } else {
                 Byte {
                     value: 0,
-                    next: Place::Refused(1, from),
+                    next: Place::Refused(refusal::ENDS, from),
                 }
             }
         }
     }
 }
 
-// The place itself: of the next byte, or of the refusal.
+// The offset itself: of the next byte, or of the refusal.
 pub fn start(p: Place) -> usize
     ensures { λ r. ⌜ r ≡ startOf p ⌝ }
 {
@@ -150,7 +150,7 @@ pub fn is_refused(p: Place) -> bool
     }
 }
 
-// A check: where it fails, the refusal with that number and place, unless one was made before.
+// A check: where it fails, the refusal with that number and offset, unless one was made before.
 pub fn judged(p: Place, ok: bool, number: u64, at: usize) -> Place
     ensures { λ r. ⌜ r ≡ judge ok number at p ⌝ }
 {
@@ -193,7 +193,7 @@ pub fn code(s: &[u8], p: Place, limit: u64) -> Field
     ensures { λ r. ⌜ r ≡ codeAt limit (now (s .entry)) p ⌝ }
 {
     let f = take_field(s, p, Width::One);
-    checked(f, f.value < limit, 2, start(p))
+    checked(f, f.value < limit, refusal::CODE, start(p))
 }
 
 // A count from least to most, else 3.
@@ -201,5 +201,10 @@ pub fn count(s: &[u8], p: Place, least: u64, most: u64) -> Field
     ensures { λ r. ⌜ r ≡ countAt least most (now (s .entry)) p ⌝ }
 {
     let f = take_field(s, p, Width::Two);
-    checked(f, (least <= f.value) & (f.value <= most), 3, start(p))
+    checked(
+        f,
+        (least <= f.value) & (f.value <= most),
+        refusal::COUNT,
+        start(p),
+    )
 }

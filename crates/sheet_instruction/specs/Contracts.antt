@@ -1,4 +1,4 @@
--- What the contract of `take_operands` gives: both operands of a tail, as `tailAt` has them, and the place after them.
+-- What the contract of `take_operands` gives: both operands of a tail, as `tailAt` has them, and the offset after them.
 use Prim.Native.Nat.{ℕ}
 use mathlib.Core.List.{List}
 use Rattle.sheet_field.specs.declared.Place.{Place}

@@ -4,6 +4,7 @@ use mathlib.Core.List.{List}
 use mathlib.Core.Bool.{Bool, cond, not, _&&_, _||_}
 use lib.ListN.{set, replicate}
 use lib.Dec.{ltb, eqb}
+use Rattle.refusal.specs.Numbers.{CODE, ADDRESS, REGISTER, INSTRUCTION}
 use Rattle.isa.specs.declared.Register.{Register}
 use Rattle.isa.specs.declared.Operand.the-variants.{Absent, Reg, Imm, Mem}
 use Rattle.isa.specs.declared.Instruction.{Instruction}
@@ -20,7 +21,7 @@ use Rattle.sheet_instruction.specs.declared.Tail.{Tail}
 use Rattle.sheet_instruction.specs.declared.InstructionReading.{InstructionReading}
 use Rattle.sheet_field.specs.Field.{fieldAt, startOf, judge, checkField, codeAt, countAt}
 
--- A register: four bytes, for class, index, size and offset. Refusal 5, made at the offset byte and placed at the class byte, where it is of
+-- A register: four bytes, for class, index, size and offset. Refusal 5, made at the offset byte and reported at the class byte, where it is of
 -- class 1 and not well formed (S18, R13).
 unfoldable pub registerAt : List ℕ → Place → RegisterReading
 registerAt s p =
@@ -29,7 +30,7 @@ registerAt s p =
     let size = fieldAt 1 s (index .next) in
     let offset = fieldAt 1 s (size .next) in
     let it : Register = record { class = class .value; index = index .value; size = size .value; offset = offset .value } in
-    record { register = it; next = judge (wellFormed it) 5 (startOf p) (offset .next) }
+    record { register = it; next = judge (wellFormed it) REGISTER (startOf p) (offset .next) }
 
 -- An operand: code 0 and a register, 1 and an immediate of 8 bytes, or 2, memory, with nothing more (S17, R8, F18).
 unfoldable pub operandAt : List ℕ → Place → OperandReading
@@ -49,7 +50,7 @@ withRegister s before =
     let r = registerAt s (before .next) in
     record { list = set (before .list) (before .count) (r .register); count = before .count + 1; next = r .next }
 
--- Written registers: after the first k of them, from a place on. Where a list of eight is not full, the rest is nothing.
+-- Written registers: after the first k of them, from an offset on. Where a list of eight is not full, the rest is nothing.
 unfoldable pub registersFrom : List ℕ → Place → ℕ → Registers
 registersFrom s p zero =
     record { list = replicate 8 (record { class = 0; index = 0; size = 0; offset = 0 }); count = 0; next = p }
@@ -82,17 +83,17 @@ bitOf map unit = eqb (map / unit % 2) 1
 abbrev pub mapOk : ℕ → Bool
 mapOk map = ltb map 64 && not (bitOf map 1 && bitOf map 2) && (not (bitOf map 8) || bitOf map 4)
 
--- The map byte; refusal 2, placed there, where it has what it may not (R9).
+-- The map byte; refusal 2, reported there, where it has what it may not (R9).
 unfoldable pub mapAt : List ℕ → Place → Field
 mapAt s p =
     let f = fieldAt 1 s p in
-    checkField (mapOk (f .value)) 2 (startOf p) f
+    checkField (mapOk (f .value)) CODE (startOf p) f
 
--- The address; refusal 4, placed there, where it is not greater than the one before; the instruction that opens the sheet has none before it (S16, R12).
+-- The address; refusal 4, reported there, where it is not greater than the one before; the instruction that opens the sheet has none before it (S16, R12).
 unfoldable pub addressAt : Bool → ℕ → List ℕ → Place → Field
 addressAt opens last s p =
     let f = fieldAt 8 s p in
-    checkField (opens || ltb last (f .value)) 4 (startOf p) f
+    checkField (opens || ltb last (f .value)) ADDRESS (startOf p) f
 
 -- The map, the address, the mnemonic's number, below 35, and with bit 0 the target, an address too (S6, S7, S22, S23, S24, R8).
 unfoldable pub headAt : Bool → ℕ → List ℕ → Place → Head
@@ -113,7 +114,7 @@ tailAt map s p =
     let flags = optionalCode (bitOf map 32) 32 s (written .next) in
     record { first = one .operand; second = two .operand; written = written .list; count = written .count; flags = flags .value; next = flags .next }
 
--- An instruction record. Bit 0 makes it a conditional branch, bit 1 call-like. Refusal 6, made at its last byte and placed at its first, where it is
+-- An instruction record. Bit 0 makes it a conditional branch, bit 1 call-like. Refusal 6, made at its last byte and reported at its first, where it is
 -- modelled and at fault (S6, S7, S8, R2, R4, R17).
 unfoldable pub instructionAt : Bool → ℕ → List ℕ → Place → InstructionReading
 instructionAt opens last s p =
@@ -131,4 +132,4 @@ instructionAt opens last s p =
       count = tail .count;
       flags = tail .flags;
     } in
-    record { instruction = it; next = judge (not (atFault it)) 6 (startOf p) (tail .next) }
+    record { instruction = it; next = judge (not (atFault it)) INSTRUCTION (startOf p) (tail .next) }

@@ -21,7 +21,7 @@ pub struct OperandReading {
     pub next: Place,
 }
 
-// The first count of the list, and the place after them.
+// The first count of the list, and the offset after them.
 pub struct Registers {
     pub list: [Register; 8],
     pub count: u64,
@@ -36,7 +36,7 @@ struct Head {
     next: Place,
 }
 
-// Both operands, and the place after them.
+// Both operands, and the offset after them.
 struct Operands {
     first: Operand,
     second: Operand,
@@ -77,7 +77,7 @@ fn take_register(s: &[u8], p: Place) -> RegisterReading
     let ok = isa::well_formed(register);
     RegisterReading {
         register,
-        next: sheet_field::judged(after_offset, ok, 5, sheet_field::start(p)),
+        next: sheet_field::judged(after_offset, ok, refusal::REGISTER, sheet_field::start(p)),
     }
 }
 
@@ -109,7 +109,7 @@ fn take_operand(s: &[u8], p: Place) -> OperandReading
     }
 }
 
-// The first n registers from a place on; where reading is refused before them all, the rest stays nothing.
+// The first n registers from an offset on; where reading is refused before them all, the rest stays nothing.
 fn registers_from(s: &[u8], p: Place, n: u64) -> Registers
     requires { ⌜ n ≤ 8 ⌝ }
     ensures { λ r. ⌜ r ≡ registersFrom (now (s .entry)) p n ⌝ }
@@ -214,7 +214,7 @@ fn take_map(s: &[u8], p: Place) -> Field
 {
     let f = sheet_field::take_field(s, p, Width::One);
     let ok = map_ok(f.value);
-    sheet_field::checked(f, ok, 2, sheet_field::start(p))
+    sheet_field::checked(f, ok, refusal::CODE, sheet_field::start(p))
 }
 
 // An address above `last`, or any where the instruction opens the sheet.
@@ -223,7 +223,7 @@ fn take_address(s: &[u8], p: Place, opens: bool, last: u64) -> Field
 {
     let f = sheet_field::take_field(s, p, Width::Eight);
     let ok = opens | (last < f.value);
-    sheet_field::checked(f, ok, 4, sheet_field::start(p))
+    sheet_field::checked(f, ok, refusal::ADDRESS, sheet_field::start(p))
 }
 
 fn take_head(s: &[u8], p: Place, opens: bool, last: u64) -> Head
@@ -247,7 +247,7 @@ fn take_head(s: &[u8], p: Place, opens: bool, last: u64) -> Head
     }
 }
 
-// The first operand where bit 2 is set, the second where bit 3 is: a turn for each, which moves the one before to the front.
+// The first operand where bit 2 is set, the second where bit 3 is: a turn for each, which moves the one before to the first.
 fn take_operands(s: &[u8], p: Place, map: u64) -> Operands
     ensures { λ r. ⌜ r ≡ operandsAt map (now (s .entry)) p ⌝ }
 {
@@ -291,7 +291,7 @@ fn take_tail(s: &[u8], p: Place, map: u64) -> Tail
     }
 }
 
-// The instruction record at a place. It opens the sheet where none stands before it; else `last` is the address before.
+// The instruction record at an offset. It opens the sheet where none stands before it; else `last` is the address before.
 pub fn take_instruction(s: &[u8], p: Place, opens: bool, last: u64) -> InstructionReading
     ensures { λ r. ⌜ r ≡ instructionAt opens last (now (s .entry)) p ⌝ }
 {
@@ -318,6 +318,6 @@ pub fn take_instruction(s: &[u8], p: Place, opens: bool, last: u64) -> Instructi
     let fault = isa::is_at_fault(instruction);
     InstructionReading {
         instruction,
-        next: sheet_field::judged(end, !fault, 6, sheet_field::start(p)),
+        next: sheet_field::judged(end, !fault, refusal::INSTRUCTION, sheet_field::start(p)),
     }
 }

@@ -10,8 +10,8 @@ use Rattle.sheet_node.specs.declared.NodeReading.{NodeReading}
 use Rattle.sheet_node.specs.declared.NodeFront.{NodeFront}
 use Rattle.sheet_node.specs.Node.{StatementRead, nodeAt}
 
--- What a reader of a statement leaves: the statement, and a lent list that was `before` and is `after`: where reading went
--- on, the value's words stand at its front, and the rest is as it was.
+-- What a reader of a statement leaves: the statement, and a borrowed list that was `before` and is `after`: where reading went
+-- on, the value's words stand at its start, and the rest is as it was.
 pub record TookStatement (f : StatementReading) (before after : List ℕ) (r : StatementRead) : Type 0 where
   pub assigned : f .assigned ≡ r .assigned
   pub variable : f .variable ≡ r .variable

@@ -4,6 +4,7 @@ use mathlib.Core.List.{List, [], _∷_, _++_}
 use mathlib.Core.Bool.{Bool, true, false, cond, _||_}
 use lib.Dec.{eqb}
 use lib.ListN.{length, getD, take, drop}
+use Rattle.refusal.specs.Numbers.{CODE, TYPE}
 use Rattle.sheet_field.specs.declared.Place.{Place}
 use Rattle.sheet_field.specs.declared.Place.the-variants.{At, Refused}
 use Rattle.sheet_field.specs.declared.Field.{Field}
@@ -15,7 +16,7 @@ use Rattle.expr.specs.Types.{typeOf, sameType}
 use Rattle.sheet_expression.specs.Expression.{expressionAt}
 use Rattle.sheet_node.specs.declared.NodeReading.{NodeReading}
 
--- what reading a statement gives: whether it is an assignment, its variable, its value's words, and the place after it
+-- what reading a statement gives: whether it is an assignment, its variable, its value's words, and the offset after it
 pub record StatementRead : Type 0 where
   pub assigned : Bool
   pub variable : ℕ
@@ -25,16 +26,16 @@ pub record StatementRead : Type 0 where
 abbrev pub statementOf : StatementRead → Statement
 statementOf r = cond (r .assigned) (assignment (r .variable) (treeOf (r .words))) other
 
--- A statement's map byte: 3 for an assignment, 0 for anything else; any other is refusal 2, placed there (S31, S32, R9).
+-- A statement's map byte: 3 for an assignment, 0 for anything else; any other is refusal 2, reported there (S31, S32, R9).
 unfoldable pub mapAt : List ℕ → Place → Field
 mapAt s p =
     let f = fieldAt 1 s p in
-    checkField (eqb (f .value) 0 || eqb (f .value) 3) 2 (startOf p) f
+    checkField (eqb (f .value) 0 || eqb (f .value) 3) CODE (startOf p) f
 
--- Refusal 9, made at the statement's last byte and placed at its first: an assigned expression has another type than its variable, pointer being
+-- Refusal 9, made at the statement's last byte and reported at its first: an assigned expression has another type than its variable, pointer being
 -- the same as unsigned 64 (R2, R4, R21, R22).
 abbrev pub typedAt : List ℕ → ℕ → List ℕ → ℕ → Place → Place
-typedAt types variable words begin end = judge (sameType (typeOf types (treeOf words)) (getD types variable 0)) 9 begin end
+typedAt types variable words begin end = judge (sameType (typeOf types (treeOf words)) (getD types variable 0)) TYPE begin end
 
 -- An assignment: the number of one of the node's variables, and an expression (S31, R10).
 unfoldable pub assignmentAt : List ℕ → ℕ → List ℕ → Place → StatementRead
@@ -55,7 +56,7 @@ unfoldable pub typesFrom : List ℕ → Place → ℕ → Place
 typesFrom s p zero = p
 typesFrom s p (suc k) = codeAt 10 s (typesFrom s p k) .next
 
--- the types of n variables, whose bytes stand from a place on; none where reading them was refused
+-- the types of n variables, whose bytes stand from an offset on; none where reading them was refused
 abbrev pub typesOf : Place → ℕ → ℕ → List ℕ → List ℕ
 typesOf (At end) from n s = take n (drop from s)
 typesOf (Refused k at) from n s = []

@@ -12,7 +12,7 @@ ghost use Rattle.expr.specs.Types.{typeOf};
 ghost use Rattle.sheet_node.specs.Node.{mapAt, typedAt, assignmentAt, statementAt, statementsFrom, typesFrom, typesOf, addressesFrom, nodeAt, typesIn};
 ghost use Rattle.sheet_node.specs.Contracts.{TookStatement, frontOf, ReadNode};
 
-// A statement: whether it is an assignment, to which variable, how many records its value has, and the place after it.
+// A statement: whether it is an assignment, to which variable, how many records its value has, and the offset after it.
 // Any other statement has no variable and no records.
 pub struct StatementReading {
     pub assigned: bool,
@@ -21,8 +21,8 @@ pub struct StatementReading {
     pub next: Place,
 }
 
-// A node: its counts of variables, statements and addresses, and the places at which its types, its statements (body),
-// its condition and its addresses (sites) start; next is the place after it.
+// A node: its counts of variables, statements and addresses, and the offsets at which its types, its statements (body),
+// its condition and its addresses (sites) start; next is the offset after it.
 pub struct NodeReading {
     pub variables: u64,
     pub types: Place,
@@ -34,7 +34,7 @@ pub struct NodeReading {
     pub next: Place,
 }
 
-// The front of a node: its counts of variables and statements, and the places at which its types and its statements (body)
+// The first part of a node: its counts of variables and statements, and the offsets at which its types and its statements (body)
 // start.
 pub struct NodeFront {
     pub variables: u64,
@@ -48,7 +48,12 @@ fn take_map(s: &[u8], p: Place) -> Field
     ensures { λ r. ⌜ r ≡ mapAt (now (s .entry)) p ⌝ }
 {
     let f = sheet_field::take_field(s, p, Width::One);
-    sheet_field::checked(f, (f.value == 0) | (f.value == 3), 2, sheet_field::start(p))
+    sheet_field::checked(
+        f,
+        (f.value == 0) | (f.value == 3),
+        refusal::CODE,
+        sheet_field::start(p),
+    )
 }
 
 // The check that a value has its variable's type, made where the value was read whole.
@@ -61,12 +66,17 @@ fn typed(end: Place, begin: usize, words: &[u64], types: &[u8], variable: u64) -
         Place::At(_) => {
             let own = types[variable as usize];
             let of_value = expr::static_type(words, types);
-            sheet_field::judged(end, expr::same_type(of_value, own as u64), 9, begin)
+            sheet_field::judged(
+                end,
+                expr::same_type(of_value, own as u64),
+                refusal::TYPE,
+                begin,
+            )
         }
     }
 }
 
-// The rest of an assignment after its map byte; begin is the statement's place.
+// The rest of an assignment after its map byte; begin is the statement's offset.
 fn take_assignment(
     s: &[u8],
     p: Place,
@@ -91,7 +101,7 @@ fn take_assignment(
     }
 }
 
-// The statement at a place. The records of an assigned value stand as words at the front of `out`.
+// The statement at an offset. The records of an assigned value stand as words at the start of `out`.
 pub fn take_statement(s: &[u8], p: Place, types: &[u8], out: &mut [u64]) -> StatementReading
     requires { ⌜ (length (now types) ≤ 32) × (256 ≤ length (now out)) ⌝ }
     ensures { λ r. ⌜ TookStatement r (now (out .entry)) (now (out .exit)) (statementAt (now (types .entry)) (now (s .entry)) p) ⌝ }
@@ -110,7 +120,7 @@ pub fn take_statement(s: &[u8], p: Place, types: &[u8], out: &mut [u64]) -> Stat
     }
 }
 
-// The place after n statements. The words of their values are taken into `words`, one after the other.
+// The offset after n statements. The words of their values are taken into `words`, one after the other.
 fn check_statements(s: &[u8], p: Place, types: &[u8], n: u64, words: &mut [u64]) -> Place
     requires { ⌜ (length (now types) ≤ 32) × (256 ≤ length (now words)) ⌝ }
     ensures { λ r. ⌜ r ≡ statementsFrom (now (types .entry)) (now (s .entry)) p n .next ⌝ }
@@ -160,7 +170,7 @@ fn check_addresses(s: &[u8], p: Place, n: u64) -> Place
     next
 }
 
-// The types as a part of the sheet: n bytes from a place on, where reading went on after them, else none.
+// The types as a part of the sheet: n bytes from an offset on, where reading went on after them, else none.
 pub fn types_of(s: &[u8], end: Place, from: usize, n: usize) -> &[u8]
     requires { ⌜ ((a : ℕ) → end ≡ At a → from + n ≤ length (now s)) ⌝ }
     ensures { λ r. ⌜ now r ≡ typesOf end from n (now (s .entry)) ⌝ }
@@ -171,7 +181,7 @@ pub fn types_of(s: &[u8], end: Place, from: usize, n: usize) -> &[u8]
     }
 }
 
-// The front of the node record at a place.
+// The first part of the node record at an offset.
 pub fn take_front(s: &[u8], p: Place) -> NodeFront
     ensures { λ r. ⌜ r ≡ frontOf (nodeAt (now (s .entry)) p) ⌝ }
 {
@@ -199,7 +209,7 @@ pub fn node_types(s: &[u8], node: NodeReading) -> &[u8]
     &s[from..from + n]
 }
 
-// The node record at a place. `words` is lent for the words of its expressions, one after the other.
+// The node record at an offset. `words` is a buffer for the words of its expressions, one after the other.
 pub fn take_node(s: &[u8], p: Place, words: &mut [u64]) -> NodeReading
     requires { ⌜ 256 ≤ length (now words) ⌝ }
     ensures { λ r. ⌜ r ≡ nodeAt (now (s .entry)) p ⌝ }

@@ -10,19 +10,19 @@ ghost use Rattle.sheet_node.specs.Node.{statementAt, statementOf, statementsFro
 ghost use Rattle.substitution.specs.Words.{tableOf};
 ghost use Rattle.substitute_node.specs.Node.{Room, Lent, Stepped, Passed, MadeNode};
 
-// What one statement leaves: whether its substituted value is within its limit, and the place after the statement.
+// What one statement leaves: whether its substituted value is within its limit, and the offset after the statement.
 pub struct Step {
     pub fits: bool,
     pub next: Place,
 }
 
-// Where the words of a node's substituted condition start, or that they are too many; and the place after the condition, where they are not.
+// Where the words of a node's substituted condition start, or that they are too many; and the offset after the condition, where they are not.
 pub struct SubstitutedNode {
     pub written: Written,
     pub next: Place,
 }
 
-// The statement at a place, which was read whole: an assignment's value is substituted and assigned, any other statement ends all that is held.
+// The statement at an offset, which was read whole: an assignment's value is substituted and assigned, any other statement ends all that is held.
 fn take_statement(
     s: &[u8],
     p: Place,
@@ -47,7 +47,7 @@ fn take_statement(
     Step { fits, next }
 }
 
-// The n statements from a place on, which were read whole, with nothing held before them, and the place after them; no fit where a substituted value is
+// The n statements from an offset on, which were read whole, with nothing held before them, and the offset after them; no fit where a substituted value is
 // too long.
 fn take_statements(
     s: &[u8],
@@ -77,7 +77,7 @@ fn take_statements(
     Step { fits: true, next }
 }
 
-// A node's condition with its n statements substituted, at the end of 256 lent words. The statements from `body` on and the condition after them were
+// A node's condition with its n statements substituted, at the end of 256 borrowed words. The statements from `body` on and the condition after them were
 // read whole, and are read once more.
 pub fn substitute_node(
     s: &[u8],

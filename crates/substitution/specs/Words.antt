@@ -1,4 +1,4 @@
--- What is held, in lent words: at most 32 places of 256 words each, a variable's at 256 times its number, and the length of what is held there, 0 where
+-- What is held, in borrowed words: at most 32 slots of 256 words each, a variable's at 256 times its number, and the length of what is held there, 0 where
 -- nothing is.
 use mathlib.Core.Path.{_≡_}
 use mathlib.Core.Bool.{Bool, true, false, cond, not, _&&_, _||_}
@@ -20,14 +20,14 @@ slot table lengths v = take (getD lengths v 0) (drop (256 * v) table)
 unfoldable pub tableOf : List ℕ → List ℕ → Table
 tableOf table lengths v = cond (eqb (getD lengths v 0) 0) free (held (treeOf (slot table lengths v)))
 
--- Each place has nothing, or one tree of at most 128 records.
+-- Each slot has nothing, or one tree of at most 128 records.
 pub record Slots (table lengths : List ℕ) : Type 0 where
   pub room : 256 * length lengths ≤ length table
   pub places : length lengths ≤ 32
   pub few : (v : ℕ) → getD lengths v 0 ≤ 256
   pub whole : (v : ℕ) → 0 < getD lengths v 0 → Wf (slot table lengths v)
 
--- The lent words hold exactly the table h.
+-- The borrowed words hold exactly the table h.
 pub record Holds (table lengths : List ℕ) (h : Table) : Type 0 where
   pub slots : Slots table lengths
   pub holds : tableOf table lengths ≡ h
@@ -37,7 +37,7 @@ abbrev pub Assigned : Bool → List ℕ → List ℕ → ℕ → Expr → Table 
 Assigned true table lengths v e h = Holds table lengths (assigned v (substitute h e) h) × (long (substitute h e) ≡ false)
 Assigned false table lengths v e h = Holds table lengths h × (long (substitute h e) ≡ true)
 
--- The words of an expression fill the end of a lent list, or are more than it may have. (N26)
+-- The words of an expression fill the end of a borrowed list, or are more than it may have. (N26)
 abbrev pub Made : Written → List ℕ → Expr → Type 0
 Made (From at) out e = (drop at out ≡ flat e) × (long e ≡ false)
 Made TooLong out e = long e ≡ true

@@ -1,4 +1,4 @@
-// Substitution of a node's assignments into its condition, on expression records. What is held stands in lent words: a place of 256 words for each
+// Substitution of a node's assignments into its condition, on expression records. What is held stands in borrowed words: a slot of 256 words for each
 // variable, 32 at most, with the length of what is held there, or 0.
 ghost use mathlib.Core.Path.{_≡_};
 ghost use Prim.Native.Nat.{ℕ, _+_, _*_, _≤_, _<_};
@@ -8,7 +8,7 @@ ghost use Rattle.expr.specs.Scan.{anyNode};
 ghost use Rattle.substitution.specs.Substitution.{substitute as substituteOf, entryReads, ended, holdable, kept, assigned};
 ghost use Rattle.substitution.specs.Words.{tableOf, Slots, Holds, Assigned, Made, heldWords, pendingAfter, endedTag, keptLength};
 
-// Where the words of a substituted expression start in the lent words, which they fill to the end; or there are more than 256.
+// Where the words of a substituted expression start in the borrowed words, which they fill to the end; or there are more than 256.
 pub enum Written {
     From(usize),
     TooLong,
@@ -41,7 +41,7 @@ fn pending(left: u64, tag: u64) -> u64
     }
 }
 
-// Writes a tree with each held variable replaced, loads left as they are, to the end of 256 lent words. The records are taken from the last to the
+// Writes a tree with each held variable replaced, loads left as they are, to the end of 256 borrowed words. The records are taken from the last to the
 // first, so that each load is seen before what stands under it.
 pub fn substitute(rs: &[u64], table: &[u64], lengths: &[usize], out: &mut [u64]) -> Written
     requires { ⌜ Wf (now rs) × (length (now rs) ≤ 256) × Slots (now table) (now lengths) × (length (now out) ≡ 256) ⌝ }

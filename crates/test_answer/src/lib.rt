@@ -147,13 +147,13 @@ fn line(written: bool) -> Ending {
     }
 }
 
-// A value and the place after it, or the end of the bytes.
+// A value and the offset after it, or the end of the bytes.
 enum Taken {
     Value(u64, usize),
     Cut,
 }
 
-// The value at that place.
+// The value at that offset.
 fn take_value(s: &[u8], at: usize) -> Taken {
     if at >= s.len() {
         return Taken::Cut;
@@ -176,7 +176,7 @@ enum Set {
     Cut,
 }
 
-// Fills the list with the values from that place on.
+// Fills the list with the values from that offset on.
 fn take_set(s: &[u8], from: usize, values: &mut [u64]) -> Set {
     let mut at = from;
     let mut i: usize = 0;

@@ -5,7 +5,7 @@ use Rattle.test_io.specs.declared.Next.the-variants.{Frame, Over}
 use Rattle.test_io.specs.declared.Ending.{Ending}
 use Rattle.test_io.specs.declared.Ending.the-variants.{Whole, Cut, TooLong, TooManyValues, NoOperation, Unread, Unwritten}
 
--- a frame that was read lies within the room
+-- a frame that was read lies within the buffer
 abbrev pub Fits : Next → ℕ → Type 0
 Fits (Frame n) room = n ≤ room
 Fits (Over e) room = Unit {0}

@@ -13,7 +13,7 @@ pub enum Ending {
     Whole,
     // the input ends inside a frame, or a frame inside what it must have
     Cut,
-    // a frame is longer than the room for it, or than what it must have
+    // a frame is longer than the buffer for it, or than what it must have
     TooLong,
     TooManyValues,
     // the frame's first byte is no operation's number
@@ -23,7 +23,7 @@ pub enum Ending {
     Unwritten,
 }
 
-// What comes next: a frame of that length at the front of the room, or the end.
+// What comes next: a frame of that length at the start of the buffer, or the end.
 pub enum Next {
     Frame(usize),
     Over(Ending),
@@ -80,14 +80,14 @@ pub fn status(e: Ending) -> u32
     }
 }
 
-// Room for the longest frame that is read.
+// A buffer for the longest frame that is read.
 pub fn room() -> [u8; 1048576]
     ensures { λ r. ⌜ 1048576 ≡ length r ⌝ }
 {
     [0; 1048576]
 }
 
-// The byte at that place, and 0 past the end.
+// The byte at that offset, and 0 past the end.
 pub fn byte(s: &[u8], at: usize) -> u8 {
     if at < s.len() { s[at] } else { 0 }
 }
@@ -110,7 +110,7 @@ pub fn eight(s: &[u8]) -> u64 {
     low + 4294967296 * (four(&s[4..]) as u64)
 }
 
-// The frame of that length, at the front of the room.
+// The frame of that length, at the start of the buffer.
 fn body(buf: &mut [u8], n: usize) -> Next
     ensures { λ r. ⌜ Fits r (length (now (buf .exit))) ⌝ }
 {

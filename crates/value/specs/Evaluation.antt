@@ -16,11 +16,11 @@ use Rattle.value.specs.Operators.{chosen, taken, truthOf, operate, choos
 abbrev pub Values : Type 0
 Values = ℕ → ℕ
 
--- a choice for each place of a tree: by its path from the root, the children's places one after the other
+-- a choice for each position in a tree: by its path from the root, the children's indices one after the other
 abbrev pub ByPath : Type 0 → Type 0
 ByPath A = List ℕ → A
 
--- the choices for the tree's child at place k
+-- the choices for the tree's child at index k
 abbrev pub under : {A : Type 0} → ℕ → ByPath A → ByPath A
 under k f path = f (k ∷ path)
 
@@ -61,11 +61,11 @@ ev types ρ σ m f (ternary c a b) =
     let t = together (typeOf types a) (typeOf types b) in
     choose (truthOf (ev types ρ σ (under 0 m) (under 0 f) c)) (taken (typeOf types a) t (ev types ρ σ (under 1 m) (under 1 f) a)) (taken (typeOf types b) t (ev types ρ σ (under 2 m) (under 2 f) b))
 
--- The value of an expression on lent values. Where it has neither load nor effect, what these would yield plays no part
+-- The value of an expression on the caller's values. Where it has neither load nor effect, what these would yield plays no part
 -- (`proofs/Steps.antt plain-ev`); it is taken as 0.
 unfoldable pub evaluated : List ℕ → List ℕ → Expr → Value
 evaluated types values e = ev types (λ n. getD values n 0) (λ n. getD values n 0) (λ path t a. 0) (λ path. 0) e
 
--- a condition on lent values
+-- a condition on the caller's values
 abbrev pub settled : List ℕ → List ℕ → Expr → Truth
 settled types values e = truthOf (evaluated types values e)

@@ -23,13 +23,13 @@ Typed t NoValue = Unit {0}
 abbrev pub chosen : ℕ → ℕ → Value
 chosen t x = Of (x % 2 ^ bits t)
 
--- A condition in the place of an integer: 1 where it holds, 0 where it fails (V12).
+-- A condition used as an integer: 1 where it holds, 0 where it fails (V12).
 abbrev pub integerOf : Truth → Value
 integerOf Holds = Of 1
 integerOf Fails = Of 0
 integerOf NoOutcome = NoValue
 
--- An integer in the place of a condition: it holds where it is not 0 (V13).
+-- An integer used as a condition: it holds where it is not 0 (V13).
 abbrev pub truthOf : Value → Truth
 truthOf (Of x) = cond (eqb x 0) Fails Holds
 truthOf NoValue = NoOutcome

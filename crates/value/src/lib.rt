@@ -186,7 +186,7 @@ fn settles(operator: u64, left: Truth) -> bool
     }
 }
 
-// The value lent for the variable of this number; 0 where none is lent.
+// The value given for the variable of this number; 0 where none is given.
 fn lent(values: &[u64], number: u64) -> u64
     ensures { λ r. ⌜ r ≡ getD (now (values .entry)) number 0 ⌝ }
 {

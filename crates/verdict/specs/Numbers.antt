@@ -19,7 +19,7 @@ reasonNumber ExactSides = 5
 reasonNumber Parity = 6
 reasonNumber Halves = 7
 
--- An answer in numbers: a decision has a value and a reason, a refusal a number and a place.
+-- An answer in numbers: a decision has a value and a reason, a refusal a number and an offset.
 pub data Numbers : Type 0 where
   decision : (value reason : ℕ) → Numbers
   undecided : Numbers

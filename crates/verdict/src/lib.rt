@@ -21,7 +21,7 @@ pub enum Verdict {
     NoBranch,
 }
 
-// What an operation answers: a verdict, or a refusal, its number and its place.
+// What an operation answers: a verdict, or a refusal, its number and its offset.
 pub enum Answer {
     Given(Verdict),
     Refused(u64, usize),

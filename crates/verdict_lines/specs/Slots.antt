@@ -1,4 +1,4 @@
--- Slots, one for each instruction, and bytes put into a list at a place.
+-- Slots, one for each instruction, and bytes put into a list at an offset.
 use Prim.Native.Nat.{ℕ, zero, suc, _+_, _*_, _/_, _%_, _≤_}
 use mathlib.Core.Path.{_≡_}
 use mathlib.Core.List.{List, [], _∷_, _++_}
@@ -47,11 +47,11 @@ unfoldable pub decidedIn : List ℕ → ℕ
 decidedIn [] = 0
 decidedIn (x ∷ slots) = decidedOf x + decidedIn slots
 
--- bytes put into a list from a place on
+-- bytes put into a list from an offset on
 unfoldable pub putAt : ℕ → List ℕ → List ℕ → List ℕ
 putAt at bytes list = take at list ++ over bytes (drop at list)
 
--- a site and a target for each slot, and room for the lines
+-- a site and a target for each slot, and a list that can hold the lines
 pub record RoomFor (sites targets slots list : List ℕ) : Type 0 where
   pub eachSite : length sites ≡ length slots
   pub eachTarget : length targets ≡ length slots

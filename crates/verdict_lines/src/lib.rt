@@ -74,7 +74,7 @@ fn put_word(list: &mut [u8], at: usize, x: u64)
     }
 }
 
-// Puts the line that a slot holds into a list, 18 bytes, and gives the place after it.
+// Puts the line that a slot holds into a list, 18 bytes, and gives the offset after it.
 fn put_line(list: &mut [u8], at: usize, site: u64, target: u64, slot: u8) -> usize
     requires { ⌜ at + 18 * decidedOf slot ≤ length (now list) ⌝ }
     ensures { λ r. ⌜ (r ≡ at + 18 * decidedOf slot) × (now (list .exit) ≡ putAt at (records lineBytes (slotLine site target slot)) (now (list .entry))) ⌝ }
@@ -89,7 +89,7 @@ fn put_line(list: &mut [u8], at: usize, site: u64, target: u64, slot: u8) -> usi
     at + 18
 }
 
-// Writes the lines over the front of a list that has room for them.
+// Writes the lines over the start of a list that can hold them.
 pub fn write(sites: &[u64], targets: &[u64], slots: &[u8], list: &mut [u8])
     requires { ⌜ RoomFor (now sites) (now targets) (now slots) (now list) ⌝ }
     ensures { λ _. ⌜ now (list .exit) ≡ over (records lineBytes (linesIn (now (sites .entry)) (now (targets .entry)) (now (slots .entry)))) (now (list .entry)) ⌝ }

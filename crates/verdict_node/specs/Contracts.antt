@@ -3,6 +3,7 @@ use Prim.Native.Nat.{ℕ, _≤_}
 use mathlib.Core.Path.{_≡_}
 use mathlib.Core.List.{List}
 use lib.ListN.{length, drop}
+use Rattle.refusal.specs.Numbers.{TERMS}
 use Rattle.expr.specs.Tree.{Wf, treeOf}
 use Rattle.sheet_node.specs.declared.NodeReading.{NodeReading}
 use Rattle.sheet_node.specs.Node.{nodeOf}
@@ -18,14 +19,14 @@ use Rattle.decide.specs.declared.Decision.the-variants.{Of, TooMany}
 use Rattle.verdict_node.specs.declared.JudgedNode.{JudgedNode}
 use Rattle.verdict_node.specs.NodeVerdict.{nodeVerdict}
 
--- room for the lengths of what 32 variables hold, and for 256 words each of the records that are read and of those that are written
+-- buffers for the lengths of what 32 variables hold, and for 256 words each of the records that are read and of those that are written
 pub record LentWords (types lengths words out : List ℕ) : Type 0 where
   pub few : length types ≤ 32
   pub lengthsRoom : length lengths ≡ 32
   pub wordsRoom : length words ≡ 256
   pub outRoom : length out ≡ 256
 
--- the same, and room for `decide` on 18 records; what stands there is of no account
+-- the same, and buffers for `decide` on 18 records; their contents do not matter
 pub record LentNode (lengths words out atoms terms products : List ℕ) : Type 0 where
   pub lengthsRoom : length lengths ≡ 32
   pub wordsRoom : length words ≡ 256
@@ -35,9 +36,9 @@ pub record LentNode (lengths words out atoms terms products : List ℕ) : Type 0
 -- the answer from a decision: refusal 11 where an equality passes the limits
 abbrev pub onDecision : ℕ → Decision → Answer
 onDecision place (Of v) = Given v
-onDecision place TooMany = Refused 11 place
+onDecision place TooMany = Refused TERMS place
 
--- what substitution has written to the end of a lent list is one tree
+-- what substitution has written to the end of a borrowed list is one tree
 abbrev pub WholeWords : Written → List ℕ → Type 0
 WholeWords (From at) out = Wf (drop at out)
 WholeWords TooLong out = Unit {0}
@@ -47,7 +48,7 @@ abbrev pub substitutedOf : Written → List ℕ → Substituted
 substitutedOf (From at) out = into (treeOf (drop at out))
 substitutedOf TooLong out = tooLong
 
--- what is given for a node whose record starts at a place
+-- what is given for a node whose record starts at an offset
 pub record JudgedIs (r : JudgedNode) (s : List ℕ) (node : NodeReading) (place : ℕ) : Type 0 where
   pub answer : r .answer ≡ nodeVerdict (nodeOf s node) place
   pub addresses : (v : Verdict) → r .answer ≡ Given v → r .addresses ≡ node .addresses

@@ -17,21 +17,21 @@ ghost use Rattle.exact.specs.Answers.{Buffers};
 ghost use Rattle.verdict_node.specs.NodeVerdict.{onSubstituted, nodeVerdict};
 ghost use Rattle.verdict_node.specs.Contracts.{LentWords, LentNode, onDecision, WholeWords, substitutedOf, JudgedIs};
 
-// The answer for a node; where it is a verdict, also how many addresses the node has, and the place of the first.
+// The answer for a node; where it is a verdict, also how many addresses the node has, and the offset of the first.
 pub struct JudgedNode {
     pub answer: Answer,
     pub addresses: u64,
     pub sites: Place,
 }
 
-// Room for what all variables hold.
+// A buffer for what all variables hold.
 fn table_room() -> [u64; 8192]
     ensures { λ r. ⌜ 8192 ≡ length r ⌝ }
 {
     [0; 8192]
 }
 
-// Room for what four variables hold.
+// A buffer for what four variables hold.
 pub fn few_held_room() -> [u64; 1024]
     ensures { λ r. ⌜ 1024 ≡ length r ⌝ }
 {
@@ -64,7 +64,7 @@ fn held_most(n: u64, variables: usize) -> usize
     if n == 0 { 0 } else { variables }
 }
 
-// A node's substituted condition, with the lent table where that has room for what may be held.
+// A node's substituted condition, with the borrowed table where that can hold what may be held.
 fn substituted(
     s: &[u8],
     types: &[u8],
@@ -93,7 +93,7 @@ fn answer_at(d: Decision, place: usize) -> Answer
 {
     match d {
         Decision::Of(v) => Answer::Given(v),
-        Decision::TooMany => Answer::Refused(11, place),
+        Decision::TooMany => Answer::Refused(refusal::TERMS, place),
     }
 }
 
@@ -112,13 +112,13 @@ fn answer_for(
     ensures { λ r. ⌜ r ≡ onSubstituted place (substitutedOf written (now (out .entry))) ⌝ }
 {
     match written {
-        Written::TooLong => Answer::Refused(10, place),
+        Written::TooLong => Answer::Refused(refusal::RECORDS, place),
         Written::From(at) => answer_at(decide::decide(&out[at..], atoms, terms, products), place),
     }
 }
 
-// The answer for the node that starts at a byte, in a sheet where it was read whole; its bytes are gone over once. All that
-// is lent is written over. A node that needs more room than is lent makes its own.
+// The answer for the node that starts at a byte, in a sheet where it was read whole; its bytes are read once. All that
+// is borrowed is written over. A node that needs larger buffers makes its own.
 pub fn verdict_at(
     s: &[u8],
     at: usize,
@@ -153,7 +153,7 @@ pub fn verdict_at(
     }
 }
 
-// The answer alone, with room of its own.
+// The answer alone, with buffers of its own.
 pub fn verdict(s: &[u8], at: usize) -> Answer
     requires { ⌜ WentOn (nodeAt (now s) (At at) .next) ⌝ }
     ensures { λ r. ⌜ r ≡ nodeVerdict (nodeOf (now (s .entry)) (nodeAt (now (s .entry)) (At at))) at ⌝ }

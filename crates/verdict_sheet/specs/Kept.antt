@@ -24,7 +24,7 @@ pub record BranchIndex (s a : List ℕ) (b : List Bool) : Type 0 where
   pub branches : b ≡ branchesOf (sheetAt s .instructions .list)
   pub rising : Ascending a
 
--- a place, where a conditional branch stands there, or else another
+-- an index, where a conditional branch is there, or else another
 abbrev pub ifBranch : List Bool → Found → Found → Found
 ifBranch branches (At k) otherwise = cond (getD branches k false) (At k) otherwise
 ifBranch branches Nothing otherwise = otherwise

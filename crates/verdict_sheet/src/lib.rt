@@ -24,7 +24,7 @@ ghost use Rattle.verdict_sheet.specs.Said.{Said, saying, blocksSay, node
 ghost use Rattle.verdict_sheet.specs.Said.Judged.{all};
 ghost use Rattle.verdict_sheet.specs.Kept.{BranchIndex, ifBranch, SiteIs, keptAt, HasSlot, slotsOf, Reached};
 
-// How far judging came: through all records, or to a node that is refused, by a number and at a place.
+// How far judging came: through all records, or to a node that is refused, with a number and an offset.
 pub enum Progress {
     Through,
     Refused(u64, usize),
@@ -43,7 +43,7 @@ fn branch_or(addresses: &[u64], branches: &[bool], address: u64, otherwise: Foun
     }
 }
 
-// The number of a node's jump, from its n addresses, which start at a place.
+// The number of a node's jump, from its n addresses, which start at an offset.
 fn node_jump(s: &[u8], sites: Place, n: u64, addresses: &[u64], branches: &[bool]) -> Found
     requires { ⌜ BranchIndex (now s) (now addresses) (now branches) ⌝ }
     ensures { λ r. ⌜ SiteIs (sheetAt (now (s .entry)) .instructions .list) r (lastBranch (sheetAt (now (s .entry)) .instructions .list) (addressesFrom (now (s .entry)) sites n .list)) ⌝ }
@@ -169,7 +169,7 @@ fn keep_node(
     }
 }
 
-// All nodes, in order, up to the first that is refused. The room for their verdicts is made once.
+// All nodes, in order, up to the first that is refused. The buffers for their verdicts are made once.
 fn judge_nodes(
     s: &[u8],
     sheet: Sheet,
@@ -214,7 +214,7 @@ fn judge_nodes(
     Progress::Through
 }
 
-// A few nodes, with room for small equalities: a larger one makes its own.
+// A few nodes, with buffers for small equalities: a larger one makes its own.
 fn judge_few(
     s: &[u8],
     sheet: Sheet,
@@ -243,7 +243,7 @@ fn judge_few(
     )
 }
 
-// Any number of nodes, with room for all equalities.
+// Any number of nodes, with buffers for all equalities.
 fn judge_many(
     s: &[u8],
     sheet: Sheet,
