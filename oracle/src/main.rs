@@ -1,8 +1,9 @@
 //! The commands. README.md has an example of each.
 
+use oracle::answers::ABSENT;
 use oracle::comparisons::frames::{self, Question};
 use oracle::comparisons::{
-    evaluations, node_times, nodes, processor, reading, runs, times, verdicts,
+    blocks, evaluations, node_times, nodes, processor, reading, runs, times,
 };
 use oracle::disassembly::command::{self, Source};
 use oracle::disassembly::judge::Program;
@@ -18,13 +19,13 @@ const USAGE: &str = "usage:
   oracle dump SHEET                sheet bytes to text, or the refusal
   oracle read SHEET                the reader's answer in one line
   oracle answer                    answers frames, but for those of blocks
-  oracle compare --program PATH [--sheets N] [--seed S]
-  oracle compare --stub [--sheets N] [--seed S]
+  oracle reading --program PATH [--sheets N] [--seed S]
+  oracle reading --stub [--sheets N] [--seed S]
   oracle bench [--program PATH [--given PATH]] [--save SHEET]
   oracle stored FRAMES LINES --given PATH
                                    the stored cases, and the lines due
-  oracle verdicts --program PATH --given PATH [--sheets N] [--seed S]
-  oracle verdicts --stub --given PATH [--sheets N] [--seed S]
+  oracle blocks --program PATH --given PATH [--sheets N] [--seed S]
+  oracle blocks --stub --given PATH [--sheets N] [--seed S]
   oracle nodes --program PATH [--given PATH] [--nodes N] [--seed S] [--smallest]
   oracle nodes --stub [--given PATH] [--nodes N] [--seed S] [--smallest]
   oracle runs --program PATH [--runs N] [--seed S]
@@ -60,11 +61,11 @@ fn command(args: &[String]) -> Outcome {
         ["dump", sheet] => dump_sheet(sheet),
         ["read", sheet] => read_sheet(sheet),
         ["answer"] => answer(),
-        ["compare", options @ ..] => compare_program(&Options::parse(options)?),
+        ["reading", options @ ..] => compare_reading(&Options::parse(options)?),
         ["bench", options @ ..] => bench(&Options::parse(options)?),
         ["processor", options @ ..] => judge_by_processor(&Options::parse(options)?),
         ["stored", frames, lines, options @ ..] => store(frames, lines, &Options::parse(options)?),
-        ["verdicts", options @ ..] => compare_verdicts(&Options::parse(options)?),
+        ["blocks", options @ ..] => compare_blocks(&Options::parse(options)?),
         ["nodes", options @ ..] => compare_nodes(&Options::parse(options)?),
         ["runs", options @ ..] => judge_by_runs(&Options::parse(options)?),
         ["list", "--text", path, options @ ..] => {
@@ -202,7 +203,7 @@ fn answer() -> Outcome {
     Ok(true)
 }
 
-fn compare_program(options: &Options) -> Outcome {
+fn compare_reading(options: &Options) -> Outcome {
     let Some(program) = options.command()? else {
         return Err(format!("compare needs --program or --stub\n{USAGE}"));
     };
@@ -210,7 +211,7 @@ fn compare_program(options: &Options) -> Outcome {
     reading::compare(&program, sheets, seed).map_err(|error| format!("{}: {error}", program[0]))
 }
 
-fn compare_verdicts(options: &Options) -> Outcome {
+fn compare_blocks(options: &Options) -> Outcome {
     let Some(given) = &options.given else {
         return Err(format!("verdicts needs --given\n{USAGE}"));
     };
@@ -219,14 +220,14 @@ fn compare_verdicts(options: &Options) -> Outcome {
         Some(path) => path,
         None => return Err(format!("verdicts needs --program or --stub\n{USAGE}")),
     };
-    let job = verdicts::Job {
+    let job = blocks::Job {
         program: std::slice::from_ref(program),
         given: std::slice::from_ref(given),
         sheets: options.sheets.unwrap_or(10_000),
         seed: options.seed.unwrap_or(1),
     };
     let programs = format!("{program} or {given}");
-    verdicts::compare(&job).map_err(|error| format!("{programs}: {error}"))
+    blocks::compare(&job).map_err(|error| format!("{programs}: {error}"))
 }
 
 fn compare_nodes(options: &Options) -> Outcome {
@@ -293,7 +294,7 @@ fn store(frames: &str, lines: &str, options: &Options) -> Outcome {
     output(lines, list.text().as_bytes())?;
     println!("{} lines, {} bytes of frames", list.lines.len(), list.frames.len());
     if list.open > 0 {
-        println!("{}; {} lines are open", verdicts::ABSENT, list.open);
+        println!("{}; {} lines are open", ABSENT, list.open);
     }
     Ok(list.open == 0)
 }

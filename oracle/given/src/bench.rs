@@ -216,7 +216,9 @@ fn plot(rows: &[Row]) -> String {
         let _ = writeln!(svg, "<line x1='60' x2='540' y1='{at}' y2='{at}' stroke='#ddd'/>");
         let _ = writeln!(svg, "<text x='8' y='{}'>{label}</text>", at + 4.0);
     }
-    for (size, label) in [(100, "100 bytes"), (1_000, "1,000"), (10_000, "10,000"), (100_000, "100,000")] {
+    for (size, label) in
+        [(100, "100 bytes"), (1_000, "1,000"), (10_000, "10,000"), (100_000, "100,000")]
+    {
         let at = x(size);
         let _ = writeln!(svg, "<line x1='{at}' x2='{at}' y1='40' y2='365' stroke='#ddd'/>");
         let _ = writeln!(svg, "<text x='{}' y='380'>{label}</text>", at - 14.0);
@@ -237,7 +239,9 @@ pub fn run(file: &str) -> io::Result<()> {
     for (name, sheet) in sheets() {
         show(&row(&mut product, name, &sheet));
     }
-    println!("\n| disjoint blocks | bytes | lines | listing (µs) | the given Rust (µs) | times faster |");
+    println!(
+        "\n| disjoint blocks | bytes | lines | listing (µs) | the given Rust (µs) | times faster |"
+    );
     println!("|---|---|---|---|---|---|");
     let rows = growth(&mut product);
     rows.iter().for_each(show);

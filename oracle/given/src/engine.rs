@@ -12,6 +12,7 @@ use crate::pipeline::Disasm;
 use crate::register::RegisterId;
 #[cfg(product)]
 use crate::structure::Terminator;
+use oracle::answers::{self, Answer, Decided, FLAGS};
 use oracle::judges::node_limits;
 use oracle::judges::reader;
 use oracle::judges::substitution::{substitute, Rule};
@@ -37,17 +38,16 @@ pub enum Nodes {
 
 /// The answer to one sheet.
 pub fn line(bytes: &[u8], nodes: Nodes) -> String {
-    match answers(bytes, nodes) {
+    match judged(bytes, nodes) {
         Ok([blocks, nodes]) => {
-            let words = [&["blocks".to_string()], &blocks[..], &["nodes".to_string()], &nodes[..]];
-            words.concat().join(" ")
+            format!("{} {}", answers::line("blocks", &blocks), answers::line("nodes", &nodes))
         }
         Err(refusal) => refusal.to_string(),
     }
 }
 
 /// The answers for the blocks and for the nodes of a sheet.
-pub fn answers(bytes: &[u8], nodes: Nodes) -> Result<[Vec<String>; 2], reader::Refusal> {
+pub fn judged(bytes: &[u8], nodes: Nodes) -> Result<[Vec<Answer>; 2], reader::Refusal> {
     let sheet = reader::read(bytes)?.sheet;
     let disasm = Disasm { instructions: sheet.instructions.iter().map(instruction).collect() };
     let blocks = sheet.blocks.iter().map(|block| block_answer(&disasm, *block)).collect();
@@ -71,30 +71,34 @@ pub fn branches(sheet: &sheet::Sheet) -> Option<usize> {
 pub fn node_line(bytes: &[u8], nodes: Nodes) -> String {
     match reader::read(bytes) {
         Ok(accepted) => {
-            accepted.sheet.nodes.iter().fold("nodes".to_string(), |line, node| {
-                format!("{line} {}", node_answer(node, nodes))
-            })
+            let answers: Vec<Answer> =
+                accepted.sheet.nodes.iter().map(|node| node_answer(node, nodes)).collect();
+            answers::line("nodes", &answers)
         }
         Err(refusal) => refusal.to_string(),
     }
 }
 
-fn answer(always: bool, reason: u8) -> String {
-    format!("{}{reason}", if always { 'a' } else { 'v' })
+fn answer(holds: bool, reason: u8) -> Answer {
+    Answer::Decided(Decided { holds, reason })
 }
 
 /// The source gives nothing both for an undecided branch and for none; which
 /// it is shows in the block's last instruction.
-fn block_answer(disasm: &Disasm, block: sheet::Block) -> String {
+fn block_answer(disasm: &Disasm, block: sheet::Block) -> Answer {
     let sheet::Block { from, to } = block;
     let graph = ProcedureCfg { blocks: vec![Block { from, to }] };
     if let Some(found) = opaque::in_flags(disasm, &graph).first() {
-        return answer(found.always, 1);
+        return answer(found.always, FLAGS);
     }
     let inside = |ins: &&DecodedInsn| from <= ins.address && ins.address < to;
     let last = disasm.instructions.iter().rev().find(inside);
     let branch = last.is_some_and(|ins| matches!(ins.flow, Flow::ConditionalBranch(_)));
-    if branch { "u" } else { "n" }.to_string()
+    if branch {
+        Answer::Undecided
+    } else {
+        Answer::NoBranch
+    }
 }
 
 fn instruction(insn: &sheet::Instruction) -> DecodedInsn {
@@ -145,18 +149,17 @@ fn operand(operand: sheet::Operand) -> Operand {
     }
 }
 
-/// `-` where the source was not run to its end.
-fn node_answer(node: &sheet::Node, nodes: Nodes) -> String {
+fn node_answer(node: &sheet::Node, nodes: Nodes) -> Answer {
     let differ = nodes == Nodes::WithDifferences;
     if let (true, Some(number)) = (differ, node_limits::refusal(node)) {
-        return format!("r{number}");
+        return Answer::Refused(number);
     }
     let Some((statements, condition)) = trees(node, nodes) else {
-        return "-".to_string();
+        return Answer::NotRun;
     };
     match guard::limited(|| opaque::node_verdict(&statements, &condition)) {
-        None => "-".to_string(),
-        Some(None) => "u".to_string(),
+        None => Answer::NotRun,
+        Some(None) => Answer::Undecided,
         Some(Some((holds, why))) => answer(holds, reason(&why)),
     }
 }

@@ -112,13 +112,13 @@ fn timed(_plot: &str) -> io::Result<()> {
 
 #[cfg(not(given_source))]
 fn with_product(_command: &str, _amount: &str, _seed: &str) -> io::Result<()> {
-    println!("{}", oracle::comparisons::verdicts::ABSENT);
+    println!("{}", oracle::answers::ABSENT);
     Ok(())
 }
 
 #[cfg(not(given_source))]
 fn timed(_plot: &str) -> io::Result<()> {
-    println!("{}", oracle::comparisons::verdicts::ABSENT);
+    println!("{}", oracle::answers::ABSENT);
     Ok(())
 }
 
@@ -151,6 +151,6 @@ fn run(lines: Lines) -> io::Result<()> {
 
 #[cfg(not(given_source))]
 fn run(_lines: Lines) -> io::Result<()> {
-    println!("{}", oracle::comparisons::verdicts::ABSENT);
+    println!("{}", oracle::answers::ABSENT);
     io::copy(&mut io::stdin(), &mut io::sink()).map(|_| ())
 }

@@ -109,8 +109,7 @@ impl Product {
     pub fn call(&mut self, sheet: &[u8], room: usize) -> Answer {
         let list = unsafe { self.other.start.add(ROOM - room) };
         let mut out = u64::MAX;
-        let number =
-            unsafe { pomthija_listing(sheet.as_ptr(), sheet.len(), list, room, &mut out) };
+        let number = unsafe { pomthija_listing(sheet.as_ptr(), sheet.len(), list, room, &mut out) };
         Answer { number, out }
     }
 

@@ -1,5 +1,6 @@
 //! Test programs held against the judges, and timed.
 
+pub mod blocks;
 pub mod evaluations;
 pub mod frames;
 pub mod node_times;
@@ -9,4 +10,3 @@ pub mod reading;
 pub mod runs;
 pub mod smaller;
 pub mod times;
-pub mod verdicts;

@@ -1,13 +1,13 @@
 //! Times of verdicts on nodes, a test program's beside those of the given
 //! source, on the same nodes in one run.
 
+use crate::answers::ABSENT;
 use crate::cases::any_sheet::Generator;
 use crate::cases::limit_node::wide_node;
 use crate::cases::verdict_node;
 use crate::comparisons::frames::{ask_nodes, ask_reading, run};
 use crate::comparisons::nodes::sheet_of;
 use crate::comparisons::times::processor_times;
-use crate::comparisons::verdicts::ABSENT;
 use crate::judges::node_limits::{children, parity, refusal};
 use crate::sheets::from_text::write;
 use crate::sheets::syntax::Node;

@@ -6,11 +6,11 @@
 //! answers are the ones due, and the judge's must be the same. Where they are
 //! not the first, that is counted by class.
 
+use crate::answers::{Answer, Line, ABSENT};
 use crate::cases::verdict_node;
 use crate::comparisons::frames::{ask_nodes, run};
 use crate::comparisons::smaller;
-use crate::comparisons::verdicts::{named, Line, ABSENT};
-use crate::judges::node_verdict::{verdict, verdict_by, Answer, Entries, BOTH_ENTRIES, NO_ENTRY};
+use crate::judges::node_verdict::{verdict, verdict_by, Entries, BOTH_ENTRIES, NO_ENTRY};
 use crate::judges::substitution::Rule;
 use crate::sheets::encode::encode;
 use crate::sheets::syntax::{Node, Sheet};
@@ -36,10 +36,6 @@ pub struct Job<'a> {
     /// For each class of differences from the given source a smallest node.
     pub smallest: bool,
 }
-
-/// The answer that was not given to the end, or not given at all.
-pub const OPEN: &str = "-";
-const MISSING: &str = "no answer";
 
 /// The entries of docs/DIFFERENCES.md, and none of them.
 #[derive(Clone, Copy, Debug, PartialEq, Eq, PartialOrd, Ord)]
@@ -73,26 +69,26 @@ impl Entry {
 
 /// Whether the given source's answer is that of the description without the
 /// entries. Where that is refused, nothing is said.
-fn as_described(node: &Node, given: &str) -> bool {
+fn as_described(node: &Node, given: Answer) -> bool {
     let described = verdict_by(node, NO_ENTRY);
-    given == OPEN || matches!(described, Answer::Refused(_)) || described.to_string() == given
+    given == Answer::NotRun || described.is_refused() || described == given
 }
 
 /// Nodes for which another answer is due than the given source's.
 #[derive(Clone, Debug, PartialEq, Eq, PartialOrd, Ord)]
 pub struct Class {
     pub entry: Entry,
-    pub given: String,
-    pub due: String,
+    pub given: Answer,
+    pub due: Answer,
 }
 
 /// The class of a node, if its answers are not the same. Refusals have none:
 /// the given source refuses nothing.
-pub fn class(node: &Node, given: &str, due: &str) -> Option<Class> {
-    if given == due || [given, due].contains(&OPEN) || due.starts_with('r') {
+pub fn class(node: &Node, given: Answer, due: Answer) -> Option<Class> {
+    if given == due || [given, due].contains(&Answer::NotRun) || due.is_refused() {
         return None;
     }
-    Some(Class { entry: Entry::of(node), given: given.to_string(), due: due.to_string() })
+    Some(Class { entry: Entry::of(node), given, due })
 }
 
 #[derive(Default)]
@@ -107,7 +103,7 @@ struct Tally {
 }
 
 impl Tally {
-    fn difference(&mut self, node: &Node, answers: [&str; 4]) {
+    fn difference(&mut self, node: &Node, answers: [Answer; 4]) {
         self.differences += 1;
         if self.differences > SHOWN {
             return;
@@ -156,7 +152,7 @@ pub fn text_of(node: &Node) -> String {
 
 /// A program's answers on nodes, `NODES` of them in a sheet; nothing if it is
 /// the given source's driver without the source.
-pub fn answers(program: &[String], nodes: &[Node]) -> io::Result<Option<Vec<String>>> {
+pub fn answers(program: &[String], nodes: &[Node]) -> io::Result<Option<Vec<Answer>>> {
     let mut input = Vec::new();
     nodes.chunks(NODES).for_each(|part| ask_nodes(&mut input, &sheet_of(part)));
     let lines = run(program, input)?;
@@ -179,16 +175,16 @@ pub fn answers(program: &[String], nodes: &[Node]) -> io::Result<Option<Vec<Stri
 
 /// The given source's answers, as it is and with the differences. As it is, it
 /// is not asked for nodes that are refused: it would take long on them.
-pub fn both(given: &[String], nodes: &[Node]) -> io::Result<Option<[Vec<String>; 2]>> {
+pub fn both(given: &[String], nodes: &[Node]) -> io::Result<Option<[Vec<Answer>; 2]>> {
     let with_differences = [given, &["--differences".to_string()]].concat();
     let Some(due) = answers(&with_differences, nodes)? else {
         return Ok(None);
     };
-    let judged = |number: &usize| !due[*number].starts_with('r');
+    let judged = |number: &usize| !due[*number].is_refused();
     let chosen: Vec<usize> = (0..nodes.len()).filter(judged).collect();
     let asked: Vec<Node> = chosen.iter().map(|number| nodes[*number].clone()).collect();
     let found = answers(given, &asked)?.unwrap_or_default();
-    let mut as_it_is = vec![OPEN.to_string(); nodes.len()];
+    let mut as_it_is = vec![Answer::NotRun; nodes.len()];
     for (number, answer) in chosen.into_iter().zip(found) {
         as_it_is[number] = answer;
     }
@@ -218,25 +214,26 @@ pub fn compare(job: &Job) -> io::Result<bool> {
 
 /// False if the source is absent.
 fn batch(job: &Job, nodes: &[Node], tally: &mut Tally) -> io::Result<bool> {
-    let nothing = || [(); 2].map(|()| vec![OPEN.to_string(); nodes.len()]);
+    let nothing = || [(); 2].map(|()| vec![Answer::NotRun; nodes.len()]);
     let judged = job.given.map_or_else(|| Ok(Some(nothing())), |given| both(given, nodes))?;
     let Some([given, due]) = judged else {
         return Ok(false);
     };
-    let found = answers(job.program, nodes)?.unwrap_or_default();
+    let Some(found) = answers(job.program, nodes)? else {
+        return Ok(false);
+    };
     for (number, node) in nodes.iter().enumerate() {
-        let program = found.get(number).map_or(MISSING, String::as_str);
-        compare_node(node, [&given[number], &due[number], program], tally);
+        compare_node(node, [given[number], due[number], found[number]], tally);
     }
     Ok(true)
 }
 
 /// Answers of the given source, those due, and the program's.
-fn compare_node(node: &Node, [given, due, program]: [&str; 3], tally: &mut Tally) {
-    let judge = verdict(node).to_string();
-    *tally.answers.entry(named(&judge)).or_default() += 1;
+fn compare_node(node: &Node, [given, due, program]: [Answer; 3], tally: &mut Tally) {
+    let judge = verdict(node);
+    *tally.answers.entry(judge.named()).or_default() += 1;
     tally.compared += 1;
-    let open = due == OPEN;
+    let open = due == Answer::NotRun;
     tally.open += u64::from(open);
     let class = class(node, given, due);
     let entry = class.as_ref().map(|class| class.entry);
@@ -245,7 +242,7 @@ fn compare_node(node: &Node, [given, due, program]: [&str; 3], tally: &mut Tally
     }
     let explained = as_described(node, given) && entry != Some(Entry::None);
     if !explained || program != judge || (!open && program != due) {
-        tally.difference(node, [given, due, &judge, program]);
+        tally.difference(node, [given, due, judge, program]);
     }
 }
 

@@ -2,10 +2,11 @@
 //! run from many start states, with every jump behind them, and a program's
 //! verdicts on the same instructions are held against what the jumps did.
 
+use crate::answers::{Answer, Decided, Line, ABSENT, FLAGS};
 use crate::cases::random::Random;
+use crate::comparisons::blocks::alone;
 use crate::comparisons::frames::{ask_blocks, run};
 use crate::comparisons::reading::hex;
-use crate::comparisons::verdicts::{alone, Line, ABSENT};
 use crate::judges::assembler::{encodings, Code};
 use crate::judges::processor::{Runner, Start, FIRST_JUMP, JUMPS, MISSING};
 use crate::sheets::encode::encode;
@@ -351,10 +352,9 @@ fn verdicts(line: &str) -> Option<[Option<bool>; JUMPS]> {
     let Line::Answers { blocks, .. } = Line::parse(line) else {
         return None;
     };
-    let answer = |word: &String| match word.as_str() {
-        "u" => Some(None),
-        "a1" => Some(Some(true)),
-        "v1" => Some(Some(false)),
+    let answer = |answer: &Answer| match answer {
+        Answer::Undecided => Some(None),
+        Answer::Decided(Decided { holds, reason: FLAGS }) => Some(Some(*holds)),
         _ => None,
     };
     let answers: Vec<Option<bool>> = blocks.iter().map(answer).collect::<Option<_>>()?;

@@ -1,11 +1,11 @@
 //! Runs as judges of verdicts on nodes: each decided node is run with any
 //! values, memory and effects, and no run may go against its verdict.
 
+use crate::answers::{Answer, Decided, ABSENT};
 use crate::cases::verdict_node;
 use crate::comparisons::nodes::{answers, text_of, Entry};
-use crate::comparisons::verdicts::ABSENT;
 use crate::judges::node_runs::Runs;
-use crate::judges::node_verdict::{verdict, Answer};
+use crate::judges::node_verdict::verdict;
 use crate::sheets::syntax::Node;
 use std::collections::BTreeMap;
 use std::io;
@@ -70,7 +70,7 @@ pub fn judge(program: &[String], verdicts: Verdicts, amounts: [u64; 2]) -> io::R
             return Ok(true);
         };
         for (node, answer) in nodes.iter().zip(&found) {
-            judge_node(node, answer, verdicts, &mut tally);
+            judge_node(node, *answer, verdicts, &mut tally);
         }
     }
     tally.print();
@@ -85,15 +85,13 @@ pub fn judge(program: &[String], verdicts: Verdicts, amounts: [u64; 2]) -> io::R
     }
 }
 
-fn judge_node(node: &Node, answer: &str, verdicts: Verdicts, tally: &mut Tally) {
+fn judge_node(node: &Node, answer: Answer, verdicts: Verdicts, tally: &mut Tally) {
     tally.nodes += 1;
-    let holds = match answer.as_bytes().first() {
-        Some(b'a') => true,
-        Some(b'v') => false,
-        _ => return,
+    let Answer::Decided(Decided { holds, .. }) = answer else {
+        return;
     };
     // The given source also answers where a verdict is refused.
-    if matches!(verdict(node), Answer::Refused(_)) && verdicts == Verdicts::GivenAsTheyAre {
+    if verdict(node).is_refused() && verdicts == Verdicts::GivenAsTheyAre {
         return;
     }
     tally.decided += 1;

@@ -20,7 +20,7 @@ pub fn smallest(given: &[String], wanted: &Class, node: &Node) -> io::Result<Nod
             return Ok(node);
         };
         let kept = (0..steps.len())
-            .find(|i| class(&steps[*i], &as_it_is[*i], &due[*i]).as_ref() == Some(wanted));
+            .find(|i| class(&steps[*i], as_it_is[*i], due[*i]).as_ref() == Some(wanted));
         match kept {
             Some(step) => node = steps.swap_remove(step),
             None => return Ok(node),

@@ -1,6 +1,6 @@
 //! The way from a program, or from its disassembly, to its decided branches.
 
-use crate::comparisons::verdicts::ABSENT;
+use crate::answers::ABSENT;
 use crate::disassembly::blocks::{leaders, Leaders};
 use crate::disassembly::control_flow::{self, ControlFlow, Outside};
 use crate::disassembly::elf::{self, File, Span};

@@ -2,8 +2,8 @@
 //! takes one sheet, or one that answers frames (a test program of ours, or the
 //! given source's driver).
 
+use crate::answers::{self, Answer, Line, ABSENT};
 use crate::comparisons::frames::{ask_blocks, run};
-use crate::comparisons::verdicts::{Line, ABSENT};
 use crate::sheets::encode::encode;
 use crate::sheets::syntax::{Block, Sheet};
 use std::io::{self, Write};
@@ -61,15 +61,13 @@ fn of_blocks(sheet: &Sheet, line: &str) -> io::Result<Vec<Decided>> {
     }
     let mut list = Vec::new();
     for (block, answer) in sheet.blocks.iter().zip(&blocks) {
-        let always = match answer.get(..1) {
-            Some("a") => true,
-            Some("v") => false,
-            _ if ["u", "n"].contains(&answer.as_str()) => continue,
-            _ => return Err(unclear()),
+        let answers::Decided { holds, reason } = match answer {
+            Answer::Decided(decided) => *decided,
+            Answer::Undecided | Answer::NoBranch => continue,
+            Answer::Refused(_) | Answer::NotRun => return Err(unclear()),
         };
-        let reason = answer[1..].parse().map_err(|_| unclear())?;
         let (site, target) = branch_of(sheet, *block).ok_or_else(unclear)?;
-        list.push(Decided { site, target, always, reason });
+        list.push(Decided { site, target, always: holds, reason });
     }
     list.sort();
     Ok(list)

@@ -1,7 +1,8 @@
 //! The listing that is due for a sheet, from the answers for its blocks and
 //! nodes. Written from the description alone: it keeps a map by site, and the
-//! product keeps a place for each instruction.
+//! product keeps a slot for each instruction.
 
+use crate::answers::{Answer, Decided};
 use crate::judges::evaluator::place_of_node;
 use crate::judges::reader::{read, Refusal};
 use crate::sheets::syntax::{Instruction, Node, Sheet};
@@ -21,41 +22,39 @@ pub enum Due {
     Open,
 }
 
-/// What is due where the list has room for so many bytes. The answers are
-/// those of a line of verdicts: `a1`, `v6`, `u`, `n`, `r10`, `-`.
-pub fn due(bytes: &[u8], blocks: &[String], nodes: &[String], room: usize) -> Due {
+/// What is due where the list has so many bytes.
+pub fn due(bytes: &[u8], blocks: &[Answer], nodes: &[Answer], length: usize) -> Due {
     let sheet = match read(bytes) {
         Ok(accepted) => accepted.sheet,
         Err(refusal) => return Due::Refused(refusal),
     };
     for (number, answer) in nodes.iter().enumerate() {
-        match answer.strip_prefix('r') {
-            Some(refusal) => {
-                let number_of = refusal.parse().expect("a refusal has a number");
+        match answer {
+            Answer::Refused(refusal) => {
                 let place = place_of_node(&sheet, number);
-                return Due::Refused(Refusal { number: number_of, place });
+                return Due::Refused(Refusal { number: *refusal, place });
             }
-            None if answer == "-" => return Due::Open,
-            None => {}
+            Answer::NotRun => return Due::Open,
+            Answer::Decided(_) | Answer::Undecided | Answer::NoBranch => {}
         }
     }
     let lines = lines(&sheet, blocks, nodes);
-    if lines.len() > room {
+    if lines.len() > length {
         return Due::Refused(Refusal { number: SHORT, place: bytes.len() });
     }
     Due::Lines(lines)
 }
 
 /// The lines, by site; for a site the first record that decides it.
-fn lines(sheet: &Sheet, blocks: &[String], nodes: &[String]) -> Vec<u8> {
+fn lines(sheet: &Sheet, blocks: &[Answer], nodes: &[Answer]) -> Vec<u8> {
     let mut found: BTreeMap<u64, Vec<u8>> = BTreeMap::new();
-    let mut note = |jump: Option<&Instruction>, answer: &str| {
-        let Some((always, reason)) = decided(answer) else { return };
+    let mut note = |jump: Option<&Instruction>, answer: &Answer| {
+        let Answer::Decided(Decided { holds, reason }) = *answer else { return };
         let Some(jump) = jump else { return };
         let Some(target) = jump.target else { return };
         found.entry(jump.address).or_insert_with(|| {
             let mut line = [jump.address.to_le_bytes(), target.to_le_bytes()].concat();
-            line.extend([u8::from(always), reason]);
+            line.extend([u8::from(holds), reason]);
             line
         });
     };
@@ -67,15 +66,6 @@ fn lines(sheet: &Sheet, blocks: &[String], nodes: &[String]) -> Vec<u8> {
         note(jump_of(sheet, node), answer);
     }
     found.into_values().flatten().collect()
-}
-
-fn decided(answer: &str) -> Option<(bool, u8)> {
-    let (verdict, reason) = answer.split_at(answer.len().min(1));
-    match verdict {
-        "a" => Some((true, reason.parse().expect("a verdict has a reason"))),
-        "v" => Some((false, reason.parse().expect("a verdict has a reason"))),
-        _ => None,
-    }
 }
 
 /// The last address that is one of a conditional branch.

@@ -1,13 +1,13 @@
 //! The verdict on a node, from the description alone: the given source has no
 //! part in it, so that it also judges nodes on which that source takes too long.
 
+use crate::answers::{self, Answer, Decided};
 use crate::judges::node_limits::{children, condition, has_effect, is_constant, parity, Poly};
 use crate::judges::reader::read;
 use crate::judges::substitution::Rule;
 use crate::sheets::names::operator::*;
 use crate::sheets::names::value_type::{POINTER, U8};
 use crate::sheets::syntax::{Node, Record};
-use std::fmt;
 
 /// The numbers of reasons.
 const SAME: u8 = 2;
@@ -16,30 +16,6 @@ const UNSIGNED: u8 = 4;
 const EXACT: u8 = 5;
 const PARITY: u8 = 6;
 const BOTH_HALVES: u8 = 7;
-
-#[derive(Clone, Copy, Debug, PartialEq, Eq)]
-pub enum Answer {
-    Decided(Decided),
-    Undecided,
-    Refused(u8),
-}
-
-#[derive(Clone, Copy, Debug, PartialEq, Eq)]
-pub struct Decided {
-    pub holds: bool,
-    pub reason: u8,
-}
-
-impl fmt::Display for Answer {
-    fn fmt(&self, out: &mut fmt::Formatter) -> fmt::Result {
-        match self {
-            Answer::Decided(Decided { holds: true, reason }) => write!(out, "a{reason}"),
-            Answer::Decided(Decided { holds: false, reason }) => write!(out, "v{reason}"),
-            Answer::Undecided => write!(out, "u"),
-            Answer::Refused(number) => write!(out, "r{number}"),
-        }
-    }
-}
 
 /// Which entries of docs/DIFFERENCES.md hold: the first by the rule of
 /// substitution, the second where equal sides with an effect do not fold.
@@ -74,8 +50,7 @@ pub fn line(bytes: &[u8]) -> String {
         Ok(accepted) => accepted.sheet,
         Err(refusal) => return refusal.to_string(),
     };
-    let answer = |line: String, node: &Node| format!("{line} {}", verdict(node));
-    sheet.nodes.iter().fold("nodes".to_string(), answer)
+    answers::line("nodes", &sheet.nodes.iter().map(verdict).collect::<Vec<Answer>>())
 }
 
 fn decided(holds: bool, reason: u8) -> Option<Decided> {

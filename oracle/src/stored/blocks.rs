@@ -1,11 +1,11 @@
 //! Stored cases of the verdicts on blocks: sheets with answers worked out by
 //! hand, and generated sheets with those of the given source.
 
+use crate::answers::{line as due, Answer, Decided, Line, ABSENT, FLAGS};
 use crate::cases::block_sheet;
 use crate::comparisons::frames::{ask_blocks, run};
-use crate::comparisons::verdicts::{Line, ABSENT};
 use crate::judges::reader::read;
-use crate::stored::verdicts::{self, due, Case};
+use crate::stored::verdicts::{self, Case};
 use crate::stored::List;
 
 /// Generated sheets in the list, and the seed that they depend on.
@@ -60,10 +60,14 @@ fn otherwise(name: &str, line: &str) -> String {
 }
 
 /// The given source's answers, if all of them are answers on blocks.
-fn answers(line: &str) -> Option<Vec<String>> {
+fn answers(line: &str) -> Option<Vec<Answer>> {
     let Line::Answers { blocks, .. } = Line::parse(line) else {
         return None;
     };
-    let known = |answer: &String| ["n", "u", "a1", "v1"].contains(&answer.as_str());
+    let known = |answer: &Answer| match answer {
+        Answer::NoBranch | Answer::Undecided => true,
+        Answer::Decided(Decided { reason, .. }) => *reason == FLAGS,
+        Answer::Refused(_) | Answer::NotRun => false,
+    };
     blocks.iter().all(known).then_some(blocks)
 }

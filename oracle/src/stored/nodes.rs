@@ -1,13 +1,13 @@
 //! Stored cases of the verdicts on nodes: sheets with answers worked out by
 //! hand, and generated nodes with those of the given source.
 
+use crate::answers::{line as due, Answer, Line, ABSENT};
 use crate::cases::verdict_node;
 use crate::comparisons::frames::{ask_nodes, run};
-use crate::comparisons::nodes::{sheet_of, size, OPEN};
-use crate::comparisons::verdicts::{Line, ABSENT};
+use crate::comparisons::nodes::{sheet_of, size};
 use crate::judges::node_verdict;
 use crate::sheets::syntax::Node;
-use crate::stored::verdicts::{self, due, Case};
+use crate::stored::verdicts::{self, Case};
 use crate::stored::List;
 
 /// Generated nodes in the list, in sheets of so many, and the seed that they
@@ -38,7 +38,7 @@ fn generated() -> Vec<Case> {
     let short: Vec<Node> = nodes.filter(|node| size(node) <= MOST_BYTES).take(NODES).collect();
     let case = |(number, nodes): (usize, &[Node])| {
         let sheet = sheet_of(nodes);
-        let expected = nodes.iter().map(|node| node_verdict::verdict(node).to_string()).collect();
+        let expected = nodes.iter().map(node_verdict::verdict).collect();
         Case { name: format!("generated nodes, sheet {number}"), sheet, expected, given: None }
     };
     short.chunks(IN_A_SHEET).enumerate().map(case).collect()
@@ -73,7 +73,7 @@ pub fn store(by_hand: Vec<Case>, given: &[String], list: &mut List) -> Result<()
 /// for a case by hand also as it is. What it does not judge to the end is left
 /// to the judge, and as it is it refuses nothing.
 fn check(case: &Case, lines: [&str; 2], by_hand: bool) -> Result<(), String> {
-    let asked = |answer: &String| by_hand && !answer.starts_with('r');
+    let asked = |answer: &Answer| by_hand && !answer.is_refused();
     let as_it_is = alike(lines[0], case.stated(), asked);
     let with_differences = alike(lines[1], &case.expected, |_| true);
     match (as_it_is, with_differences) {
@@ -85,10 +85,12 @@ fn check(case: &Case, lines: [&str; 2], by_hand: bool) -> Result<(), String> {
 
 /// Whether a line has these answers, where they are to be compared and it does
 /// not leave them open.
-fn alike(line: &str, answers: &[String], compared: impl Fn(&String) -> bool) -> bool {
+fn alike(line: &str, answers: &[Answer], compared: impl Fn(&Answer) -> bool) -> bool {
     let Line::Answers { nodes, .. } = Line::parse(line) else {
         return false;
     };
-    let same = |(found, due): (&String, &String)| found == due || found == OPEN || !compared(due);
+    let same = |(found, due): (&Answer, &Answer)| {
+        found == due || *found == Answer::NotRun || !compared(due)
+    };
     nodes.len() == answers.len() && nodes.iter().zip(answers).all(same)
 }

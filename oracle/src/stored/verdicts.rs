@@ -1,20 +1,21 @@
 //! Stored cases of the verdicts by hand: sheets that are accepted, with the
 //! answers on their blocks or on their nodes.
 
+use crate::answers::{answers, Answer};
 use crate::judges::reader::read;
 use crate::stored::text::{sheet_of, sources, Source};
 
 pub struct Case {
     pub name: String,
     pub sheet: Vec<u8>,
-    pub expected: Vec<String>,
+    pub expected: Vec<Answer>,
     /// The given source's answers as it is, where they are others.
-    pub given: Option<Vec<String>>,
+    pub given: Option<Vec<Answer>>,
 }
 
 impl Case {
     /// What the given source is to answer as it is.
-    pub fn stated(&self) -> &[String] {
+    pub fn stated(&self) -> &[Answer] {
         self.given.as_ref().unwrap_or(&self.expected)
     }
 }
@@ -38,26 +39,19 @@ fn one(source: &Source, records: &str) -> Result<Case, String> {
     let given = match given.as_slice() {
         [] => None,
         [(_, line)] => {
-            Some(answers(&line.split_whitespace().skip(1).collect::<Vec<&str>>(), records)?)
+            Some(answers_on(&line.split_whitespace().skip(1).collect::<Vec<&str>>(), records)?)
         }
         _ => return Err("more than one line 'given ...'".to_string()),
     };
-    let expected = answers(&expectation, records)?;
+    let expected = answers_on(&expectation, records)?;
     let (sheet, _) = sheet_of(&body, source.first_line)?;
     read(&sheet).map_err(|refusal| refusal.to_string())?;
     Ok(Case { name: source.name.to_string(), sheet, expected, given })
 }
 
-fn answers(words: &[&str], records: &str) -> Result<Vec<String>, String> {
+fn answers_on(words: &[&str], records: &str) -> Result<Vec<Answer>, String> {
     match words {
-        [first, answers @ ..] if *first == records => {
-            Ok(answers.iter().map(|answer| answer.to_string()).collect())
-        }
+        [first, words @ ..] if *first == records => answers(words),
         _ => Err(format!("'{records} ...' is needed")),
     }
-}
-
-/// The line due for these answers.
-pub fn due(records: &str, answers: &[String]) -> String {
-    answers.iter().fold(records.to_string(), |line, answer| format!("{line} {answer}"))
 }

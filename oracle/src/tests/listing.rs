@@ -1,5 +1,6 @@
 //! Tests of the listing that is due, with lines written out by hand.
 
+use crate::answers::{answers, Answer};
 use crate::judges::listing::{due, Due, LINE};
 use crate::judges::reader::Refusal;
 use crate::sheets::from_text::write;
@@ -23,13 +24,13 @@ node
   addresses 0x99
 ";
 
-fn answers(words: &str) -> Vec<String> {
-    words.split(' ').map(str::to_string).collect()
+fn parsed(words: &str) -> Vec<Answer> {
+    answers(&words.split(' ').collect::<Vec<&str>>()).unwrap()
 }
 
-fn found(blocks: &str, nodes: &str, room: usize) -> Due {
+fn found(blocks: &str, nodes: &str, length: usize) -> Due {
     let bytes = write(SHEET).unwrap_or_else(|error| panic!("{error}")).bytes;
-    due(&bytes, &answers(blocks), &answers(nodes), room)
+    due(&bytes, &parsed(blocks), &parsed(nodes), length)
 }
 
 fn line(site: u64, target: u64, verdict: u8, reason: u8) -> Vec<u8> {

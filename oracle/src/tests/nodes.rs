@@ -1,6 +1,7 @@
 //! Tests of what judges verdicts on nodes: the judge from the description, runs,
 //! classes of differences, generated nodes.
 
+use crate::answers::Answer;
 use crate::cases::any_sheet::Generator;
 use crate::cases::limit_node::{long_node, wide_node};
 use crate::cases::verdict_node;
@@ -18,6 +19,10 @@ use crate::stored::nodes;
 fn node(lines: &str) -> Node {
     let bytes = write(&format!("node\n{lines}\n")).unwrap_or_else(|error| panic!("{error}")).bytes;
     read(&bytes).unwrap_or_else(|refusal| panic!("{refusal}")).sheet.nodes[0].clone()
+}
+
+fn answer(word: &str) -> Answer {
+    word.parse().unwrap()
 }
 
 #[test]
@@ -78,9 +83,12 @@ fn the_two_entries_are_told_apart() {
     assert_eq!(Entry::of(&node(first)), Entry::First);
     assert_eq!(Entry::of(&node(second)), Entry::Second);
     assert_eq!(Entry::of(&node("vars u32\ncond (== v0 v0)")), Entry::None);
-    assert_eq!(class(&node(first), "v6", "u").map(|class| class.entry), Some(Entry::First));
-    assert_eq!(class(&node(first), "v6", "v6"), None);
-    assert_eq!(class(&node(first), "v6", "r10"), None);
+    assert_eq!(
+        class(&node(first), answer("v6"), answer("u")).map(|class| class.entry),
+        Some(Entry::First)
+    );
+    assert_eq!(class(&node(first), answer("v6"), answer("v6")), None);
+    assert_eq!(class(&node(first), answer("v6"), answer("r10")), None);
     // What the given source answers there goes against a run of each.
     assert_eq!(runs(first), [200, 200]);
     assert!(either_way(second));

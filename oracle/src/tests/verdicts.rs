@@ -1,9 +1,9 @@
 //! Tests of what judges verdicts: generators, comparison, stored answers,
 //! limits, assembler, processor.
 
+use crate::answers::{answers, Line};
 use crate::cases::block_sheet;
 use crate::comparisons::processor;
-use crate::comparisons::verdicts::Line;
 use crate::judges::assembler::{encodings, jump};
 use crate::judges::node_limits;
 use crate::judges::processor::{Runner, Start, FIRST_JUMP, JUMPS, MISSING};
@@ -63,16 +63,17 @@ fn rich_blocks_end_in_every_jump_and_hold_every_mnemonic() {
 
 #[test]
 fn lines_are_taken_apart() {
-    let words = |list: &[&str]| list.iter().map(|word| word.to_string()).collect::<Vec<_>>();
-    let answers = |blocks: &[&str], nodes: &[&str]| Line::Answers {
-        blocks: words(blocks),
-        nodes: words(nodes),
+    let line = |blocks: &[&str], nodes: &[&str]| Line::Answers {
+        blocks: answers(blocks).unwrap(),
+        nodes: answers(nodes).unwrap(),
     };
-    assert_eq!(Line::parse("blocks a1 u n nodes v6 u"), answers(&["a1", "u", "n"], &["v6", "u"]));
-    assert_eq!(Line::parse("blocks nodes"), answers(&[], &[]));
-    assert_eq!(Line::parse("blocks u"), answers(&["u"], &[]));
+    assert_eq!(Line::parse("blocks a1 u n nodes v6 u"), line(&["a1", "u", "n"], &["v6", "u"]));
+    assert_eq!(Line::parse("blocks nodes"), line(&[], &[]));
+    assert_eq!(Line::parse("blocks u nodes r10 -"), line(&["u"], &["r10", "-"]));
     assert_eq!(Line::parse("refused 1 at 0"), Line::Refused("refused 1 at 0".to_string()));
-    for unclear in ["", "no line", "block a1", "blocks nodes nodes"] {
+    for unclear in
+        ["", "no line", "block a1", "blocks nodes nodes", "blocks a", "blocks ax", "nodes w1"]
+    {
         assert_eq!(Line::parse(unclear), Line::Unclear, "{unclear}");
     }
 }

@@ -139,7 +139,7 @@ fn tried(
     tally: &mut Tally,
 ) -> Result<(), String> {
     let [blocks, nodes] =
-        engine::answers(sheet, Nodes::WithDifferences).unwrap_or_else(|_| Default::default());
+        engine::judged(sheet, Nodes::WithDifferences).unwrap_or_else(|_| Default::default());
     let whole = match due(sheet, &blocks, &nodes, usize::MAX) {
         Due::Lines(lines) => lines.len(),
         _ => LINE,

@@ -1,11 +1,7 @@
 //! The comparison of a test program with the given source: both answer the
 //! same sheets, and their answers are compared block by block.
-//!
-//! A line is `blocks` and an answer for each block, or the refusal. Answers are
-//! `n` (no branch at the block's end), `u` (undecided), `a` or `v` with the
-//! reason's number (always, never). In answers on nodes there are also `r10`
-//! and `r11` (refused), and `-` where the given source was not run to its end.
 
+use crate::answers::{Answer, Line, ABSENT};
 use crate::cases::block_sheet;
 use crate::comparisons::frames::{ask_blocks, run};
 use crate::judges::reader::read;
@@ -13,9 +9,6 @@ use crate::sheets::syntax::{Block, Sheet};
 use crate::sheets::to_text;
 use std::collections::BTreeMap;
 use std::io;
-
-/// What the driver says that was built without the source.
-pub const ABSENT: &str = "not compared: source absent";
 
 /// Sheets for which one process of each program is started.
 const BATCH: u64 = 5_000;
@@ -28,47 +21,6 @@ pub struct Job<'a> {
     pub given: &'a [String],
     pub sheets: u64,
     pub seed: u64,
-}
-
-/// A program's line taken apart.
-#[derive(Debug, PartialEq, Eq)]
-pub enum Line {
-    Refused(String),
-    Answers { blocks: Vec<String>, nodes: Vec<String> },
-    Unclear,
-}
-
-impl Line {
-    pub fn parse(line: &str) -> Line {
-        if line.starts_with("refused ") {
-            return Line::Refused(line.to_string());
-        }
-        let words: Vec<String> = line.split(' ').map(str::to_string).collect();
-        let mut parts = words.split(|word| word == "nodes");
-        let blocks = match parts.next() {
-            Some([]) => Vec::new(),
-            Some([first, answers @ ..]) if first == "blocks" => answers.to_vec(),
-            _ => return Line::Unclear,
-        };
-        let nodes = parts.next().unwrap_or(&[]).to_vec();
-        if parts.next().is_some() {
-            return Line::Unclear;
-        }
-        Line::Answers { blocks, nodes }
-    }
-}
-
-/// An answer in words, for the counts.
-pub fn named(answer: &str) -> String {
-    let (verdict, reason) = answer.split_at(answer.len().min(1));
-    match verdict {
-        "a" => format!("always {reason}"),
-        "v" => format!("never {reason}"),
-        "u" => "undecided".to_string(),
-        "n" => "no branch".to_string(),
-        "r" => format!("refused {reason}"),
-        _ => "not judged by the given source".to_string(),
-    }
 }
 
 #[derive(Default)]
@@ -166,20 +118,26 @@ fn compare_sheet(index: u64, sheet: &[u8], lines: [&str; 2], tally: &mut Tally) 
     Ok(())
 }
 
-fn compare_blocks(sheet: &Sheet, index: u64, lists: [&[String]; 2], tally: &mut Tally) {
+fn compare_blocks(sheet: &Sheet, index: u64, lists: [&[Answer]; 2], tally: &mut Tally) {
     for (number, block) in sheet.blocks.iter().enumerate() {
-        let pair = lists.map(|list| list.get(number).map_or("no answer", String::as_str));
+        let pair = lists.map(|list| list.get(number).copied());
         tally.compared += 1;
-        *tally.answers.entry(named(pair[0])).or_default() += 1;
+        *tally.answers.entry(shown(pair[0])).or_default() += 1;
         if pair[0] != pair[1] {
             let text = to_text::text(&alone(sheet, *block));
-            tally.difference(index, &format!("block {number}"), pair, &text);
+            let [due, found] = pair.map(shown);
+            tally.difference(index, &format!("block {number}"), [&due, &found], &text);
         }
     }
     let counts = lists.map(|list| format!("{} answers", list.len()));
     if lists[1].len() > lists[0].len() {
         tally.difference(index, "the number of blocks", [&counts[0], &counts[1]], "");
     }
+}
+
+/// An answer in words, or that there is none.
+fn shown(answer: Option<Answer>) -> String {
+    answer.map_or("no answer".to_string(), Answer::named)
 }
 
 /// A sheet of one block and its instructions.
