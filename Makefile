@@ -1,0 +1,50 @@
+# make            the library (static and shared) and the listing program, in build/
+# make sample     the same, and the program run on a sample
+# make test       the gate: every proof from nothing, the must-fail edits and the outside checks
+# make install    header, libraries, pkg-config file and program under PREFIX (and DESTDIR)
+# make clean      removes build/; what is proved stays in target/
+#
+# rt proves a crate again only where it or something below it has changed. `rt check` proves crates side by side,
+# `rt staticlib` one after the other, so the first comes before the second.
+PREFIX = /usr/local
+DESTDIR =
+CC = cc
+CFLAGS = -O2
+VERSION := $(shell sed -n 's/^.define POMTHIJA_VERSION //p' include/pomthija.h)
+to = $(DESTDIR)$(PREFIX)
+
+.PHONY: all library program sample test install clean
+
+all: library program
+
+library:
+	rt check pomthija
+	rt staticlib pomthija
+	mkdir -p build
+	cp target/staticlib/libpomthija.a build/
+	$(CC) -shared -Wl,-soname,libpomthija.so.$(VERSION) -Wl,--whole-archive build/libpomthija.a -Wl,--no-whole-archive -o build/libpomthija.so
+
+program:
+	rt check listing
+	rt staticlib listing
+	mkdir -p build
+	$(CC) $(CFLAGS) -o build/listing programs/listing.c target/staticlib/liblisting.a
+
+sample: program
+	build/listing < examples/first.sheet
+
+test:
+	bash .ci/run
+
+install: all
+	install -d $(to)/include $(to)/lib/pkgconfig $(to)/bin
+	install -m 644 include/pomthija.h $(to)/include/
+	install -m 644 build/libpomthija.a $(to)/lib/
+	install -m 755 build/libpomthija.so $(to)/lib/libpomthija.so.$(VERSION)
+	ln -sf libpomthija.so.$(VERSION) $(to)/lib/libpomthija.so
+	install -m 755 build/listing $(to)/bin/pomthija-listing
+	printf '%s\n' 'prefix=$(PREFIX)' 'Name: pomthija' 'Description: verdicts on conditional branches of x86-64 code' \
+	  'Version: $(VERSION)' 'Cflags: -I$${prefix}/include' 'Libs: -L$${prefix}/lib -lpomthija' > $(to)/lib/pkgconfig/pomthija.pc
+
+clean:
+	rm -rf build
