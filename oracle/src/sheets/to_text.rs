@@ -120,24 +120,24 @@ fn expression(records: &[Record]) -> String {
 pub fn meaning(number: u8) -> &'static str {
     match number {
         refusal::ENDED => {
-            "the sheet ends inside the field at this place, or bytes are left over from here on"
+            "the sheet ends inside the field at this offset, or bytes are left over from here on"
         }
-        refusal::CODE => "the code, map byte or variable number at this place is not in its table",
-        refusal::COUNT => "the count at this place is outside its limits",
-        refusal::ADDRESS => "the address at this place is not above that of the instruction before",
+        refusal::CODE => "the code, map byte or variable number at this offset is not in its table",
+        refusal::COUNT => "the count at this offset is outside its limits",
+        refusal::ADDRESS => "the address at this offset is not above that of the instruction before",
         refusal::REGISTER => {
-            "the class 1 register at this place has an index, size or offset that does not exist"
+            "the class 1 register at this offset has an index, size or offset that does not exist"
         }
         refusal::MODELLED => {
-            "the instruction at this place is modelled, and its registers' sizes or classes or its \
+            "the instruction at this offset is modelled, and its registers' sizes or classes or its \
               declared flags do not fit its mnemonic"
         }
         refusal::TREE => {
-            "the records are not one tree: the one at this place lacks a child, or the expression \
+            "the records are not one tree: the one at this offset lacks a child, or the expression \
               that ends before it is not exactly one tree"
         }
-        refusal::CONSTANT => "the constant at this place does not fit its width",
-        refusal::TYPE => "the assignment at this place gives its variable a value of another type",
+        refusal::CONSTANT => "the constant at this offset does not fit its width",
+        refusal::TYPE => "the assignment at this offset gives its variable a value of another type",
         _ => "a number that reading does not give",
     }
 }
