@@ -72,33 +72,33 @@ enum pomthija_reason {
 };
 
 /* What a function returns: 0, or the number of a refusal, which is never 0. A refusal leaves its
- * place in *out. That is an offset in bytes from the start of the sheet, except for
- * POMTHIJA_NUMBER, where it is 0, and POMTHIJA_VALUE, where it is the number of a variable. */
+ * offset in *out, in bytes from the start of the sheet, except for POMTHIJA_NUMBER, where it is 0, and
+ * POMTHIJA_VALUE, where it is the number of a variable. */
 enum {
     POMTHIJA_OK = 0,
 
     /* the sheet is not in the format */
-    POMTHIJA_ENDS = 1,        /* it stops too early (place: the field that is not complete), or goes on after its
-                                 last record (place: the byte after that) */
-    POMTHIJA_CODE = 2,        /* a map, a code or a variable's number that is not in its table; place: its byte */
-    POMTHIJA_COUNT = 3,       /* a count outside its limits; place: its first byte */
-    POMTHIJA_ADDRESS = 4,     /* an instruction's address is no greater than the one before; place: its first byte */
-    POMTHIJA_REGISTER = 5,    /* a general register (class 1) that does not exist; place: its class byte */
-    POMTHIJA_INSTRUCTION = 6, /* operands or declared flags that a modelled instruction cannot have; place: its map */
-    POMTHIJA_TREE = 7,        /* records that do not form one tree; place: the record without enough children, or,
+    POMTHIJA_ENDS = 1,        /* it stops too early (offset: the field that is not complete), or goes on after its
+                                 last record (offset: the byte after that) */
+    POMTHIJA_CODE = 2,        /* a map, a code or a variable's number that is not in its table; offset: its byte */
+    POMTHIJA_COUNT = 3,       /* a count outside its limits; offset: its first byte */
+    POMTHIJA_ADDRESS = 4,     /* an instruction's address is no greater than the one before; offset: its first byte */
+    POMTHIJA_REGISTER = 5,    /* a general register (class 1) that does not exist; offset: its class byte */
+    POMTHIJA_INSTRUCTION = 6, /* operands or declared flags that a modelled instruction cannot have; offset: its map */
+    POMTHIJA_TREE = 7,        /* records that do not form one tree; offset: the record without enough children, or,
                                  where trees are left over, the byte after the expression */
-    POMTHIJA_CONSTANT = 8,    /* a constant that does not fit its width; place: its value's first byte */
-    POMTHIJA_TYPE = 9,        /* an assignment whose two types differ; place: its map byte */
+    POMTHIJA_CONSTANT = 8,    /* a constant that does not fit its width; offset: its value's first byte */
+    POMTHIJA_TYPE = 9,        /* an assignment whose two types differ; offset: its map byte */
 
     /* the sheet is accepted, but not the request */
     POMTHIJA_RECORDS = 10,    /* a value that a node assigns, or its condition, passes 128 records once the values
-                                 assigned before stand in it; place: the node's first byte */
-    POMTHIJA_TERMS = 11,      /* an equality of a node passes the limits on terms; place: the node's first byte */
-    POMTHIJA_ROOM = 12,       /* the list is too short for the lines; place: the sheet's length */
-    POMTHIJA_NUMBER = 13,     /* the sheet has no node of this number; place: 0 */
-    POMTHIJA_DIVISION = 14,   /* the run divides by zero; place: the node's first byte */
-    POMTHIJA_NOT_PLAIN = 15,  /* an effect, a load or a statement that assigns nothing; place: the node's first byte */
-    POMTHIJA_VALUE = 16       /* no value for a variable, or one that its type cannot hold; place: the number of the
+                                 assigned before stand in it; offset: the node's first byte */
+    POMTHIJA_TERMS = 11,      /* an equality of a node passes the limits on terms; offset: the node's first byte */
+    POMTHIJA_ROOM = 12,       /* the list is too short for the lines; offset: the sheet's length */
+    POMTHIJA_NUMBER = 13,     /* the sheet has no node of this number; offset: 0 */
+    POMTHIJA_DIVISION = 14,   /* the run divides by zero; offset: the node's first byte */
+    POMTHIJA_NOT_PLAIN = 15,  /* an effect, a load or a statement that assigns nothing; offset: the node's first byte */
+    POMTHIJA_VALUE = 16       /* no value for a variable, or one that its type cannot hold; offset: the number of the
                                  first such variable, from 0 */
 };
 

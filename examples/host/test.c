@@ -216,11 +216,11 @@ static void write_condition(uint64_t records, const uint8_t *bytes, size_t lengt
 }
 
 /* a sheet that reading refuses, before anything else is asked */
-static void refuses(const char *name, const uint8_t *s, size_t length, uint64_t answer, uint64_t place)
+static void refuses(const char *name, const uint8_t *s, size_t length, uint64_t answer, uint64_t offset)
 {
-    evaluates(name, s, length, 0, NULL, 0, answer, place);
-    judges(name, s, length, 0, answer, place, POMTHIJA_REASON_NONE);
-    lists(name, s, length, 100, answer, place, NULL, 0);
+    evaluates(name, s, length, 0, NULL, 0, answer, offset);
+    judges(name, s, length, 0, answer, offset, POMTHIJA_REASON_NONE);
+    lists(name, s, length, 100, answer, offset, NULL, 0);
 }
 
 static void refusals(void)
