@@ -6,7 +6,7 @@ use mathlib.Core.List.{List, [], _∷_}
 use native.Mathlib.Omega.{arith}
 use lib.Dec.{leb}
 use lib.ListN.{length, take, drop, length-append}
-use lib.Seq.{length-take-le}
+use lib.Seq.{length-take-le, take-at}
 use borrow.Author.Tests.{leb-false, lt-ltb, le-ltb}
 use Rattle.isa.specs.declared.Instruction.{Instruction}
 use Rattle.verdict.specs.declared.Verdict.{Verdict}
@@ -28,7 +28,10 @@ use Rattle.answer_listing.specs.Listing.{Listing, listedNumbers, written, onJud
 use Rattle.answer_listing.specs.Listing.ListedNumbers.{lines, refused}
 use Rattle.listing_text.specs.Text.{branchesText, refusalText, entriesText}
 use Rattle.listing_text.specs.Contracts.{Written}
+use Rattle.listing.specs.declared.Ending.{Ending}
+use Rattle.listing.specs.declared.Ending.the-variants as ending
 use Rattle.listing.specs.Program.{linesText, judgedText, readText, printed}
+use Rattle.listing.specs.Contracts.{Ended}
 use Rattle.listing.proofs.Entries.{entries-lines}
 
 -- at most one line for each instruction
@@ -122,3 +125,13 @@ text-within {old} {new} {r} {text} w = omega (arith, w .long, ap length (w .is),
 
 pub text-counted : {old new : List ℕ} {r : ℕ} {text : List ℕ} → Written old new r text → r ≡ length (take r new)
 text-counted {old} {new} {r} w = sym (length-take-le r new (text-within w))
+
+pub text-front : {old new : List ℕ} {r : ℕ} {text : List ℕ} → Written old new r text → take r new ≡ text
+text-front {old} {new} {r} {text} w = rw (w .long, w .is) (take-at text (drop (length text) old) (length text) refl)
+
+-- the program's end: with the text for what was read, or with nothing read
+pub ended : (e : Ending) (input : List ℕ) {old new : List ℕ} {n r : ℕ} → n ≤ length input → Written old new r (printed (take n input)) → Ended e input old new
+ended e input {n = n} within w = record { prepared = λ read. record { count = n; within = within; text = record { is = w .is; long = refl } } }
+
+pub unread : (input old new : List ℕ) → Ended ending.Unread input old new
+unread input old new = record { prepared = λ read. absurd (read refl) }

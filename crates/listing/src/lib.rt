@@ -8,7 +8,7 @@ ghost use Prim.Native.Nat.{_≤_};
 ghost use lib.ListN.{length};
 ghost use Rattle.listing_text.specs.Contracts.{Written};
 ghost use Rattle.listing.specs.Program.{printed};
-ghost use Rattle.listing.specs.Contracts.{Within, statusOf};
+ghost use Rattle.listing.specs.Contracts.{Within, Ended, statusOf};
 
 // What standard input gave: so many bytes, or no answer from the system.
 enum Input {
@@ -96,8 +96,10 @@ fn status(e: Ending) -> u32
     }
 }
 
-// Writes the text.
-fn write_output(text: &[u8]) -> Ending {
+// Writes the text, which is the one for the bytes that were read.
+fn write_output(_read: &[u8], text: &[u8]) -> Ending
+    requires { ⌜ now text ≡ printed (now «_read») ⌝ }
+{
     if io::write_all(STDOUT_FILENO, text) {
         Ending::Written
     } else {
@@ -125,13 +127,14 @@ fn text_of(s: &[u8], list: &mut [u8], text: &mut [u8]) -> usize
 fn answer(room: &mut [u8], list: &mut [u8], text: &mut [u8]) -> Ending
     requires { ⌜ length (now list) ≡ 36864 ⌝ }
     requires { ⌜ 92190 ≤ length (now text) ⌝ }
+    ensures { λ r. ⌜ Ended r (now (room .exit)) (now (text .entry)) (now (text .exit)) ⌝ }
 {
     let input = read_input(room);
     match input {
         Input::Unread => Ending::Unread,
         Input::Bytes(n) => {
             let length = text_of(&room[..n], list, text);
-            write_output(&text[..length])
+            write_output(&room[..n], &text[..length])
         }
     }
 }

@@ -1,7 +1,7 @@
 use lib.Seq.{length-take-le}
 use mathlib.Core.Path.{sym}
 use Rattle.listing.proofs.Given.{some-within}
-use Rattle.listing.proofs.Printed.{text-within, text-counted}
+use Rattle.listing.proofs.Printed.{text-within, text-counted, text-front, ended, unread}
 use borrow.Author.Needs.{needs}
 use Rattle.listing.proofs.answer.Statement.{statement}
 use Rattle.listing.proofs.answer.Tie as tie
@@ -25,19 +25,25 @@ text-of-requires : tie.Need-text-of-requires
 text-of-requires c κs = search needs
 
 slice-reshare-prefix-write-output : tie.Need-slice-reshare-prefix-write-output
-slice-reshare-prefix-write-output c = text-within (c .before .before .before .before .text-of .ensures)
+slice-reshare-prefix-write-output c = some-within _ (c .before .before .before .before .before .before .before .before .before .input .given .1) (c .before .before .before .before .before .before .before .before .before .before .before .before .before .read-input .ensures)
 
 slice-aggregate-write-output : tie.Need-slice-aggregate-write-output
-slice-aggregate-write-output c = text-counted (c .before .before .before .before .before .text-of .ensures)
+slice-aggregate-write-output c = sym (length-take-le _ _ (some-within _ (c .before .before .before .before .before .before .before .before .before .before .input .given .1) (c .before .before .before .before .before .before .before .before .before .before .before .before .before .before .read-input .ensures)))
+
+slice-reshare-prefix-write-output-2 : tie.Need-slice-reshare-prefix-write-output-2
+slice-reshare-prefix-write-output-2 c = text-within (c .before .before .before .before .before .text-of .ensures)
+
+slice-aggregate-write-output-2 : tie.Need-slice-aggregate-write-output-2
+slice-aggregate-write-output-2 c = text-counted (c .before .before .before .before .before .before .text-of .ensures)
 
 write-output-requires : tie.Need-write-output-requires
-write-output-requires c κs = search needs
+write-output-requires c κs = text-front (c .before .before .before .before .before .before .text-of .ensures)
 
 same-length : tie.Need-same-length
 same-length c = search needs
 
 returns : tie.Need-returns
-returns c = search needs
+returns c = unread _ _ _
 
 same-length-2 : tie.Need-same-length-2
 same-length-2 c = search needs
@@ -49,7 +55,9 @@ same-length-4 : tie.Need-same-length-4
 same-length-4 c = search needs
 
 returns-2 : tie.Need-returns-2
-returns-2 c = search needs
+returns-2 c =
+    let matched = c .before .before .before .before .before .before .before .before .before .before .before .before in
+    ended _ _ (some-within _ (matched .input .given .1) (matched .before .before .before .before .read-input .ensures)) (c .before .before .before .before .before .before .before .text-of .ensures)
 
 pub answer-spec : {M : Type 1} → statement M
 answer-spec =
@@ -63,6 +71,8 @@ answer-spec =
     text-of-requires
     slice-reshare-prefix-write-output
     slice-aggregate-write-output
+    slice-reshare-prefix-write-output-2
+    slice-aggregate-write-output-2
     write-output-requires
     same-length
     returns
