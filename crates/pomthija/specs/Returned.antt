@@ -19,7 +19,7 @@ Returned r out (outcome value) = (r ≡ 0) × (out ≡ value)
 Returned r out (refused number place) = (r ≡ number) × (out ≡ place)
 
 -- The node verdict: 0, with 1 for always, 0 for never or 2 for undecided, and the reason's number, 0 where it is undecided; or the refusal's number and
--- place, with 0 for the reason. No node's answer is that there is no branch (R1, D3, F4).
+-- offset, with 0 for the reason. No node's answer is that there is no branch (R1, D3, F4).
 abbrev pub ReturnedVerdict : ℕ → ℕ → ℕ → Numbers → Type 0
 ReturnedVerdict r out reason (decision value number) = (r ≡ 0) × (out ≡ value) × (reason ≡ number)
 ReturnedVerdict r out reason undecided = (r ≡ 0) × (out ≡ 2) × (reason ≡ 0)

@@ -18,7 +18,7 @@ pub extern "C" fn pomthija_version() -> u64
 }
 
 // The node verdict: 0, with 1 (always), 0 (never) or 2 (undecided) in `out` and the reason's number in `reason`, 0 where
-// undecided; or the refusal's number, with its place in `out` and 0 in `reason`.
+// undecided; or the refusal's number, with its offset in `out` and 0 in `reason`.
 #[no_mangle]
 pub extern "C" fn pomthija_node_verdict(
     s: &[u8],
@@ -46,7 +46,7 @@ pub extern "C" fn pomthija_node_verdict(
                 *reason = 0;
                 0
             }
-            // of no node
+            // never the answer for a node
             Verdict::NoBranch => 0,
         },
         Answer::Refused(k, at) => {
