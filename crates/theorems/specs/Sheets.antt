@@ -3,7 +3,7 @@
 use Prim.Native.Nat.{ℕ, zero, suc, _+_}
 use mathlib.Core.Path.{_≡_}
 use mathlib.Core.List.{List, [], _∷_, _++_}
-use lib.ListN.{length}
+use lib.ListN.{length, replicate}
 use Rattle.sheet_bytes.specs.Write.{All}
 use Rattle.verdict.specs.Numbers.{Numbers}
 use Rattle.verdict.specs.Numbers.Numbers.{decision, undecided, noBranch, refused}
@@ -70,7 +70,7 @@ declaring mnemonic first at = start 36 mnemonic at ++ first ++ (31 ∷ [])
 abbrev two : ℕ → List ℕ → List ℕ → Placed
 two mnemonic first second at = start 12 mnemonic at ++ first ++ second
 
--- the mnemonics, by number; an instruction of another mnemonic that declares flags, rcx, or is call-like (S8, S11, S22)
+-- mnemonic 0, any other: declares flags; declares rcx as written; is call-like (S8, S11, S12, S22)
 abbrev other : ℕ → Placed
 other flags at = start 32 0 at ++ (flags ∷ [])
 
@@ -80,6 +80,7 @@ otherOnRcx at = start 16 0 at ++ (1 ∷ 0 ∷ 1 ∷ 1 ∷ 64 ∷ 0 ∷ [])
 abbrev call : Placed
 call at = start 2 0 at
 
+-- mnemonics 1 to 15 (S22)
 abbrev stc : Placed
 stc = bare 1
 
@@ -125,7 +126,7 @@ dec = declaring 14
 abbrev neg : List ℕ → Placed
 neg = declaring 15
 
--- those jumps by name that the rows below name; the table of conditions has all (S23, S24)
+-- the jumps that rows name; the table of conditions has 16 to 31 by number (S23, S24)
 abbrev je : Placed
 je = jump 16
 
@@ -167,6 +168,7 @@ pub record BlockRow : Type 0 where
   pub number : ℕ
   pub answer : Numbers
 
+-- block 0 is always, never, or undecided
 abbrev always : List Placed → BlockRow
 always code = record { code = code; number = 0; answer = decision 1 1 }
 
@@ -176,8 +178,8 @@ never code = record { code = code; number = 0; answer = decision 0 1 }
 abbrev either : List Placed → BlockRow
 either code = record { code = code; number = 0; answer = undecided }
 
--- Instructions, each by what it leaves in a flag or in rcx for the jump after it. Exchanging two mnemonics changes an answer here or below
--- (S22, M6, M20, M22, M31).
+-- Instructions, each by what it leaves in a flag or in rcx for the jump after it. With the tables below, any two mnemonics exchanged change an
+-- answer (S22, M6, M20, M22, M31).
 unfoldable pub instructions : List BlockRow
 instructions =
     always (stc ∷ jb ∷ [])
@@ -268,7 +270,7 @@ blockRows = instructions ++ conditions ++ counters ++ flags
 
 -- ---- nodes
 
--- records of an expression: a variable, a constant of one byte, true, an effect and a load of unsigned 8, a binary (S37, S38, S39, S40, S41, S43)
+-- records of an expression: a variable, a constant of one byte, true, false, an effect and a load of unsigned 8, a binary (S37, S38, S39, S40, S41, S43)
 abbrev variable : ℕ → List ℕ
 variable number = 0 ∷ number ∷ []
 
@@ -277,6 +279,9 @@ constant value = (1 ∷ 1 ∷ []) ++ word value
 
 abbrev yes : List ℕ
 yes = 2 ∷ []
+
+abbrev no : List ℕ
+no = 3 ∷ []
 
 abbrev effect : List ℕ
 effect = 4 ∷ 4 ∷ []
@@ -322,10 +327,10 @@ twice number before = assign number (variable before ∷ variable before ∷ bin
 
 abbrev chain : List (List ℕ) → List (List ℕ) → List ℕ
 chain last condition =
-    node ((6 ∷ []) ∷ (6 ∷ []) ∷ (6 ∷ []) ∷ (6 ∷ []) ∷ (6 ∷ []) ∷ (6 ∷ []) ∷ (6 ∷ []) ∷ (6 ∷ []) ∷ [])
+    node (replicate 8 (6 ∷ []))
     (twice 1 0 ∷ twice 2 1 ∷ twice 3 2 ∷ twice 4 3 ∷ twice 5 4 ∷ twice 6 5 ∷ last) condition
 
--- (v + 1) × ... of n variables from v on: 2 to the n terms
+-- v + 1, and the product of that and n more, one for each variable after v: 2 to the (n + 1) terms
 abbrev odd : ℕ → List (List ℕ)
 odd v = variable v ∷ constant 1 ∷ binary 0 ∷ []
 
@@ -333,10 +338,10 @@ unfoldable pub odds : (n v : ℕ) → List (List ℕ)
 odds zero v = odd v
 odds (suc n) v = odds n v ++ odd (suc n + v) ++ (binary 2 ∷ [])
 
--- a product of that and another of other variables, compared with 0
+-- two factors over unsigned 32 variables, their product compared with 0
 abbrev product : List (List ℕ) → List (List ℕ) → List ℕ
 product left right =
-    node ((6 ∷ []) ∷ (6 ∷ []) ∷ (6 ∷ []) ∷ (6 ∷ []) ∷ (6 ∷ []) ∷ (6 ∷ []) ∷ (6 ∷ []) ∷ (6 ∷ []) ∷ (6 ∷ []) ∷ (6 ∷ []) ∷ (6 ∷ []) ∷ (6 ∷ []) ∷ (6 ∷ []) ∷ []) []
+    node (replicate 13 (6 ∷ [])) []
     (left ++ right ++ (binary 2 ∷ constant 0 ∷ binary 10 ∷ []))
 
 -- The node verdict: its refusals with their places (N25, N26, N27, N30).
@@ -354,19 +359,19 @@ nodeRows =
     ∷ record { node = product (odds 3 0) (odds 3 6 ++ (variable 12 ∷ binary 0 ∷ [])); number = 1; answer = refused 11 31 }
     ∷ []
 
--- A row: a node, the number of the node that is asked for, lent values, and the answer of the evaluation.
+-- A row: a node, the number of the node that is asked for, values, and the answer of the evaluation.
 pub record EvaluationRow : Type 0 where
   pub node : List ℕ
   pub number : ℕ
   pub values : List ℕ
   pub answer : Evaluated
 
--- variables of unsigned 8, unsigned 16 and bool; and 1 / the variable, of unsigned 8
+-- variables of unsigned 8, unsigned 16 and bool; and 1 / variable 0, of two of unsigned 8
 abbrev three : List ℕ
 three = node ((4 ∷ []) ∷ (5 ∷ []) ∷ (9 ∷ []) ∷ []) [] (yes ∷ [])
 
 abbrev quotient : List ℕ
-quotient = node ((4 ∷ []) ∷ []) [] (constant 1 ∷ variable 0 ∷ binary 3 ∷ [])
+quotient = node ((4 ∷ []) ∷ (4 ∷ []) ∷ []) [] (constant 1 ∷ variable 0 ∷ binary 3 ∷ [])
 
 -- The evaluation: its refusals with their places (E2, E3, E4, E5, E6, E7, E8).
 unfoldable pub evaluationRows : List EvaluationRow
@@ -385,31 +390,33 @@ evaluationRows =
     ∷ record { node = three; number = 1; values = 255 ∷ 65_535 ∷ 2 ∷ []; answer = refusal 16 2 }
     ∷ record { node = three; number = 1; values = 255 ∷ 65_535 ∷ 1 ∷ 256 ∷ []; answer = outcome 1 }
     -- 1 / 0, 1 / 1 and 1 / 2; 16 comes before 14
-    ∷ record { node = quotient; number = 1; values = 0 ∷ []; answer = refusal 14 31 }
-    ∷ record { node = quotient; number = 1; values = 1 ∷ []; answer = outcome 1 }
-    ∷ record { node = quotient; number = 1; values = 2 ∷ []; answer = outcome 0 }
+    ∷ record { node = quotient; number = 1; values = 0 ∷ 0 ∷ []; answer = refusal 14 31 }
+    ∷ record { node = quotient; number = 1; values = 1 ∷ 0 ∷ []; answer = outcome 1 }
+    ∷ record { node = quotient; number = 1; values = 2 ∷ 0 ∷ []; answer = outcome 0 }
+    ∷ record { node = quotient; number = 1; values = 0 ∷ []; answer = refusal 16 1 }
     ∷ []
 
 -- ---- listings
 
--- A row: a sheet, a lent list, and what the listing gives: its answer and the list after it.
+-- A row: a sheet, the caller's list, and what the listing gives: its answer and the list after it.
 pub record ListingRow : Type 0 where
   pub bytes : List ℕ
   pub list : List ℕ
   pub gives : Listing
 
--- xor eax, eax at 16, je to 32 at 18, and one block, from 16 to 20: 60 bytes
-abbrev first : List ℕ
-first =
+-- a node without variables and statements: the record of its condition, and its addresses
+abbrev at : List ℕ → List (List ℕ) → List ℕ
+at condition addresses = (0 ∷ 0 ∷ 0 ∷ 0 ∷ 1 ∷ 0 ∷ []) ++ condition ++ counted addresses
+
+-- xor eax, eax at 16, je to 32 at 18, one block, from 16 to 20, and these nodes: 60 bytes without any
+abbrev first : List (List ℕ) → List ℕ
+first nodes =
     (2 ∷ 0 ∷ []) ++ two 11 (0 ∷ 1 ∷ 0 ∷ 32 ∷ 0 ∷ []) (0 ∷ 1 ∷ 0 ∷ 32 ∷ 0 ∷ []) 16 ++ start 1 16 18 ++ word 32 ++ (1 ∷ 0 ∷ []) ++ word 16 ++ word 20
-    ++ (0 ∷ 0 ∷ [])
+    ++ counted nodes
 
--- jb at 0, je at 1 and stc at 2, no block, and two nodes that list 1, 0 and 2: the condition of one is true, of the other false
-abbrev listing : List ℕ → List ℕ
-listing condition = (0 ∷ 0 ∷ 0 ∷ 0 ∷ 1 ∷ 0 ∷ []) ++ condition ++ (3 ∷ 0 ∷ []) ++ word 1 ++ word 0 ++ word 2
-
-abbrev jumps : List ℕ
-jumps = (3 ∷ 0 ∷ []) ++ jb 0 ++ je 1 ++ stc 2 ++ (0 ∷ 0 ∷ 2 ∷ 0 ∷ []) ++ listing yes ++ listing (3 ∷ [])
+-- jb at 0, je at 1 and stc at 2, no block, and these nodes
+abbrev jumps : List (List ℕ) → List ℕ
+jumps nodes = (3 ∷ 0 ∷ []) ++ jb 0 ++ je 1 ++ stc 2 ++ (0 ∷ 0 ∷ []) ++ counted nodes
 
 abbrev sevens : List ℕ
 sevens = 7 ∷ 7 ∷ 7 ∷ 7 ∷ 7 ∷ 7 ∷ 7 ∷ 7 ∷ 7 ∷ 7 ∷ 7 ∷ 7 ∷ 7 ∷ 7 ∷ 7 ∷ 7 ∷ 7 ∷ []
@@ -419,15 +426,21 @@ unfoldable pub listingRows : List ListingRow
 listingRows =
     -- the site 18, the target 32, always by flags; the rest of the list stays
     record {
-      bytes = first;
+      bytes = first [];
       list = sevens ++ (7 ∷ 8 ∷ 9 ∷ []);
       gives = record { answer = lines 1; list = word 18 ++ word 32 ++ (1 ∷ 1 ∷ 8 ∷ 9 ∷ []) };
     }
     -- 17 bytes are one too few; the place is the sheet's length
-    ∷ record { bytes = first; list = sevens; gives = record { answer = refusedListing 12 60; list = sevens } }
-    -- of 1, 0 and 2 the last branch is 0; of two nodes the earlier one gives the line, always as its condition is true
+    ∷ record { bytes = first []; list = sevens; gives = record { answer = refusedListing 12 60; list = sevens } }
+    -- a node, never, at the block's branch: the block gives the line
     ∷ record {
-      bytes = jumps;
+      bytes = first (at no (word 18 ∷ []) ∷ []);
+      list = sevens ++ (7 ∷ []);
+      gives = record { answer = lines 1; list = word 18 ++ word 32 ++ (1 ∷ 1 ∷ []) };
+    }
+    -- of 1, 0 and 2 the last branch is 0; the earlier of two nodes gives the line, always as its condition is true
+    ∷ record {
+      bytes = jumps (at yes (word 1 ∷ word 0 ∷ word 2 ∷ []) ∷ at no (word 0 ∷ []) ∷ []);
       list = sevens ++ (7 ∷ []);
       gives = record { answer = lines 1; list = word 0 ++ word 99 ++ (1 ∷ 3 ∷ []) };
     }
