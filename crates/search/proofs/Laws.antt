@@ -12,7 +12,7 @@ use lib.Dec.{eqb}
 use lib.ListN.{length, getD, take, length-append, length-take, List·getD-append}
 use lib.Seq.{getD-append-seam, getD-take, take-suc, length-take-le}
 use borrow.Author.Tests.{lt-ltb, le-ltb, eq-eqb, ne-eqb, eqb-true, eqb-false}
-use Rattle.search.specs.Ascending.{Ascending, countBelow, placeOf, later}
+use Rattle.search.specs.Ascending.{Ascending, Below, countBelow, placeOf, later}
 use Rattle.search.specs.declared.Found.{Found}
 use Rattle.search.specs.declared.Found.the-variants.{At, Nothing}
 
@@ -230,3 +230,19 @@ place-found l x place at = rw (← place, at) at (place-tells l x)
 pub place-missing : (l : List ℕ) (x : ℕ) {p : Found} → p ≡ placeOf l x → p ≡ Nothing
     → (i : ℕ) → i < length l → getD l i 0 ≡ x → ⊥
 place-missing l x place at = rw (← place, at) at (place-tells l x)
+
+-- Where an element is below x, all up to it are.
+pub below-upto : {l : List ℕ} {x n : ℕ} → Ascending l → (m : ℕ) → (m < length l) × (n ≡ m + 1) × (getD l m 0 < x) → Below l x n
+below-upto {l} {x} {n} up m known = record {
+  within = omega arith;
+  below = λ i h. omega (arith, ascending-upto up i m (omega arith) (omega arith));
+}
+
+-- Where the element after them is at or above x, or there is none, they are all that are below x.
+pub below-all : {l : List ℕ} {x n : ℕ} → Ascending l → Below l x n → (n < length l → x ≤ getD l n 0) → n ≡ countBelow l x
+below-all {l} {x} {n} up b next = count-is l x n (record {
+  order = omega arith;
+  within = b .within;
+  below = b .below;
+  above = λ i h h′. omega (arith, next (omega arith), ascending-upto up n i h h′);
+})

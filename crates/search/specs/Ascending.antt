@@ -1,5 +1,5 @@
 -- Lists that rise strictly, and where a number stands in a list.
-use Prim.Native.Nat.{ℕ, suc, _+_, _<_}
+use Prim.Native.Nat.{ℕ, suc, _+_, _≤_, _<_}
 use mathlib.Core.Bool.{cond}
 use mathlib.Core.List.{List, [], _∷_}
 use lib.ListN.{length, getD}
@@ -10,6 +10,11 @@ use Rattle.search.specs.declared.Found.the-variants.{At, Nothing}
 -- Each element is below the next one.
 pub record Ascending (l : List ℕ) : Type 0 where
   pub rises : (i : ℕ) → i + 1 < length l → getD l i 0 < getD l (i + 1) 0
+
+-- The first n elements are below x.
+pub record Below (l : List ℕ) (x n : ℕ) : Type 0 where
+  pub within : n ≤ length l
+  pub below : (i : ℕ) → i < n → getD l i 0 < x
 
 -- How many elements are below x.
 unfoldable pub countBelow : List ℕ → ℕ → ℕ

@@ -14,16 +14,24 @@ ghost use Prim.Native.Nat.{_≤_, _<_};
 ghost use lib.ListN.{length};
 ghost use lib.Seq.{slice};
 ghost use Rattle.machine.specs.States.{stateOf};
+ghost use Rattle.machine.specs.Registers.{nothingKnown};
 ghost use Rattle.machine.specs.Rules.{steppedAll};
 ghost use Rattle.sheet.specs.declared.Reading.the-variants.{Accepted};
 ghost use Rattle.sheet.specs.Sheet.{sheetAt, readingOf};
 ghost use Rattle.sheet.specs.Index.{addressesOf};
-ghost use Rattle.verdict_block.specs.Verdict.{jumpOf, flagVerdict, judged, verdictAt, endFrom, endOn, verdictOn};
+ghost use Rattle.verdict_block.specs.Verdict.{jumpOf, flagVerdict, judged, verdictAt, endFrom, verdictOn};
+ghost use Rattle.verdict_block.specs.Contracts.{RangeOf};
 
 // A block's last instruction, as far as a verdict asks for it: a conditional branch of a mnemonic, or nothing to judge.
 pub enum Jump {
     Conditional(Mnemonic),
     Nothing,
+}
+
+// The instructions of a sheet from number `first` up to `end`.
+pub struct Range {
+    pub first: usize,
+    pub end: usize,
 }
 
 fn jump_of(i: Instruction) -> Jump
@@ -113,27 +121,39 @@ fn verdict_between(
     verdict_at(registers, flags, jump_of(it))
 }
 
-// The verdict on the block of that number, of an accepted sheet with its index, where the registers and `start` are what is
-// known at its start.
-fn verdict_from(
-    s: &[u8],
-    sheet: Sheet,
-    addresses: &[u64],
-    places: &[u64],
-    number: u64,
-    registers: &mut Registers,
-    start: Flags,
-) -> Verdict
+// The instructions of the block of that number, of an accepted sheet with its index: quickly found where they start at or shortly
+// after a guess.
+pub fn range_of(s: &[u8], sheet: Sheet, addresses: &[u64], number: u64, guess: usize) -> Range
     requires { ⌜ readingOf (now s) ≡ Accepted sheet ⌝ }
     requires { ⌜ number < sheet .blocks .count ⌝ }
     requires { ⌜ now addresses ≡ addressesOf (sheetAt (now s) .instructions .list) ⌝ }
-    requires { ⌜ now places ≡ sheetAt (now s) .instructions .places ⌝ }
-    ensures { λ r. ⌜ r ≡ verdictAt (endOn (now (s .entry)) number (stateOf (now (registers .entry)) start)) ⌝ }
+    ensures { λ r. ⌜ RangeOf (now (s .entry)) number r ⌝ }
 {
     let block = sheet::nth_block(s, sheet, number);
-    let first = search::first_at_or_above(addresses, block.from);
-    let end = search::first_at_or_above(addresses, block.to);
-    verdict_between(s, sheet, places, first, end, registers, start)
+    let first = search::first_from(addresses, guess, block.from);
+    let end = search::first_from(addresses, first, block.to);
+    Range { first, end }
+}
+
+// The verdict at the end of a range of instructions of an accepted sheet, where nothing is known at its start.
+pub fn verdict_in(s: &[u8], sheet: Sheet, places: &[u64], range: Range) -> Verdict
+    requires { ⌜ readingOf (now s) ≡ Accepted sheet ⌝ }
+    requires { ⌜ now places ≡ sheetAt (now s) .instructions .places ⌝ }
+    requires { ⌜ range .end ≤ length (now places) ⌝ }
+    ensures { λ r. ⌜ r ≡ verdictAt (endFrom nothingKnown (slice (range .first) (range .end) (sheetAt (now (s .entry)) .instructions .list))) ⌝ }
+{
+    let start = State::unknown();
+    let mut registers = start.registers;
+    let flags = start.flags;
+    verdict_between(
+        s,
+        sheet,
+        places,
+        range.first,
+        range.end,
+        &mut registers,
+        flags,
+    )
 }
 
 // The verdict on the block of that number, of an accepted sheet with its index.
@@ -144,8 +164,6 @@ pub fn verdict_on(s: &[u8], sheet: Sheet, addresses: &[u64], places: &[u64], num
     requires { ⌜ now places ≡ sheetAt (now s) .instructions .places ⌝ }
     ensures { λ r. ⌜ r ≡ verdictOn (now (s .entry)) number ⌝ }
 {
-    let start = State::unknown();
-    let mut registers = start.registers;
-    let flags = start.flags;
-    verdict_from(s, sheet, addresses, places, number, &mut registers, flags)
+    let range = range_of(s, sheet, addresses, number, 0);
+    verdict_in(s, sheet, places, range)
 }

@@ -1,19 +1,21 @@
 -- A record's branch, found by the index.
-use Prim.Native.Nat.{ℕ, zero, suc, _+_, _≤_, _<_}
+use Prim.Native.Nat.{ℕ, zero, suc, _+_, _-_, _≤_, _<_}
 use mathlib.Core.Path.{_≡_, refl, sym, ap, _∙_}
 use mathlib.Core.List.{List, [], _∷_, _++_, map}
 use mathlib.Core.Bool.{Bool, true, false, cond}
 use mathlib.Core.Option.{none, some}
+use native.Mathlib.Decide.{decLt}
 use native.Mathlib.Omega.{arith}
 use native.Mathlib.Numerals.{add-one}
 use lib.Dec.{eqb}
 use lib.ListN.{length, getD, length-map}
 use lib.Seq.{slice}
+use borrow.Author.Tests.{lt-ltb, le-ltb}
 use Rattle.isa.specs.declared.Instruction.{Instruction}
 use Rattle.search.specs.declared.Found.{Found}
 use Rattle.search.specs.declared.Found.the-variants.{At, Nothing}
-use Rattle.search.specs.Ascending.{later, countBelow, placeOf}
-use Rattle.search.proofs.Laws.{count-splits, place-found}
+use Rattle.search.specs.Ascending.{later, placeOf}
+use Rattle.search.proofs.Laws.{place-found}
 use Rattle.sheet_field.specs.declared.Place.{Place}
 use Rattle.sheet_field.specs.declared.Field.{Field}
 use Rattle.sheet_field.specs.Field.{fieldAt}
@@ -21,10 +23,12 @@ use Rattle.sheet_node.specs.declared.NodeReading.{NodeReading}
 use Rattle.sheet_node.specs.Node.{nodeOf, addressesFrom}
 use Rattle.sheet.specs.Sheet.{sheetAt}
 use Rattle.sheet.specs.Index.{addressesOf, branchesOf}
+use Rattle.verdict_block.specs.declared.Range.{Range}
 use Rattle.verdict_block.specs.Verdict.{codeOf}
+use Rattle.verdict_block.specs.Contracts.{RangeOf}
 use Rattle.verdict_block.proofs.Between.{apart-none, apart-between}
 use Rattle.verdict_sheet.specs.Sites.{branchAt, unlessLater, lastBranch, blockSite}
-use Rattle.verdict_sheet.specs.Kept.{BranchIndex, ifBranch, SiteIs}
+use Rattle.verdict_sheet.specs.Kept.{BranchIndex, ifBranch, branchEnding, SiteIs}
 
 -- the mark at a place that was found
 marked : List Bool → Found → Bool
@@ -102,10 +106,6 @@ module _ {s a : List ℕ} {b : List Bool} (index : BranchIndex s a b) where
   pub index-branches : length b ≡ length (sheetAt s .instructions .list)
   index-branches = rw (index .branches) (branches-length (sheetAt s .instructions .list))
 
-  -- where a range ends is within the list
-  pub end-fits : (x : ℕ) {end : ℕ} → end ≡ countBelow a x → end ≤ length (sheetAt s .instructions .list)
-  end-fits x is = rw (is, ← index-addresses) (count-splits a (index .rising) x .within)
-
 -- the loop over a node's addresses
 pub jump-none : (s : List ℕ) (sites : Place) (code : List Instruction)
     → (sites ≡ addressesFrom s sites 0 .next) × SiteIs code Nothing (lastBranch code (addressesFrom s sites 0 .list))
@@ -144,8 +144,8 @@ map-at f (x ∷ l) zero d e there = refl
 map-at f (x ∷ l) (suc k) d e there = map-at f l k d e (omega arith)
 
 -- a block's branch
-module _ (s : List ℕ) (number : ℕ) {first end : ℕ} (code-is : codeOf s number ≡ slice first end (sheetAt s .instructions .list)) where
-  pub empty-block : end ≤ first → blockSite s number ≡ none
+module _ (s : List ℕ) (number first end : ℕ) (code-is : codeOf s number ≡ slice first end (sheetAt s .instructions .list)) where
+  empty-block : end ≤ first → blockSite s number ≡ none
   empty-block out = rw (code-is, apart-none (sheetAt s .instructions .list) first end out)
 
   module _ (last : ℕ) (below : first < end) (last-is : last + 1 ≡ end) (fits : end ≤ length (sheetAt s .instructions .list)) where
@@ -162,9 +162,28 @@ module _ (s : List ℕ) (number : ℕ) {first end : ℕ} (code-is : codeOf s num
         let mark = sym (map-at (λ (i : Instruction). i .branch) l last d false there) ∙ is in
         rw (code-is, apart-between l first last end d below last-is fits, mark, map-at (λ (i : Instruction). i .address) l last d 0 there)
 
-    pub branch-last : getD (branchesOf (sheetAt s .instructions .list)) last false ≡ true
+    branch-last : getD (branchesOf (sheetAt s .instructions .list)) last false ≡ true
         → SiteIs (sheetAt s .instructions .list) (At last) (blockSite s number)
     branch-last is = (there, by-last true is)
 
-    pub other-last : getD (branchesOf (sheetAt s .instructions .list)) last false ≡ false → blockSite s number ≡ none
+    other-last : getD (branchesOf (sheetAt s .instructions .list)) last false ≡ false → blockSite s number ≡ none
     other-last is = by-last false is
+
+  -- the branch that ends its range
+  module _ (fits : end ≤ length (sheetAt s .instructions .list)) where
+    at-end : first < end → (b : Bool) → getD (branchesOf (sheetAt s .instructions .list)) (end - 1) false ≡ b
+        → SiteIs (sheetAt s .instructions .list) (cond b (At (end - 1)) Nothing) (blockSite s number)
+    at-end below true is = branch-last (end - 1) below (omega arith) fits is
+    at-end below false is = other-last (end - 1) below (omega arith) fits is
+
+    by-order : Dec (first < end) → SiteIs (sheetAt s .instructions .list) (branchEnding (branchesOf (sheetAt s .instructions .list)) first end) (blockSite s number)
+    by-order (yes below) = rw (lt-ltb first end below) (at-end below _ refl)
+    by-order (no out) = rw (le-ltb first end (omega arith)) (empty-block (omega arith))
+
+    ending-site : SiteIs (sheetAt s .instructions .list) (branchEnding (branchesOf (sheetAt s .instructions .list)) first end) (blockSite s number)
+    ending-site = by-order (decLt first end)
+
+pub block-site : (s : List ℕ) (number : ℕ) (range : Range) → RangeOf s number range → {branches : List Bool} {r : Found}
+    → branches ≡ branchesOf (sheetAt s .instructions .list) → r ≡ branchEnding branches (range .first) (range .end)
+    → SiteIs (sheetAt s .instructions .list) r (blockSite s number)
+block-site s number range of branches-are r-is = rw (r-is, branches-are) (ending-site s number (range .first) (range .end) (of .code) (of .within))

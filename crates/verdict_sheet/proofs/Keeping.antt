@@ -6,7 +6,8 @@ use mathlib.Core.Bool.{Bool, true, false, cond}
 use mathlib.Core.Option.{Option}
 use native.Mathlib.Omega.{arith}
 use lib.Dec.{eqb}
-use lib.ListN.{length, getD, length-map}
+use lib.ListN.{length, getD, set, length-map}
+use lib.Seq.{set-getD}
 use borrow.Author.Tests.{eq-eqb, ne-eqb}
 use Rattle.isa.specs.declared.Instruction.{Instruction}
 use Rattle.verdict.specs.declared.Verdict.{Verdict}
@@ -114,3 +115,11 @@ module _ (code : List Instruction) {addresses : List ℕ} (up : Ascending addres
 
   pub block-silent : at ≡ Nothing → after ≡ slots → after ≡ slotsOf code (said ++ saying site w)
   block-silent at-is after-is = keep-saying code (rw (← are) up) w said Nothing site (rw at-is at there) after-is is
+
+-- where a verdict is kept already, keeping another changes nothing
+pub kept-already : (slots : List ℕ) (number : ℕ) (v : Verdict) → (getD slots number 0 ≡ 0 → ⊥) → slots ≡ kept slots number v
+kept-already slots number v some = go (getD slots number 0) refl
+  where
+    go : (x : ℕ) → getD slots number 0 ≡ x → slots ≡ set slots number (keptSlot x (slotOf v))
+    go zero is = absurd (some is)
+    go (suc x) is = rw (← is) (sym (set-getD slots number 0))

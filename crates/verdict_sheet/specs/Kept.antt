@@ -1,9 +1,10 @@
 -- What the contracts here ask and give: the index, a branch by the number of its instruction, the slots.
-use Prim.Native.Nat.{ℕ, _<_}
+use Prim.Native.Nat.{ℕ, _-_, _<_}
 use mathlib.Core.Path.{_≡_}
 use mathlib.Core.List.{List, map}
 use mathlib.Core.Bool.{Bool, false, cond}
 use mathlib.Core.Option.{Option, none, some}
+use lib.Dec.{ltb}
 use lib.ListN.{length, getD}
 use Rattle.isa.specs.declared.Instruction.{Instruction}
 use Rattle.verdict.specs.declared.Verdict.{Verdict}
@@ -28,6 +29,10 @@ pub record BranchIndex (s a : List ℕ) (b : List Bool) : Type 0 where
 abbrev pub ifBranch : List Bool → Found → Found → Found
 ifBranch branches (At k) otherwise = cond (getD branches k false) (At k) otherwise
 ifBranch branches Nothing otherwise = otherwise
+
+-- the number of the last instruction from number `first` up to `end`, where it is a conditional branch
+abbrev pub branchEnding : List Bool → ℕ → ℕ → Found
+branchEnding branches first end = cond (ltb first end) (ifBranch branches (At (end - 1)) Nothing) Nothing
 
 -- the instruction of that number is the one at that address
 abbrev pub SiteIs : List Instruction → Found → Option ℕ → Type 0

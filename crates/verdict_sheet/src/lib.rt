@@ -6,23 +6,27 @@ use sheet_field::Place;
 use sheet_field::Width;
 use verdict::Answer;
 use verdict::Verdict;
+use verdict_block::Range;
 use verdict_node::JudgedNode;
 ghost use mathlib.Core.Path.{_≡_};
 ghost use mathlib.Core.List.{List, [], _++_};
 ghost use Prim.Native.Nat.{ℕ, _≤_, _<_};
 ghost use lib.ListN.{length};
+ghost use lib.Seq.{slice};
+ghost use Rattle.machine.specs.Registers.{nothingKnown};
 ghost use Rattle.search.specs.Ascending.{Ascending, placeOf};
 ghost use Rattle.sheet.specs.declared.Reading.the-variants.{Accepted};
 ghost use Rattle.sheet.specs.Sheet.{sheetAt, readingOf};
 ghost use Rattle.sheet_node.specs.declared.NodeReading.{NodeReading};
 ghost use Rattle.sheet_node.specs.Node.{nodeOf, addressesFrom};
-ghost use Rattle.verdict_block.specs.Verdict.{verdictOn};
+ghost use Rattle.verdict_block.specs.Verdict.{verdictAt, endFrom, verdictOn};
+ghost use Rattle.verdict_lines.specs.Slots.{kept};
 ghost use Rattle.verdict_node.specs.NodeVerdict.{nodeVerdict};
 ghost use Rattle.verdict_node.specs.Contracts.{JudgedIs};
 ghost use Rattle.verdict_sheet.specs.Sites.{lastBranch, blockSite};
 ghost use Rattle.verdict_sheet.specs.Said.{Said, saying, blocksSay, nodeToo, judgedUpTo};
 ghost use Rattle.verdict_sheet.specs.Said.Judged.{all};
-ghost use Rattle.verdict_sheet.specs.Kept.{BranchIndex, ifBranch, SiteIs, keptAt, HasSlot, slotsOf, Reached};
+ghost use Rattle.verdict_sheet.specs.Kept.{BranchIndex, ifBranch, branchEnding, SiteIs, keptAt, HasSlot, slotsOf, Reached};
 
 // How far judging came: through all records, or to a node that is refused, with a number and an offset.
 pub enum Progress {
@@ -60,17 +64,13 @@ fn node_jump(s: &[u8], sites: Place, n: u64, addresses: &[u64], branches: &[bool
     jump
 }
 
-// The number of the branch of the block of that number.
-fn block_branch(s: &[u8], sheet: Sheet, addresses: &[u64], branches: &[bool], number: u64) -> Found
-    requires { ⌜ readingOf (now s) ≡ Accepted sheet ⌝ }
-    requires { ⌜ number < sheet .blocks .count ⌝ }
-    requires { ⌜ BranchIndex (now s) (now addresses) (now branches) ⌝ }
-    ensures { λ r. ⌜ SiteIs (sheetAt (now (s .entry)) .instructions .list) r (blockSite (now (s .entry)) number) ⌝ }
+// The number of the conditional branch that ends a range of instructions.
+fn last_branch(branches: &[bool], range: Range) -> Found
+    requires { ⌜ range .end ≤ length (now branches) ⌝ }
+    ensures { λ r. ⌜ r ≡ branchEnding (now (branches .entry)) (range .first) (range .end) ⌝ }
 {
-    let block = sheet::nth_block(s, sheet, number);
-    let first = search::first_at_or_above(addresses, block.from);
-    let end = search::first_at_or_above(addresses, block.to);
-    if end <= first {
+    let end = range.end;
+    if end <= range.first {
         return Found::Nothing;
     }
     let last = end - 1;
@@ -91,7 +91,20 @@ fn keep_at(slots: &mut [u8], at: Found, v: Verdict)
     }
 }
 
-// The block of that number, where it has a branch.
+// Keeps the verdict at the end of a range in the slot of that number; where one is kept already, there is nothing to judge.
+fn keep_end(s: &[u8], sheet: Sheet, places: &[u64], range: Range, slots: &mut [u8], number: usize)
+    requires { ⌜ readingOf (now s) ≡ Accepted sheet ⌝ }
+    requires { ⌜ now places ≡ sheetAt (now s) .instructions .places ⌝ }
+    requires { ⌜ (range .end ≤ length (now places)) × (number < length (now slots)) ⌝ }
+    ensures { λ _. ⌜ now (slots .exit) ≡ kept (now (slots .entry)) number (verdictAt (endFrom nothingKnown (slice (range .first) (range .end) (sheetAt (now (s .entry)) .instructions .list)))) ⌝ }
+{
+    if slots[number] == 0 {
+        let v = verdict_block::verdict_in(s, sheet, places, range);
+        verdict_lines::keep(slots, number, v);
+    }
+}
+
+// The block of that number, where it has a branch; and where its instructions end, a guess where the next block's start.
 fn judge_block(
     s: &[u8],
     sheet: Sheet,
@@ -99,8 +112,9 @@ fn judge_block(
     places: &[u64],
     branches: &[bool],
     number: u64,
+    guess: usize,
     slots: &mut [u8],
-)
+) -> usize
     requires { ⌜ readingOf (now s) ≡ Accepted sheet ⌝ }
     requires { ⌜ number < sheet .blocks .count ⌝ }
     requires { ⌜ BranchIndex (now s) (now addresses) (now branches) ⌝ }
@@ -108,14 +122,13 @@ fn judge_block(
     requires { ⌜ length (now slots) ≡ length (now addresses) ⌝ }
     ensures { λ _. ⌜ ((said : List Said) → now (slots .entry) ≡ slotsOf (sheetAt (now (s .entry)) .instructions .list) said → now (slots .exit) ≡ slotsOf (sheetAt (now (s .entry)) .instructions .list) (said ++ saying (blockSite (now (s .entry)) number) (verdictOn (now (s .entry)) number))) ⌝ }
 {
-    let at = block_branch(s, sheet, addresses, branches, number);
+    let range = verdict_block::range_of(s, sheet, addresses, number, guess);
+    let at = last_branch(branches, range);
     match at {
-        Found::At(k) => {
-            let v = verdict_block::verdict_on(s, sheet, addresses, places, number);
-            verdict_lines::keep(slots, k, v)
-        }
+        Found::At(k) => keep_end(s, sheet, places, range, slots, k),
         Found::Nothing => {}
     }
+    range.end
 }
 
 // All blocks, in order.
@@ -135,9 +148,10 @@ fn judge_blocks(
 {
     let section = sheet.blocks;
     let n = section.count;
+    let mut guess: usize = 0;
     let mut i: u64 = 0;
     while i < n {
-        judge_block(s, sheet, addresses, places, branches, i, slots);
+        guess = judge_block(s, sheet, addresses, places, branches, i, guess, slots);
         i += 1;
     }
 }

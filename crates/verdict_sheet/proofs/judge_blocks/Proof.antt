@@ -13,11 +13,11 @@ use Rattle.verdict_sheet.proofs.judge_blocks.Statement.{statement}
 use Rattle.verdict_sheet.proofs.judge_blocks.Tie as tie
 
 abbrev Inv-loop : tie.InvT-loop
-Inv-loop s sheet addresses places branches slots₀ n i₀ slots i =
+Inv-loop s sheet addresses places branches slots₀ n guess₀ i₀ slots guess i =
     (i ≤ n) × (slots ≡ slotsOf (sheetAt s .instructions .list) (blocksSay s i))
 
 abbrev μ-loop : tie.MeasureT-loop
-μ-loop s sheet addresses places branches slots₀ n i₀ slots i = n - i
+μ-loop s sheet addresses places branches slots₀ n guess₀ i₀ slots guess i = n - i
 
 loop-holds : tie.Need-loop-holds Inv-loop μ-loop
 loop-holds c = (omega arith, blocks-none (c .before .before .before .before .before .before .args .s .now) (sheetAt (c .before .before .before .before .before .before .args .s .now) .instructions .list) (c .before .before .before .before .before .before .pre .1 .1 .1))
