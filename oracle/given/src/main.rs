@@ -50,12 +50,12 @@ use std::process::ExitCode;
 const USAGE: &str = "usage: given [--differences | --time]
        given fuzz SECONDS SEED
        given listings SHEETS SEED
-       given bench PLOT
+       given bench PLOT [FOLDER]
 Frames for the verdicts on blocks and on nodes are read from standard input.
 --differences judges nodes with the entries of docs/DIFFERENCES.md and with the
 refusals 10 and 11, --time answers nodes with the nanoseconds that judging each took,
 the least of several times. fuzz compares the product's C exports with these answers, and
-bench times both on the same sheets and writes a plot; they are there where the
+bench times both on the same sheets, also on those of a folder, and writes a plot; they are there where the
 build was told the product's folder.";
 
 fn main() -> ExitCode {
@@ -66,7 +66,8 @@ fn main() -> ExitCode {
         ["--differences"] => run(Lines::WithDifferences),
         ["--time"] => run(Lines::Times),
         [command @ ("fuzz" | "listings"), amount, seed] => with_product(command, amount, seed),
-        ["bench", plot] => timed(plot),
+        ["bench", plot] => timed(plot, None),
+        ["bench", plot, folder] => timed(plot, Some(folder)),
         _ => Err(io::Error::other(USAGE)),
     };
     match outcome {
@@ -93,8 +94,8 @@ fn with_product(command: &str, amount: &str, seed: &str) -> io::Result<()> {
 }
 
 #[cfg(all(given_source, product))]
-fn timed(plot: &str) -> io::Result<()> {
-    bench::run(plot)
+fn timed(plot: &str, folder: Option<&str>) -> io::Result<()> {
+    bench::run(plot, folder)
 }
 
 #[cfg(all(given_source, not(product)))]
@@ -106,7 +107,7 @@ fn with_product(_command: &str, _amount: &str, _seed: &str) -> io::Result<()> {
 }
 
 #[cfg(all(given_source, not(product)))]
-fn timed(_plot: &str) -> io::Result<()> {
+fn timed(_plot: &str, _folder: Option<&str>) -> io::Result<()> {
     Err(io::Error::other(NO_PRODUCT))
 }
 
@@ -117,7 +118,7 @@ fn with_product(_command: &str, _amount: &str, _seed: &str) -> io::Result<()> {
 }
 
 #[cfg(not(given_source))]
-fn timed(_plot: &str) -> io::Result<()> {
+fn timed(_plot: &str, _folder: Option<&str>) -> io::Result<()> {
     println!("{}", oracle::answers::ABSENT);
     Ok(())
 }

@@ -39,7 +39,7 @@ fn node_length(node: &Node) -> usize {
 }
 
 /// 1,024 nodes of 64 0-statements each.
-fn statements() -> Sheet {
+pub fn statements() -> Sheet {
     let statements = vec![Statement::Other; 64];
     let node = Node { statements, condition: vec![Record::True], ..Default::default() };
     Sheet { nodes: vec![node; 1024], ..Default::default() }
