@@ -1,5 +1,5 @@
 -- Short sheets and what reading answers, worked out by hand from the scope document: each number of a refusal, each kind
--- of code that 2 is for, and both places of 7.
+-- of code that 2 is for, and both offsets of 7.
 use Prim.Native.Nat.{ℕ}
 use mathlib.Core.List.{List, [], _∷_, _++_}
 use Rattle.sheet.specs.declared.Reading.{Reading}
@@ -25,9 +25,9 @@ node rest = (0 ∷ 0 ∷ 0 ∷ 0 ∷ 1 ∷ 0 ∷ []) ++ rest
 abbrev condition : List ℕ → List ℕ
 condition rest = node ((0 ∷ 0 ∷ 0 ∷ 0 ∷ []) ++ rest)
 
--- refused as k, at a place
-abbrev pub refused : List ℕ → (k place : ℕ) → Example
-refused s k place = record { bytes = s; answer = reading.Refused k place }
+-- refused as k, at an offset
+abbrev pub refused : List ℕ → (k offset : ℕ) → Example
+refused s k offset = record { bytes = s; answer = reading.Refused k offset }
 
 -- accepted, with how many instructions, blocks and nodes, each count followed by where those records start
 abbrev pub accepted : List ℕ → (i i-at b b-at n n-at : ℕ) → Example

@@ -54,7 +54,7 @@ use Rattle.theorems.proofs.Whole.{runs-right}
 use Rattle.theorems.proofs.Program.{text-is, limit-is, as-sampled}
 use Rattle.theorems.proofs.Listing.{lines-true, lines-due, refused-for, list-kept}
 
--- Reading accepts exactly the bytes of the valid sheets, and yields their content; a refusal has a number from 1 to 9 and a place within the sheet.
+-- Reading accepts exactly the bytes of the valid sheets, and yields their content; a refusal has a number from 1 to 9 and an offset within the sheet.
 pub reading : Format
 reading = format
 
@@ -156,12 +156,12 @@ pub low-bit-values : (types : List ℕ) (ρ σ : Values) (m : Contents) (f : Eff
     → low (ev types ρ σ (shared m) f e) ≡ lowBit (sharedBits types ρ σ m) (ownBits types ρ σ m f e) e
 low-bit-values = ev-low
 
--- Whatever the bytes, the number and the lent values: the evaluation's answer is what every run of that node does that starts from those values.
+-- Whatever the bytes, the number and the borrowed values: the evaluation's answer is what every run of that node does that starts from those values.
 pub evaluations : (s : List ℕ) (number : ℕ) (values : List ℕ) (c : Choices) → StartsFrom (nodeNumbered s number .types) values c
     → SaysOf (evaluationAnswer s number values) (nodeRun s number c)
 evaluations = answers-run
 
--- Where an answer comes from the run, it is refusal 14 exactly when no run from the lent values has an outcome.
+-- Where an answer comes from the run, it is refusal 14 exactly when no run from the borrowed values has an outcome.
 pub no-outcome : (s : List ℕ) (number : ℕ) (values : List ℕ) → AnswerFromRun (evaluationAnswer s number values)
     → (evaluationAnswer s number values ≡ refused 14 (nodePlace s number))
     ↔ ((c : Choices) → StartsFrom (nodeNumbered s number .types) values c → nodeRun s number c ≡ truth.NoOutcome)
@@ -182,7 +182,7 @@ pub marked-rows : Yields rows
 marked-rows = marked
 
 -- The public answers for short sheets, given as bytes, are as worked out by hand: each mnemonic, each jump for six settings of the flags, each declared
--- flag; the refusals 10 to 16 with their places; a listing's lines with their bytes.
+-- flag, what is known where a register is not; the refusals 10 to 16 with their offsets; a listing's lines with their bytes.
 pub worked-sheets : Worked
 worked-sheets = as-worked
 

@@ -19,7 +19,7 @@ each f g (x ∷ l) e = (cc, each f g l cc)
 blocks-same : _≡_ {A = List Numbers}
     (map (λ (r : BlockRow). blockAnswer (sheet (r .code)) (r .number)) worked.blockRows)
     (map (λ (r : BlockRow). r .answer) worked.blockRows)
-unfolding worked.blockRows worked.instructions worked.conditions worked.compared worked.counters worked.flags worked.placed Rattle.sheet_field.specs.Field.little Rattle.sheet_field.specs.Field.fieldAt Rattle.sheet_field.specs.Field.checkField Rattle.sheet_field.specs.Field.codeAt Rattle.sheet_field.specs.Field.countAt Rattle.sheet_instruction.specs.Instruction.registerAt Rattle.sheet_instruction.specs.Instruction.operandAt Rattle.sheet_instruction.specs.Instruction.withRegister Rattle.sheet_instruction.specs.Instruction.registersFrom Rattle.sheet_instruction.specs.Instruction.registersAt Rattle.sheet_instruction.specs.Instruction.mapAt Rattle.sheet_instruction.specs.Instruction.addressAt Rattle.sheet_instruction.specs.Instruction.headAt Rattle.sheet_instruction.specs.Instruction.tailAt Rattle.sheet_instruction.specs.Instruction.instructionAt Rattle.sheet.specs.Sheet.instructionsFrom Rattle.sheet.specs.Sheet.blockAt Rattle.sheet.specs.Sheet.blocksFrom Rattle.sheet.specs.Sheet.nodesFrom Rattle.sheet.specs.Sheet.sheetAt Rattle.sheet.specs.Sheet.readingOf Rattle.isa.specs.Mnemonics.named Rattle.isa.specs.Mnemonics.table Rattle.verdict_block.specs.Verdict.within Rattle.verdict_block.specs.Verdict.codeOf Rattle.verdict_block.specs.Verdict.apart Rattle.verdict_block.specs.Verdict.endFrom Rattle.verdict_block.specs.Verdict.endOn Rattle.verdict_block.specs.Verdict.verdictOn Rattle.answer_block.specs.Block.blockAnswer Rattle.machine.specs.Rules.steppedAll Rattle.machine.specs.Conditions.conditionOf Rattle.machine.specs.Finish.finished Rattle.machine.specs.Rules.arithStep Rattle.machine.specs.Rules.unaryUnknown Rattle.machine.specs.Rules.unaryStep Rattle.machine.specs.Rules.registerStep Rattle.machine.specs.Rules.modelledStep Rattle.machine.specs.Rules.stepped Rattle.machine.specs.Registers.nothingKnown Rattle.machine.specs.Registers.slotAt Rattle.machine.specs.Registers.forgetRegister Rattle.machine.specs.Rules.carryStep Rattle.known.specs.Registers.partOf Rattle.known.specs.Registers.withPart Rattle.machine.specs.States.replaced Rattle.machine.specs.Registers.readOf Rattle.machine.specs.Registers.written Rattle.machine.specs.Registers.operandOf Rattle.machine.specs.Registers.forgetRegisters Rattle.machine.specs.Registers.forgotten Rattle.known.specs.Operations.ofItself Rattle.known.specs.Operations.ofKnown Rattle.known.specs.Operations.arithEffect Rattle.known.specs.Operations.unaryEffect Rattle.known.specs.Operations.forgetFlags Rattle.known.specs.Conditions.flagCondition Rattle.known.specs.Values.extracted Rattle.known.specs.Values.inserted Rattle.known.specs.Values.merged Rattle.alu.specs.Arithmetic.result Rattle.alu.specs.Arithmetic.carry Rattle.alu.specs.Arithmetic.overflow Rattle.alu.specs.Arithmetic.resultFlags Rattle.alu.specs.Arithmetic.performed lib.Count.ones
+unfolding worked.blockRows worked.instructions worked.conditions worked.compared worked.counters worked.flags worked.unknowns worked.placed Rattle.sheet_field.specs.Field.little Rattle.sheet_field.specs.Field.fieldAt Rattle.sheet_field.specs.Field.checkField Rattle.sheet_field.specs.Field.codeAt Rattle.sheet_field.specs.Field.countAt Rattle.sheet_instruction.specs.Instruction.registerAt Rattle.sheet_instruction.specs.Instruction.operandAt Rattle.sheet_instruction.specs.Instruction.withRegister Rattle.sheet_instruction.specs.Instruction.registersFrom Rattle.sheet_instruction.specs.Instruction.registersAt Rattle.sheet_instruction.specs.Instruction.mapAt Rattle.sheet_instruction.specs.Instruction.addressAt Rattle.sheet_instruction.specs.Instruction.headAt Rattle.sheet_instruction.specs.Instruction.tailAt Rattle.sheet_instruction.specs.Instruction.instructionAt Rattle.sheet.specs.Sheet.instructionsFrom Rattle.sheet.specs.Sheet.blockAt Rattle.sheet.specs.Sheet.blocksFrom Rattle.sheet.specs.Sheet.nodesFrom Rattle.sheet.specs.Sheet.sheetAt Rattle.sheet.specs.Sheet.readingOf Rattle.isa.specs.Mnemonics.named Rattle.isa.specs.Mnemonics.table Rattle.verdict_block.specs.Verdict.within Rattle.verdict_block.specs.Verdict.codeOf Rattle.verdict_block.specs.Verdict.apart Rattle.verdict_block.specs.Verdict.endFrom Rattle.verdict_block.specs.Verdict.endOn Rattle.verdict_block.specs.Verdict.verdictOn Rattle.answer_block.specs.Block.blockAnswer Rattle.machine.specs.Rules.steppedAll Rattle.machine.specs.Conditions.conditionOf Rattle.machine.specs.Finish.finished Rattle.machine.specs.Rules.arithStep Rattle.machine.specs.Rules.unaryUnknown Rattle.machine.specs.Rules.unaryStep Rattle.machine.specs.Rules.registerStep Rattle.machine.specs.Rules.modelledStep Rattle.machine.specs.Rules.stepped Rattle.machine.specs.Registers.nothingKnown Rattle.machine.specs.Registers.slotAt Rattle.machine.specs.Registers.forgetRegister Rattle.machine.specs.Rules.carryStep Rattle.known.specs.Registers.partOf Rattle.known.specs.Registers.withPart Rattle.machine.specs.States.replaced Rattle.machine.specs.Registers.readOf Rattle.machine.specs.Registers.written Rattle.machine.specs.Registers.operandOf Rattle.machine.specs.Registers.forgetRegisters Rattle.machine.specs.Registers.forgotten Rattle.known.specs.Operations.ofItself Rattle.known.specs.Operations.ofKnown Rattle.known.specs.Operations.arithEffect Rattle.known.specs.Operations.unaryEffect Rattle.known.specs.Operations.forgetFlags Rattle.known.specs.Conditions.flagCondition Rattle.known.specs.Values.extracted Rattle.known.specs.Values.inserted Rattle.known.specs.Values.merged Rattle.alu.specs.Arithmetic.result Rattle.alu.specs.Arithmetic.carry Rattle.alu.specs.Arithmetic.overflow Rattle.alu.specs.Arithmetic.resultFlags Rattle.alu.specs.Arithmetic.performed lib.Count.ones
 blocks-same = refl
 
 nodes-same : _≡_ {A = List Numbers}

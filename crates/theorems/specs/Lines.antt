@@ -52,7 +52,7 @@ lineAt list k = record {
   reason = getD list (18 * k + 17) 0;
 }
 
--- A list, as it was lent and as it is after so many lines were written to it: all lines due stand at its front, and what is beyond them stays
+-- A list, as it was borrowed and as it is after so many lines were written to it: all lines due are its prefix, and what is beyond them stays
 -- (L5, L6).
 pub record Listed (s : List ℕ) (count : ℕ) (before after : List ℕ) : Type 0 where
   pub lines : AllDue s count (lineAt after)
@@ -65,7 +65,7 @@ pub record Judged (s : List ℕ) (sheet : Sheet) (k : ℕ) : Type 0 where
   pub read : readingOf s ≡ reading.Accepted sheet
   pub nodes : (j : ℕ) → j < k → (number place : ℕ) → nodeAnswer s j ≡ refused number place → ⊥
 
--- Why a listing is refused: reading refuses; or a node is refused, the first that is gives number and place; or no node is, and the list is too
+-- Why a listing is refused: reading refuses; or a node is refused, the first that is gives number and offset; or no node is, and the list is too
 -- short for the lines due, which is 12 at the sheet's length (R5, L8, L9).
 pub data Refuses (s list : List ℕ) : ℕ → ℕ → Type 0 where
   byReading : (number place : ℕ) → readingOf s ≡ reading.Refused number place → Refuses s list number place

@@ -30,6 +30,12 @@ rax = 0 ∷ 1 ∷ 0 ∷ 64 ∷ 0 ∷ []
 abbrev rcx : List ℕ
 rcx = 0 ∷ 1 ∷ 1 ∷ 64 ∷ 0 ∷ []
 
+abbrev ecx : List ℕ
+ecx = 0 ∷ 1 ∷ 1 ∷ 32 ∷ 0 ∷ []
+
+abbrev cx : List ℕ
+cx = 0 ∷ 1 ∷ 1 ∷ 16 ∷ 0 ∷ []
+
 -- immediates: a number below 256, 2 to the 16, 2 to the 32, and 64 ones (S17)
 abbrev imm : ℕ → List ℕ
 imm n = (1 ∷ []) ++ word n
@@ -264,9 +270,45 @@ flags =
     ∷ never (xor rax rax ∷ other 15 ∷ jo ∷ [])
     ∷ []
 
+-- What is known where a register is not (M7, M8, M9, M12, M13, M14, M15, M16).
+unfoldable pub unknowns : List BlockRow
+unknowns =
+    -- and, or, xor, test with an unknown operand clear CF and OF
+    never (and rax (imm 1) ∷ jb ∷ [])
+    ∷ never (or rax (imm 1) ∷ jb ∷ [])
+    ∷ never (xor rax (imm 1) ∷ jb ∷ [])
+    ∷ never (test rax (imm 1) ∷ jb ∷ [])
+    ∷ never (and rax (imm 1) ∷ jo ∷ [])
+    ∷ never (or rax (imm 1) ∷ jo ∷ [])
+    ∷ never (xor rax (imm 1) ∷ jo ∷ [])
+    ∷ never (test rax (imm 1) ∷ jo ∷ [])
+    -- and forget the other flags
+    ∷ either (xor rcx rcx ∷ and rax (imm 1) ∷ je ∷ [])
+    ∷ either (xor rcx rcx ∷ or rax (imm 1) ∷ js ∷ [])
+    ∷ either (xor rcx rcx ∷ xor rax (imm 1) ∷ jp ∷ [])
+    ∷ either (xor rcx rcx ∷ test rax (imm 1) ∷ je ∷ [])
+    -- add, sub, cmp forget all five
+    ∷ either (stc ∷ add rax (imm 1) ∷ jb ∷ [])
+    ∷ either (stc ∷ sub rax (imm 1) ∷ jb ∷ [])
+    ∷ either (stc ∷ cmp rax (imm 1) ∷ jb ∷ [])
+    -- inc and dec keep CF, neg does not
+    ∷ always (stc ∷ inc rax ∷ jb ∷ [])
+    ∷ always (stc ∷ dec rax ∷ jb ∷ [])
+    ∷ either (stc ∷ neg rax ∷ jb ∷ [])
+    -- xor, sub, cmp of a register with itself settle the flags; test does not
+    ∷ always (xor rax rax ∷ je ∷ [])
+    ∷ always (sub rax rax ∷ je ∷ [])
+    ∷ always (cmp rax rax ∷ je ∷ [])
+    ∷ either (test rax rax ∷ je ∷ [])
+    -- 32 bits written clear the upper half, 16 bits leave an unknown register unknown, an unknown value makes it so
+    ∷ always (mov ecx (imm 0) ∷ jrcxz ∷ [])
+    ∷ either (mov cx (imm 0) ∷ jcxz ∷ [])
+    ∷ either (mov rcx (imm 0) ∷ mov rcx rax ∷ jrcxz ∷ [])
+    ∷ []
+
 -- The rows of blocks together.
 unfoldable pub blockRows : List BlockRow
-blockRows = instructions ++ conditions ++ counters ++ flags
+blockRows = instructions ++ conditions ++ counters ++ flags ++ unknowns
 
 -- ---- nodes
 
@@ -344,7 +386,7 @@ product left right =
     node (replicate 13 (6 ∷ [])) []
     (left ++ right ++ (binary 2 ∷ constant 0 ∷ binary 10 ∷ []))
 
--- The node verdict: its refusals with their places (N25, N26, N27, N30).
+-- The node verdict: its refusals with their offsets (N25, N26, N27, N30).
 unfoldable pub nodeRows : List NodeRow
 nodeRows =
     -- there is no node 2
@@ -373,7 +415,7 @@ three = node ((4 ∷ []) ∷ (5 ∷ []) ∷ (9 ∷ []) ∷ []) [] (yes ∷ [])
 abbrev quotient : List ℕ
 quotient = node ((4 ∷ []) ∷ (4 ∷ []) ∷ []) [] (constant 1 ∷ variable 0 ∷ binary 3 ∷ [])
 
--- The evaluation: its refusals with their places (E2, E3, E4, E5, E6, E7, E8).
+-- The evaluation: its refusals with their offsets, 16 with the variable's number (E2, E3, E4, E5, E6, E7, E8).
 unfoldable pub evaluationRows : List EvaluationRow
 evaluationRows =
     -- there is no node 2
@@ -430,7 +472,7 @@ listingRows =
       list = sevens ++ (7 ∷ 8 ∷ 9 ∷ []);
       gives = record { answer = lines 1; list = word 18 ++ word 32 ++ (1 ∷ 1 ∷ 8 ∷ 9 ∷ []) };
     }
-    -- 17 bytes are one too few; the place is the sheet's length
+    -- 17 bytes are one too few; the offset is the sheet's length
     ∷ record { bytes = first []; list = sevens; gives = record { answer = refusedListing 12 60; list = sevens } }
     -- a node, never, at the block's branch: the block gives the line
     ∷ record {
