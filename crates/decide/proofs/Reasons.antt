@@ -7,13 +7,11 @@ use mathlib.Core.Logic.{_↔_}
 use mathlib.Core.Option.{Option, none, some}
 use native.Mathlib.Omega.{arith}
 use lib.Dec.{eqb}
-use borrow.Author.Tests.{eqb-true, eqb-false, eq-eqb, not-true}
-use Rattle.laws.proofs.Booleans.{and-left, and-right, byTest}
+use borrow.Author.Tests.{eqb-true, eqb-false, eq-eqb}
+use Rattle.laws.proofs.Booleans.{byTest}
 use Rattle.expr.specs.Codes.{opEqual, opGreater, opGreaterEqual, opLess, opLessEqual, opLogicalAnd, opLogicalOr, opNotEqual}
 use Rattle.expr.specs.Tree.{Expr}
 use Rattle.expr.specs.Tree.Expr.{variable, constant, conditionTrue, conditionFalse, effect, load, cast, binary, ternary}
-use Rattle.expr.specs.Scan.{hasOwnValue, sameTree}
-use Rattle.expr.proofs.Sameness.{sameTree-true, sameTree-refl}
 use Rattle.value.specs.Evaluation.{under}
 use Rattle.poly.proofs.Values.{value-sum, value-one}
 use Rattle.parity.specs.Parity.{parity, difference}
@@ -27,7 +25,7 @@ use Rattle.verdict.specs.Numbers.{reasonNumber, verdictNumbers}
 use Rattle.verdict.specs.Numbers.Numbers.{decision, undecided}
 use Rattle.exact.specs.Exact.{sameSides, isConstant, isOne, exact, written, compared, exactSides}
 use Rattle.exact.specs.Sides.{AsWritten}
-use Rattle.exact.proofs.Sides.{constant-is, value-found, written-found}
+use Rattle.exact.proofs.Sides.{constant-is, same-tree, same-itself, value-found, written-found}
 use Rattle.decide.specs.Decide.{said, saidIf, orElse, ofEqual, equalSides, asked, onExact, equality, unsignedCast, aboveZero, mirrored, unsignedZero, both, negated, either, byOperator, decide}
 use Rattle.decide.specs.Decided.{Same, OfSame, Equality, ExactValues, UnsignedCast, Zero, Step, Decided}
 use Rattle.decide.specs.Decided.UnsignedCast.{unsigned}
@@ -49,11 +47,10 @@ open′ e = let z : _≡_ {A = ℕ} 0 1 = cc in absurd (omega arith)
 -- ---- the steps' tests and their premises
 
 same-is : (a b : Expr) → sameSides a b ≡ true → Same a b
-same-is a b h =
-    record { equal = sameTree-true a b (and-left (sameTree a b) _ h); plain = not-true (hasOwnValue a) (and-right (sameTree a b) _ h) }
+same-is a b h = let p = same-tree a b h in record { equal = p .0; plain = p .1 }
 
 is-same : (a b : Expr) → Same a b → sameSides a b ≡ true
-is-same a b h = rw (← h .equal, sameTree-refl a, h .plain)
+is-same a b h = rw (← h .equal) (same-itself a (h .plain))
 
 apart-is : (a b : Expr) → sameSides a b ≡ false → Same a b → ⊥
 apart-is a b h same = false≢true (sym h ∙ is-same a b same)

@@ -3,18 +3,16 @@
 -- is shared with `decide`: exact sides and low bits are those of `exact/specs/Sides.antt` and `parity/specs/LowBit.antt`.
 use Prim.Native.Nat.{ℕ, _≤_}
 use mathlib.Core.Path.{_≡_}
-use mathlib.Core.Bool.{false}
 use Rattle.expr.specs.Codes.{opEqual, opGreater, opGreaterEqual, opLess, opLessEqual, opLogicalAnd, opLogicalOr, opNotEqual, pointer, unsigned8}
 use Rattle.expr.specs.Tree.{Expr}
 use Rattle.expr.specs.Tree.Expr.{variable, constant, conditionTrue, conditionFalse, effect, load, cast, binary, ternary}
-use Rattle.expr.specs.Scan.{hasOwnValue}
 use Rattle.parity.specs.LowBit.{AlwaysDiffer}
-use Rattle.exact.specs.Sides.{HasValue, AsWritten}
+use Rattle.exact.specs.Sides.{NoEffect, HasValue, AsWritten}
 
 -- Equal sides without an effect (N3, N17).
 pub record Same (a b : Expr) : Type 0 where
   pub equal : a ≡ b
-  pub plain : hasOwnValue a ≡ false
+  pub plain : NoEffect a
 
 -- A comparison of a value with itself: == <= >= hold, != < > fail (N3).
 pub data OfSame : (operator value : ℕ) → Type 0 where

@@ -2,14 +2,14 @@
 use Prim.Native.Nat.{ℕ}
 use mathlib.Core.Path.{_≡_, refl}
 use mathlib.Core.List.{List, [], _∷_}
-use Rattle.expr.specs.Codes.{signed32, unsigned32, pointer, opMul, opOr, opEqual, opGreater, opGreaterEqual, opLess, opLessEqual, opLogicalAnd, opLogicalOr, opNotEqual}
+use Rattle.expr.specs.Codes.{signed32, unsigned32, pointer, opAdd, opMul, opOr, opEqual, opGreater, opGreaterEqual, opLess, opLessEqual, opLogicalAnd, opLogicalOr, opNotEqual}
 use Rattle.expr.specs.Tree.{Expr}
-use Rattle.expr.specs.Tree.Expr.{variable, constant, conditionTrue, conditionFalse, effect, cast, binary}
+use Rattle.expr.specs.Tree.Expr.{variable, constant, conditionTrue, conditionFalse, effect, load, cast, binary}
 use Rattle.verdict.specs.Numbers.{Numbers, verdictNumbers}
 use Rattle.verdict.specs.Numbers.Numbers.{decision, undecided}
 use Rattle.decide.specs.Decide.{decide}
 
--- variables x and y, a constant of 4 bytes, and an effect
+-- variables x and y, and a constant of 4 bytes
 abbrev x : Expr
 x = variable 0
 
@@ -44,6 +44,9 @@ rows =
     ∷ row (binary opLess x x) (decision 0 2)
     -- effect == effect
     ∷ row (binary opEqual (effect signed32) (effect signed32)) undecided
+    -- a load of one address twice; of an address with an effect in it
+    ∷ row (binary opEqual (load signed32 x) (load signed32 x)) (decision 1 2)
+    ∷ row (binary opEqual (load signed32 (effect pointer)) (load signed32 (effect pointer))) undecided
     -- true and false
     ∷ row conditionTrue (decision 1 3)
     ∷ row conditionFalse (decision 0 3)
@@ -66,6 +69,9 @@ rows =
     -- (x | 1) == 0 and != 0
     ∷ row (binary opEqual (binary opOr x (number 1)) (number 0)) (decision 0 6)
     ∷ row (binary opNotEqual (binary opOr x (number 1)) (number 0)) (decision 1 6)
+    -- a load twice is one atom, an effect twice is two
+    ∷ row (binary opEqual (binary opAdd (load signed32 x) (load signed32 x)) (number 1)) (decision 0 6)
+    ∷ row (binary opEqual (binary opAdd (effect signed32) (effect signed32)) (number 1)) undecided
     -- true && true and false || false
     ∷ row (binary opLogicalAnd conditionTrue conditionTrue) (decision 1 7)
     ∷ row (binary opLogicalOr conditionFalse conditionFalse) (decision 0 7)
@@ -82,7 +88,7 @@ rows =
     ∷ row (binary opLogicalOr (binary opEqual x y) conditionFalse) undecided
     ∷ []
 
--- The rows hold (N3, N4, N5, N6, N7, N8, N9, N17).
+-- The rows hold (N3, N4, N5, N6, N7, N8, N9, N13, N17).
 pub worked : Yields rows
 unfolding rows decide Rattle.exact.specs.Exact.exact Rattle.exact.specs.Exact.written Rattle.exact.specs.Exact.shape Rattle.parity.specs.Parity.parity Rattle.parity.specs.Parity.atomLow Rattle.parity.specs.Parity.entered Rattle.parity.specs.Parity.place Rattle.poly.specs.Terms.toggle Rattle.poly.specs.Terms.sum Rattle.poly.specs.Terms.sumTimes Rattle.poly.specs.Terms.sumProduct Rattle.expr.specs.Scan.sameTree Rattle.expr.specs.Scan.sameWords Rattle.expr.specs.Scan.anyNode Rattle.expr.specs.Scan.isEffect Rattle.expr.specs.Tree.flat Rattle.expr.specs.Tree.tagOf Rattle.expr.specs.Tree.valueOf
-worked = (refl, (refl, (refl, (refl, (refl, (refl, (refl, (refl, (refl, (refl, (refl, (refl, (refl, (refl, (refl, (refl, (refl, (refl, (refl, (refl, (refl, (refl, (refl, (refl, (refl, (refl, (refl, (refl, (refl, tt)))))))))))))))))))))))))))))
+worked = (refl, (refl, (refl, (refl, (refl, (refl, (refl, (refl, (refl, (refl, (refl, (refl, (refl, (refl, (refl, (refl, (refl, (refl, (refl, (refl, (refl, (refl, (refl, (refl, (refl, (refl, (refl, (refl, (refl, (refl, (refl, (refl, (refl, tt)))))))))))))))))))))))))))))))))

@@ -1,18 +1,18 @@
 -- The relations on exact sides hold exactly where the definitions that the code is proved against say so.
 use Prim.Native.Nat.{ℕ, zero, suc, _≤_}
 use mathlib.Core.Path.{_≡_, refl, sym, ap, _∙_}
-use mathlib.Core.Bool.{Bool, true, false, cond, false≢true}
+use mathlib.Core.Bool.{Bool, true, false, cond, _||_, false≢true}
 use mathlib.Core.List.{[]}
 use mathlib.Core.Logic.{inl, inr, _↔_}
 use mathlib.Core.Option.{Option, none, some}
 use native.Mathlib.Omega.{arith}
 use lib.Dec.{eqb, leb}
 use borrow.Author.Tests.{eqb-true, leb-true, le-leb, not-true}
-use Rattle.laws.proofs.Booleans.{and-left, and-right, in-right, byTest}
+use Rattle.laws.proofs.Booleans.{and-left, and-right, or-none, in-right, byTest}
 use Rattle.expr.specs.Codes.{opAnd}
 use Rattle.expr.specs.Tree.{Expr}
 use Rattle.expr.specs.Tree.Expr.{variable, constant, conditionTrue, conditionFalse, effect, load, cast, binary, ternary}
-use Rattle.expr.specs.Scan.{hasOwnValue, sameTree}
+use Rattle.expr.specs.Scan.{anyNode, isEffect, hasOwnValue, sameTree}
 use Rattle.expr.proofs.Sameness.{sameTree-true, sameTree-refl}
 use Rattle.value.specs.Evaluation.{ByPath, under}
 use Rattle.poly.specs.Meaning.{bits, value}
@@ -22,7 +22,7 @@ use Rattle.parity.specs.LowBit.{lowBit}
 use Rattle.parity.proofs.Ordered.{parity-ascending}
 use Rattle.parity.proofs.Choices.{poly-low, part-bits, some-choice}
 use Rattle.exact.specs.Exact.{Shape, sameSides, isConstant, low, shape, shapeValue, shapeWritten, evenOnly, atMostOne, exact, written}
-use Rattle.exact.specs.Sides.{LowBitIs, HasValue, AsWritten}
+use Rattle.exact.specs.Sides.{NoEffect, LowBitIs, HasValue, AsWritten}
 use Rattle.exact.proofs.ExactValue.{decided-low, Shaped, shaped}
 use Rattle.exact.proofs.ExactValue.Shaped.{low-left, low-right, rem-two, same-sides, zero-left, zero-right, no-shape}
 
@@ -68,11 +68,41 @@ low-found e v = (there, back)
     back : LowBitIs e v → low e ≡ some v
     back h = by v (h .small) (h .is)
 
-same-tree : (a b : Expr) → sameSides a b ≡ true → (a ≡ b) × (hasOwnValue a ≡ false)
-same-tree a b h = (sameTree-true a b (and-left (sameTree a b) _ h), not-true (hasOwnValue a) (and-right (sameTree a b) _ h))
+-- no effect, by the test and by the relation
+no-effect : (e : Expr) → hasOwnValue e ≡ false → NoEffect e
+unfolding anyNode isEffect NoEffect
+no-effect (variable n) h = tt
+no-effect (constant w x) h = tt
+no-effect conditionTrue h = tt
+no-effect conditionFalse h = tt
+no-effect (effect t) h = absurd (false≢true (sym h))
+no-effect (load t a) h = no-effect a h
+no-effect (cast t a) h = no-effect a h
+no-effect (binary o a b) h = let p = or-none (hasOwnValue a) (hasOwnValue b) h in (no-effect a (p .0), no-effect b (p .1))
+no-effect (ternary c a b) h =
+    let p = or-none (hasOwnValue c) (hasOwnValue a || hasOwnValue b) h in
+    let q = or-none (hasOwnValue a) (hasOwnValue b) (p .1) in
+    (no-effect c (p .0), no-effect a (q .0), no-effect b (q .1))
 
-same-itself : (a : Expr) → hasOwnValue a ≡ false → sameSides a a ≡ true
-same-itself a h = rw (sameTree-refl a, h)
+effect-free : (e : Expr) → NoEffect e → hasOwnValue e ≡ false
+unfolding anyNode isEffect NoEffect
+effect-free (variable n) h = refl
+effect-free (constant w x) h = refl
+effect-free conditionTrue h = refl
+effect-free conditionFalse h = refl
+effect-free (effect t) h = absurd h
+effect-free (load t a) h = effect-free a h
+effect-free (cast t a) h = effect-free a h
+effect-free (binary o a b) h = rw (effect-free a (h .0), effect-free b (h .1))
+effect-free (ternary c a b) h = rw (effect-free c (h .0), effect-free a (h .1), effect-free b (h .2))
+
+-- equal sides without an effect, both ways
+pub same-tree : (a b : Expr) → sameSides a b ≡ true → (a ≡ b) × NoEffect a
+same-tree a b h =
+    (sameTree-true a b (and-left (sameTree a b) _ h), no-effect a (not-true (hasOwnValue a) (and-right (sameTree a b) _ h)))
+
+pub same-itself : (a : Expr) → NoEffect a → sameSides a a ≡ true
+same-itself a h = rw (sameTree-refl a, effect-free a h)
 
 -- the value of a binary side from its shape
 shape-has : (o : ℕ) (a b : Expr) (v : ℕ) (s : Shape) → Shaped o a b s → shapeValue s a b ≡ some v → HasValue (binary o a b) v

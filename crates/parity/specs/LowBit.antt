@@ -1,5 +1,5 @@
--- The low bit of a part for a choice of its atoms' bits, with no polynomial in it, and with a table of its own of what is entered:
--- nothing here is taken from the definitions that the code is proved against.
+-- The low bit of a part for a choice of its atoms' bits, with no polynomial in it, and with a table of its own of what is entered.
+-- Of the definitions that the code is proved against it takes only the test for an effect in a part.
 use Prim.Native.Nat.{ℕ, zero, suc, _%_}
 use mathlib.Core.Path.{_≡_}
 use mathlib.Core.Bool.{Bool, true, false, cond, xor, _&&_, _||_}
