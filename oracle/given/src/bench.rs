@@ -175,7 +175,7 @@ fn overlapping() -> Sheet {
             ..Default::default()
         })
         .collect();
-    instructions.push(Instruction { address: 2_046, flags: 31, ..Default::default() });
+    instructions.push(Instruction { address: 2_046, flags: Some(31), ..Default::default() });
     instructions.push(Instruction {
         address: 2_047,
         mnemonic: JNE,

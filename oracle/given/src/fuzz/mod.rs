@@ -11,6 +11,7 @@ use crate::guard;
 use crate::product::{self, Answer, Product};
 use changes::Kept;
 use coverage::Coverage;
+use oracle::answers;
 use oracle::cases::random::Random;
 use oracle::cases::{block_sheet, damaged_sheet};
 use oracle::judges::evaluator;
@@ -154,7 +155,8 @@ fn tried(
         Due::Open => tally.open += 1,
         expected => {
             tally.listings += 1;
-            tally.branches += blocks.iter().filter(|answer| *answer != "n").count() as u64;
+            tally.branches +=
+                blocks.iter().filter(|answer| **answer != answers::Answer::NoBranch).count() as u64;
             tally.branches += nodes.len() as u64;
             match &expected {
                 Due::Lines(lines) => tally.lines += (lines.len() / LINE) as u64,
