@@ -14,6 +14,5 @@ pub mod Refusals
 pub mod DueLines
 pub mod InList
 pub mod Listing
-pub mod Worked
 pub mod Program
 pub mod Main

@@ -43,8 +43,8 @@ use Rattle.theorems.specs.Lines.{lineAt, Listed, Refuses, TrueOf}
 use Rattle.theorems.specs.Ascii.{ascii}
 use Rattle.theorems.specs.Text.{textOf, Sample, samples}
 use Rattle.theorems.specs.Rows.{Yields, rows, probe, marked}
-use Rattle.theorems.specs.Sheets.{Worked}
-use Rattle.theorems.proofs.Worked.{as-worked}
+use Rattle.worked_sheets.specs.Sheets.{Worked}
+use Rattle.worked_sheets.proofs.Worked.{as-worked}
 use Rattle.theorems.proofs.Public.{answers-forced}
 use Rattle.theorems.proofs.Nodes.{node-decided, evaluation-agrees, probe-run}
 use Rattle.theorems.proofs.Reasons.{node-decided-as, node-undecided-where}

@@ -15,7 +15,7 @@ use Rattle.listing.specs.Program.{linesText, readText, printed}
 use Rattle.listing.proofs.Printed.{within, listing-says}
 use Rattle.theorems.specs.Ascii.{ascii}
 use Rattle.theorems.specs.Text.{numeral, word, lineText, linesFrom, textOf, Sample, samples}
-use Rattle.theorems.proofs.Worked.{each}
+use Rattle.worked_sheets.proofs.Worked.{each}
 
 -- the digits below a base up to 16
 digit-is : (d : ℕ) → d < 16 → getD (ascii "0123456789abcdef") d 0 ≡ digit d

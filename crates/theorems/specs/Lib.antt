@@ -4,4 +4,3 @@ pub mod Lines
 pub mod Ascii
 pub mod Text
 pub mod Rows
-pub mod Sheets

@@ -7,8 +7,8 @@ use Rattle.answer_block.specs.Block.{blockAnswer}
 use Rattle.answer_node.specs.Node.{nodeAnswer}
 use Rattle.answer_listing.specs.Listing.{Listing, listingOf}
 use Rattle.answer_evaluation.specs.Evaluation.{Evaluated, evaluationAnswer}
-use Rattle.theorems.specs.Sheets as worked
-use Rattle.theorems.specs.Sheets.{BlockRow, NodeRow, EvaluationRow, ListingRow, sheet, withNode, Worked}
+use Rattle.worked_sheets.specs.Sheets as worked
+use Rattle.worked_sheets.specs.Sheets.{BlockRow, NodeRow, EvaluationRow, ListingRow, sheet, withNode, Worked}
 
 -- two functions that are the same on a list are so on each of its entries
 pub each : {A B : Type 0} (f g : A → B) (l : List A) → map f l ≡ map g l → All (λ (x : A). f x ≡ g x) l
