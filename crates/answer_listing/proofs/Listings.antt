@@ -2,6 +2,7 @@
 use Prim.Native.Nat.{ℕ, zero, suc, _*_, _/_, _≤_, _<_}
 use mathlib.Core.Path.{_≡_, refl, sym, ap, _∙_}
 use mathlib.Core.List.{List, [], _∷_}
+use mathlib.Core.Logic.{_⊎_, inl, inr}
 use native.Mathlib.Omega.{arith}
 use lib.ListN.{length, take, replicate, length-replicate}
 use lib.Seq.{length-take-le}
@@ -21,9 +22,12 @@ use Rattle.verdict_sheet.specs.Said.{Judged, judgedUpTo}
 use Rattle.verdict_sheet.specs.Said.Judged.{all, refused as nodeRefused}
 use Rattle.verdict_sheet.specs.Kept.{slotsOf, Reached}
 use Rattle.verdict_sheet.proofs.Due.{lines-due, slots-empty}
+use Rattle.answer_listing.specs.declared.Attempt.{Attempt}
+use Rattle.answer_listing.specs.declared.Attempt.the-variants as attempts
 use Rattle.answer_listing.specs.declared.Listed.{Listed}
 use Rattle.answer_listing.specs.declared.Listed.the-variants as listed
 use Rattle.answer_listing.specs.Listing.{Gives, written, onJudged, listingOf}
+use Rattle.answer_listing.specs.Contracts.{Empty, Attempted}
 
 -- the lines against the list's room
 module _ (s sites targets slots list : List ℕ) (each-site : length sites ≡ length slots) (each-target : length targets ≡ length slots)
@@ -64,11 +68,12 @@ take-nothing zero m fits = refl
 take-nothing (suc n) zero fits = absurd (omega arith)
 take-nothing (suc n) (suc m) fits = ap (λ (l : List ℕ). 0 ∷ l) (take-nothing n m (omega arith))
 
-pub slots-count : (n : ℕ) {r : List ℕ} → r ≡ replicate 2048 0 → n ≤ 2048 → n ≡ length (take n r)
-slots-count n {r} is few = sym (length-take-le n r (rw is (rw (length-replicate {A = ℕ} 2048 0) few)))
+module _ {n : ℕ} {slots : List ℕ} (empty : Empty n slots) where
+  pub slots-count : n ≡ length (take n slots)
+  slots-count = sym (length-take-le n slots (empty .enough))
 
-pub slots-front : (code : List Instruction) (n : ℕ) {r : List ℕ} → r ≡ replicate 2048 0 → length code ≡ n → n ≤ 2048 → take n r ≡ slotsOf code []
-slots-front code n is long few = rw (is, take-nothing n 2048 few, ← long) (slots-empty code)
+  pub slots-front : (code : List Instruction) → length code ≡ n → take n slots ≡ slotsOf code []
+  slots-front code long = rw (empty .nothing, take-nothing n (length slots) (empty .enough), ← long) (slots-empty code)
 
 -- reading first
 module _ (s list : List ℕ) {r : Reading} (read : r ≡ readingOf s) where
@@ -80,3 +85,27 @@ module _ (s list : List ℕ) {r : Reading} (read : r ≡ readingOf s) where
       → Gives g after (onJudged (judgedUpTo s (sheet .blocks .count) (sheet .nodes .count)) s list) → Gives g after (listingOf s list)
   unfolding listingOf
   listing-accepted g after is gives = rw (← read, is) gives
+
+-- slots that are made so hold nothing
+pub made-empty : (n : ℕ) (slots : List ℕ) → slots ≡ replicate n 0 → slots ≡ replicate (length slots) 0
+made-empty n slots is = rw (is, length-replicate {A = ℕ} n 0)
+
+-- the cases of an attempt
+module _ (attempt : Attempt) (slots nodes : ℕ) (s before after : List ℕ) (made : Attempted attempt slots nodes s before after) where
+  pub attempt-done : {r : Listed} → attempt ≡ attempts.Done r → Gives r after (listingOf s before)
+  attempt-done is = rw is at made
+
+  short : attempt ≡ attempts.TooShort → Attempted attempts.TooShort slots nodes s before after
+  short is = rw is at made
+
+  -- a list that is as it was is listed with a longer index
+  pub attempt-again : (r : Listed) (last : List ℕ) → attempt ≡ attempts.TooShort → Gives r last (listingOf s after) → Gives r last (listingOf s before)
+  attempt-again r last is gives = rw (short is .0) at gives
+
+  -- an index for all records a sheet may have is not too short
+  pub attempt-never : {A : Type 0} → attempt ≡ attempts.TooShort → slots ≡ 2048 → nodes ≡ 1024 → A
+  attempt-never {A} is all-slots all-nodes = go (short is .1)
+    where
+      go : (slots < 2048) ⊎ (nodes < 1024) → A
+      go (inl less) = absurd (omega arith)
+      go (inr less) = absurd (omega arith)

@@ -3,13 +3,14 @@ use sheet::Reading;
 use sheet::Sheet;
 use verdict_sheet::Progress;
 ghost use mathlib.Core.Path.{_≡_};
-ghost use lib.ListN.{length};
+ghost use lib.ListN.{length, replicate};
 ghost use Rattle.sheet.specs.declared.Reading.the-variants.{Accepted};
 ghost use Rattle.sheet.specs.Sheet.{sheetAt, readingOf};
 ghost use Rattle.sheet.specs.Index.{addressesOf, targetsOf, branchesOf, InFront};
 ghost use Rattle.verdict_lines.specs.Slots.{linesIn};
 ghost use Rattle.verdict_sheet.specs.Said.{judgedUpTo};
 ghost use Rattle.answer_listing.specs.Listing.{Gives, written, onJudged, listingOf};
+ghost use Rattle.answer_listing.specs.Contracts.{Empty, Attempted};
 
 // What the listing answers: how many lines there are, or a refusal, its number and its offset.
 pub enum Listed {
@@ -31,7 +32,13 @@ fn write_lines(s: &[u8], sites: &[u64], targets: &[u64], slots: &[u8], list: &mu
     Listed::Lines(n)
 }
 
-// The listing of an accepted sheet with its index at the start of five lists.
+// What comes of listing with an index of some length: an answer, or that the sheet has more records than the index can hold.
+enum Attempt {
+    Done(Listed),
+    TooShort,
+}
+
+// The listing of an accepted sheet with its index at the start of five lists, on slots that hold nothing.
 fn list_sheet(
     s: &[u8],
     sheet: Sheet,
@@ -40,12 +47,14 @@ fn list_sheet(
     targets: &[u64],
     branches: &[bool],
     nodes: &[u64],
+    room: &mut [u8],
     list: &mut [u8],
 ) -> Listed
     requires { ⌜ readingOf (now s) ≡ Accepted sheet ⌝ }
     requires { ⌜ InFront (sheet .instructions .count) (now addresses) (addressesOf (sheetAt (now s) .instructions .list)) × InFront (sheet .instructions .count) (now places) (sheetAt (now s) .instructions .places) ⌝ }
     requires { ⌜ InFront (sheet .instructions .count) (now targets) (targetsOf (sheetAt (now s) .instructions .list)) × InFront (sheet .instructions .count) (now branches) (branchesOf (sheetAt (now s) .instructions .list)) ⌝ }
     requires { ⌜ InFront (sheet .nodes .count) (now nodes) (sheetAt (now s) .nodes .places) ⌝ }
+    requires { ⌜ Empty (sheet .instructions .count) (now room) ⌝ }
     ensures { λ r. ⌜ Gives r (now (list .exit)) (onJudged (judgedUpTo (now (s .entry)) (sheet .blocks .count) (sheet .nodes .count)) (now (s .entry)) (now (list .entry))) ⌝ }
 {
     let instructions = sheet.instructions;
@@ -53,7 +62,6 @@ fn list_sheet(
     let node_section = sheet.nodes;
     let m = node_section.count as usize;
     let sites = &addresses[..n];
-    let mut room = verdict_lines::empty_slots();
     let slots = &mut room[..n];
     let reached = verdict_sheet::judge(
         s,
@@ -70,8 +78,52 @@ fn list_sheet(
     }
 }
 
-// The lines of a sheet, written over the start of a borrowed list.
-pub fn listing(s: &[u8], list: &mut [u8]) -> Listed
+// The listing with an index of the given lists, each as long as the slots, which hold nothing.
+fn list_in(
+    s: &[u8],
+    addresses: &mut [u64],
+    places: &mut [u64],
+    targets: &mut [u64],
+    branches: &mut [bool],
+    nodes: &mut [u64],
+    slots: &mut [u8],
+    list: &mut [u8],
+) -> Attempt
+    requires { ⌜ (length (now addresses) ≡ length (now slots)) × (length (now places) ≡ length (now slots)) ⌝ }
+    requires { ⌜ (length (now targets) ≡ length (now slots)) × (length (now branches) ≡ length (now slots)) ⌝ }
+    requires { ⌜ now slots ≡ replicate (length (now slots)) 0 ⌝ }
+    ensures { λ r. ⌜ Attempted r (length (now (slots .entry))) (length (now (nodes .entry))) (now (s .entry)) (now (list .entry)) (now (list .exit)) ⌝ }
+{
+    let reading = sheet::read_index(s, addresses, places, targets, branches, nodes);
+    match reading {
+        Reading::Refused(k, at) => Attempt::Done(Listed::Refused(k, at)),
+        Reading::Accepted(sheet) => {
+            let instructions = sheet.instructions;
+            let node_section = sheet.nodes;
+            if (slots.len() as u64) < instructions.count {
+                return Attempt::TooShort;
+            }
+            if (nodes.len() as u64) < node_section.count {
+                return Attempt::TooShort;
+            }
+            let r = list_sheet(
+                s,
+                sheet,
+                addresses,
+                places,
+                targets,
+                branches,
+                nodes,
+                slots,
+                list,
+            );
+            Attempt::Done(r)
+        }
+    }
+}
+
+// The listing of any sheet.
+fn list_long(s: &[u8], list: &mut [u8]) -> Listed
     ensures { λ r. ⌜ Gives r (now (list .exit)) (listingOf (now (s .entry)) (now (list .entry))) ⌝ }
 {
     let mut addresses = [0u64; 2048];
@@ -79,25 +131,56 @@ pub fn listing(s: &[u8], list: &mut [u8]) -> Listed
     let mut targets = [0u64; 2048];
     let mut branches = [false; 2048];
     let mut nodes = [0u64; 1024];
-    let reading = sheet::read_index(
+    let mut slots = verdict_lines::empty_slots();
+    let attempt = list_in(
         s,
         &mut addresses,
         &mut places,
         &mut targets,
         &mut branches,
         &mut nodes,
+        &mut slots,
+        list,
     );
-    match reading {
-        Reading::Refused(k, at) => Listed::Refused(k, at),
-        Reading::Accepted(sheet) => list_sheet(
-            s,
-            sheet,
-            &addresses,
-            &places,
-            &targets,
-            &branches,
-            &nodes,
-            list,
-        ),
+    match attempt {
+        Attempt::Done(r) => r,
+        // no sheet has more than 2,048 instructions or 1,024 nodes
+        Attempt::TooShort => Listed::Refused(refusal::COUNT, 0),
     }
+}
+
+// The listing of a short sheet, with less to clear.
+fn list_short(s: &[u8], list: &mut [u8]) -> Listed
+    ensures { λ r. ⌜ Gives r (now (list .exit)) (listingOf (now (s .entry)) (now (list .entry))) ⌝ }
+{
+    let mut addresses = [0u64; 64];
+    let mut places = [0u64; 64];
+    let mut targets = [0u64; 64];
+    let mut branches = [false; 64];
+    let mut nodes = [0u64; 64];
+    let mut slots = [0u8; 64];
+    let attempt = list_in(
+        s,
+        &mut addresses,
+        &mut places,
+        &mut targets,
+        &mut branches,
+        &mut nodes,
+        &mut slots,
+        list,
+    );
+    match attempt {
+        Attempt::Done(r) => r,
+        Attempt::TooShort => list_long(s, list),
+    }
+}
+
+// The lines of a sheet, written over the start of a borrowed list.
+pub fn listing(s: &[u8], list: &mut [u8]) -> Listed
+    ensures { λ r. ⌜ Gives r (now (list .exit)) (listingOf (now (s .entry)) (now (list .entry))) ⌝ }
+{
+    if s.len() <= 640 {
+        return list_short(s, list);
+    }
+    list_long(s, list)
 }

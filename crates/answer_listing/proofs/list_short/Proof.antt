@@ -1,0 +1,66 @@
+use mathlib.Core.Path.{refl}
+use Rattle.answer_listing.proofs.Listings.{made-empty, attempt-done, attempt-again}
+use borrow.Author.Needs.{needs}
+use Rattle.answer_listing.proofs.list_short.Statement.{statement}
+use Rattle.answer_listing.proofs.list_short.Tie as tie
+
+slice-aggregate-list-in : tie.Need-slice-aggregate-list-in
+slice-aggregate-list-in c = search needs
+
+slice-aggregate-list-in-2 : tie.Need-slice-aggregate-list-in-2
+slice-aggregate-list-in-2 c = search needs
+
+slice-aggregate-list-in-3 : tie.Need-slice-aggregate-list-in-3
+slice-aggregate-list-in-3 c = search needs
+
+slice-aggregate-list-in-4 : tie.Need-slice-aggregate-list-in-4
+slice-aggregate-list-in-4 c = search needs
+
+slice-aggregate-list-in-5 : tie.Need-slice-aggregate-list-in-5
+slice-aggregate-list-in-5 c = search needs
+
+slice-aggregate-list-in-6 : tie.Need-slice-aggregate-list-in-6
+slice-aggregate-list-in-6 c = search needs
+
+list-in-requires : tie.Need-list-in-requires
+list-in-requires c κs = ((search needs, search needs), ((search needs, search needs), made-empty 64 _ refl))
+
+enum-known-attempt : tie.Need-enum-known-attempt
+enum-known-attempt c = search needs
+
+enum-told : tie.Need-enum-told
+enum-told c = search needs
+
+list-long-requires : tie.Need-list-long-requires
+list-long-requires c κs = search needs
+
+same-length : tie.Need-same-length
+same-length c = search needs
+
+returns : tie.Need-returns
+returns c = attempt-done (c .before .before .before .before .before .before .before .before .before .before .before .list-in .result) _ _ _ (c .before .before .before .before .before .before .before .before .before .before .before .before .before .before .before .before .before .before .before .before .before .args .list .now) _ (c .before .before .before .before .before .before .before .before .before .before .before .list-in .ensures) (c .before .attempt .given .1)
+
+same-length-2 : tie.Need-same-length-2
+same-length-2 c = search needs
+
+returns-2 : tie.Need-returns-2
+returns-2 c = attempt-again (c .before .before .before .before .before .before .before .before .before .before .before .before .before .before .list-in .result) _ _ _ (c .before .before .before .before .before .before .before .before .before .before .before .before .before .before .before .before .before .before .before .before .before .before .before .before .args .list .now) _ (c .before .before .before .before .before .before .before .before .before .before .before .before .before .before .list-in .ensures) (c .before .before .list-long .result) (c .before .before .list-long .last .1 .0) (c .before .before .before .before .enum-told .given .1) (c .before .before .list-long .ensures)
+
+pub list-short-spec : {M : Type 1} → statement M
+list-short-spec =
+    tie.close
+    (tie.spec
+    slice-aggregate-list-in
+    slice-aggregate-list-in-2
+    slice-aggregate-list-in-3
+    slice-aggregate-list-in-4
+    slice-aggregate-list-in-5
+    slice-aggregate-list-in-6
+    list-in-requires
+    enum-known-attempt
+    enum-told
+    list-long-requires
+    same-length
+    returns
+    same-length-2
+    returns-2)
