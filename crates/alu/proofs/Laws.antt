@@ -1,4 +1,4 @@
--- What wraps at 64 bits and is then cut to a width wraps at that width. For a difference: what is missing to 2 ^ 64 is
+-- What wraps at 64 bits and is then truncated to a width wraps at that width. For a difference: what is missing to 2 ^ 64 is
 -- what is missing to the width, and whole turns of it.
 use Prim.Native.Nat.{ℕ, _+_, _-_, _%_, _^_, _<_}
 use mathlib.Core.Path.{_≡_}

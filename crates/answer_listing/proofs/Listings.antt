@@ -29,7 +29,7 @@ use Rattle.answer_listing.specs.declared.Listed.the-variants as listed
 use Rattle.answer_listing.specs.Listing.{Gives, written, onJudged, listingOf}
 use Rattle.answer_listing.specs.Contracts.{Empty, Attempted}
 
--- the lines against the list's room
+-- the lines against the list's length
 module _ (s sites targets slots list : List ℕ) (each-site : length sites ≡ length slots) (each-target : length targets ≡ length slots)
     {n : ℕ} (n-is : n ≡ decidedIn slots) where
   count-is : length (linesIn sites targets slots) ≡ n

@@ -47,7 +47,7 @@ some t = pow-pos (bits t)
 pub mask-of : (t : ℕ) → (2 ^ 64 - 1) / 2 ^ (64 - bits t) ≡ 2 ^ bits t - 1
 mask-of t = by-bits (λ (b : ℕ). (2 ^ 64 - 1) / 2 ^ (64 - b) ≡ 2 ^ b - 1) refl refl refl refl refl t
 
--- what wraps at 64 bits and is then cut wraps at the width
+-- what wraps at 64 bits and is then truncated wraps at the width
 pub low-bits : (t x : ℕ) → x % 2 ^ 64 % 2 ^ bits t ≡ x % 2 ^ bits t
 low-bits t x =
     by-bits (λ (b : ℕ). x % 2 ^ 64 % 2 ^ b ≡ x % 2 ^ b) (mod-mod-pow x 63 1) (mod-mod-pow x 56 8) (mod-mod-pow x 48 16) (mod-mod-pow x 32 32) (mod-mod-pow x 0 64) t
@@ -73,7 +73,7 @@ complement-mod w c n p h =
 pub multiple : (t : ℕ) → 2 ^ (64 - bits t) * 2 ^ bits t ≡ 2 ^ 64
 multiple t = by-bits (λ (b : ℕ). 2 ^ (64 - b) * 2 ^ b ≡ 2 ^ 64) refl refl refl refl refl t
 
--- what a number leaves at 64 bits, cut, is what it leaves at the width
+-- what a number leaves at 64 bits, truncated, is what it leaves at the width
 pub residue-cut : (t : ℕ) (z : ℤ) → residue (2 ^ 64) z % 2 ^ bits t ≡ residue (2 ^ bits t) z
 unfolding residue
 residue-cut t (pos n) = low-bits t n
@@ -215,7 +215,7 @@ module _ {t a b : ℕ} {na nb : Bool} {x y : ℕ} (s : Signs t a b na nb x y) wh
   remainder-is r e =
       e ∙ rw (s .leftSign ∙ sign-is t a, x-is, y-is) (ap (wrap t) (sym (remainder-signs (number t a) (number t b))))
 
--- a difference at 64 bits, cut
+-- a difference at 64 bits, truncated
 pub difference-wraps : (t a b s : ℕ) → b < 2 ^ bits t → (s + b) % 2 ^ 64 ≡ a → s % 2 ^ bits t ≡ (a + (2 ^ bits t - b)) % 2 ^ bits t
 difference-wraps t a b s h e =
     let m = 2 ^ bits t in

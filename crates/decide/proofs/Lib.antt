@@ -6,5 +6,5 @@ pub mod Reasons
 pub mod Sound
 -- laws of the code's steps
 pub mod Judged
--- room for an equality
+-- buffers for an equality
 pub mod Rooms

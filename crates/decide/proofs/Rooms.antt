@@ -1,4 +1,4 @@
--- Room for an equality: what is lent, or its own.
+-- A buffer for an equality: what is borrowed, or its own.
 use Prim.Native.Nat.{ℕ, _≤_}
 use mathlib.Core.Path.{_≡_, refl}
 use mathlib.Core.Bool.{Bool, true, false, _&&_, _||_}
@@ -9,7 +9,7 @@ use lib.ListN.{length}
 use borrow.Author.Tests.{ltb-false}
 use Rattle.exact.specs.Answers.{Buffers}
 
--- the lent room suffices where the equality is small or the room is full
+-- the borrowed buffers suffice where the equality is small or they are full size
 pub buffers-enough : {w : ℕ} {atoms terms products : List ℕ} → w ≤ 256 → Buffers 36 atoms terms products
     → (ltb 36 w && (ltb (length terms) 2320 || ltb (length products) 4096)) ≡ false → Buffers w atoms terms products
 buffers-enough {w} {atoms} {terms} {products} h b enough =

@@ -255,21 +255,21 @@ fn equality(
     first_step(same, operator == expr::EQUAL, a, b, as_written, sides)
 }
 
-// Room for the terms of the sides of an equality of 128 records.
+// A buffer for the terms of the sides of an equality of 128 records.
 pub fn terms_room() -> [u64; 2320]
     ensures { λ r. ⌜ 2320 ≡ length r ⌝ }
 {
     [0; 2320]
 }
 
-// Room for the terms of a product.
+// A buffer for the terms of a product.
 pub fn products_room() -> [u64; 4096]
     ensures { λ r. ⌜ 4096 ≡ length r ⌝ }
 {
     [0; 4096]
 }
 
-// == or !=, with room of its own.
+// == or !=, with buffers of its own.
 fn equality_apart(
     operator: u64,
     whole: &[u64],
@@ -337,7 +337,7 @@ fn relation(operator: u64, left: &[u64], right: &[u64]) -> Verdict
     )
 }
 
-// The verdict on a condition: && and || are decided half by half. Room for equalities of 18 records is lent, or for all; an equality
+// The verdict on a condition: && and || are decided half by half. Buffers for equalities of 18 records are borrowed, or for all; an equality
 // that needs more makes its own.
 pub fn decide(rs: &[u64], atoms: &mut [u64], terms: &mut [u64], scratch: &mut [u64]) -> Decision
     requires { ⌜ Wf (now rs) ⌝ }

@@ -48,7 +48,7 @@ module _ (n : Node) (place : ℕ) (values : List ℕ) (declared : ReadsDeclared 
   given-run truth.Fails = refl
   given-run truth.NoOutcome = λ e. refl
 
-  -- The theorem: what the evaluation gives is the outcome of every run that starts from the lent values.
+  -- The theorem: what the evaluation gives is the outcome of every run that starts from the borrowed values.
   pub every-run : Gives (evaluationOf n place values) Run
   every-run = by-plain (plainAll (n .statements) && plainExpr (n .condition)) refl
     where

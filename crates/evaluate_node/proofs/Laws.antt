@@ -56,7 +56,7 @@ module _ (types values : List ℕ) (v : ℕ) (kept : unfitFrom 0 types values �
   unfolding unfitFrom
   unfit-none out = sym (kept ∙ rw (drop-of-length-le types out))
 
--- the first n of the values, copied to the front
+-- the first n of the values, copied to the start
 pub copied-front : (values before after : List ℕ) (n : ℕ) → n ≤ length values → after ≡ paste before 0 (take n values) (length (take n values))
     → after ≡ take n values ++ drop n before
 copied-front values before after n enough is =

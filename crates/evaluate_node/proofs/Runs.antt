@@ -1,4 +1,4 @@
--- A plain node's run on lent values is what the assignments and the condition give.
+-- A plain node's run on borrowed values is what the assignments and the condition give.
 use Prim.Native.Nat.{ℕ, zero, suc, _+_, _-_, _≤_, _<_}
 use mathlib.Core.Path.{_≡_, refl, sym, ap, _∙_}
 use mathlib.Core.List.{List, [], _∷_, _++_}
@@ -119,7 +119,7 @@ module _ (s : List ℕ) (node : NodeReading) (place : ℕ) (types values words :
     plain-is : evaluationOf (nodeOf s node) place values ≡ onFit (unfitFrom 0 types values) (onTruth place (run types L C (onValues values)))
     plain-is = evaluation-is ∙ rw (p, r .ready .plain)
 
-    -- the run from the lent values is the one from the room that holds them
+    -- the run from the borrowed values is the one from the buffer that holds them
     the-run : {start : List ℕ} → start ≡ take (length types) values ++ drop (length types) (replicate 32 0) → length types ≤ length values
         → run types L C (onValues values) ≡ finish types C (assignedAll types L (went start))
     unfolding nodeOf

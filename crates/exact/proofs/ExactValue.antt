@@ -54,7 +54,7 @@ Fitting (ternary c a b) = Fitting c × Fitting a × Fitting b
 abbrev pub Plain : ℕ → ℕ → Type 0
 Plain t v = number t v ≡ pos v
 
--- converted to a type that has room for it, such a pattern stays as it is
+-- converted to a type that can hold it, such a pattern stays as it is
 pub convert-plain : (s t v : ℕ) → eqb t 9 ≡ false → Plain s v → v < 2 ^ bits t → convert s t v ≡ v
 unfolding convert residue
 convert-plain s t v test is room = rw (test, is) (mod-eq-of-lt room)

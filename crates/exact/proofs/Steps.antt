@@ -97,7 +97,7 @@ no-terms : (p : List ℕ) → length p ≡ 0 → decidedBit p ≡ some 0
 no-terms [] h = refl
 no-terms (m ∷ l) h = absurd (omega (arith, h))
 
--- the same room serves a smaller part
+-- the same space serves a smaller part
 pub buffers-lent : {u w : ℕ} {atoms terms scratch atoms′ terms′ scratch′ : List ℕ} → Buffers w atoms terms scratch → u ≤ w
     → length atoms′ ≡ length atoms → length terms′ ≡ length terms → length scratch′ ≡ length scratch → Buffers u atoms′ terms′ scratch′
 buffers-lent b h l k m = record {

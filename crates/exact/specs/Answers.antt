@@ -1,4 +1,4 @@
--- What the code of `exact` is lent, and its answers: each with the limits of refusal 11 beside it.
+-- What the code of `exact` borrows, and its answers: each with the limits of refusal 11 beside it.
 use Prim.Native.Nat.{ℕ, _≤_}
 use mathlib.Core.Bool.{Bool, cond}
 use mathlib.Core.List.{List, []}
@@ -16,7 +16,7 @@ use Rattle.exact.specs.declared.Shape as Shape
 use Rattle.exact.specs.declared.Shape.the-variants.{LowLeft, LowRight, Even, Vanishes, Other}
 use Rattle.exact.specs.Exact as Exact
 
--- room for the atoms, the terms and the products of a part of w words
+-- buffers for the atoms, the terms and the products of a part of w words
 pub record Buffers (w : ℕ) (atoms terms scratch : List ℕ) : Type 0 where
   pub table : 64 ≤ length atoms
   pub space : termsRoom w ≤ length terms

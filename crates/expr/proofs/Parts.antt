@@ -118,7 +118,7 @@ back-end rs at left h b =
 pub root-place : (ws : List ℕ) → Wf ws → length ws - 2 + 2 ≡ length ws
 root-place ws h = omega (arith, wf-two ws h)
 
--- the root of a tree's words: its record, and its children's words in front of it
+-- the root of a tree's words: its record, and its children's words before it
 pub record Root (ws : List ℕ) (n : ℕ) : Type 0 where
   pub size : 2 ≤ length ws
   pub tag : getD ws n 0 ≡ tagOf (treeOf ws)
@@ -154,7 +154,7 @@ root ws n h e =
       made = node-own (treeOf ws) ∙ ap₂ (λ (t v : ℕ). node t v (kids (treeOf ws))) (sym tag) (sym value);
     }
 
--- where a last tree starts is a place of the words
+-- where a last tree starts is an offset of the words
 pub start-within : (ws : List ℕ) (n m : ℕ) → m ≡ lastStart (take n ws) → (m ≤ n) × (m ≡ length (take m ws))
 start-within ws n m h = (omega (arith, length-take n ws), omega (arith, length-take n ws, length-take m ws))
 

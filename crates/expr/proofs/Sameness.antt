@@ -46,7 +46,7 @@ pub same-words : (a b : List ℕ) → Wf a → Wf b → sameTree (treeOf a) (tre
 unfolding sameTree Wf
 same-words a b h k = ap₂ sameWords h k
 
--- the steps of a comparison from the front
+-- the steps of a comparison from the start
 pub words-unlike : (a b : List ℕ) → (length a ≡ length b → ⊥) → sameWords a b ≡ false
 unfolding sameWords
 words-unlike [] [] h = absurd (h refl)

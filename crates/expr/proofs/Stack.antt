@@ -61,7 +61,7 @@ pub next : (st : List Expr) (ws : List ℕ) (i : ℕ) → i < length ws → Fed 
     → Next st (drop i ws) (getD ws i 0) (getD ws (i + 1) 0) (drop (i + 2) ws)
 next st ws i h f = rw (add-one, add-two) (next-suc st ws i h f)
 
--- the types of a stack of trees, in an array from place 2 up
+-- the types of a stack of trees, in an array from entry 2 up
 unfoldable pub Held : List ℕ → List ℕ → List Expr → Type 0
 Held types stack [] = Unit {0}
 Held types stack (e ∷ st) = (getD stack (length st + 2) 0 ≡ typeOf types e) × Held types stack st
@@ -161,7 +161,7 @@ module _ (rs types stack : List ℕ) (top i : ℕ) (more : i < length rs) (t : T
         few = omega (arith, t .few, length-drop (arityOf tag) st);
       }
 
--- past the last record the one tree's type stands in place 2
+-- past the last record the one tree's type stands in entry 2
 pub typed-end : (rs types stack : List ℕ) (top i : ℕ) → length rs ≤ i → Typed rs types stack top i → getD stack 2 0 ≡ typeOf types (treeOf rs)
 unfolding Held parse
 typed-end rs types stack top i l t =

@@ -64,7 +64,7 @@ examples =
     ∷ refused ((2 ∷ 0 ∷ 0 ∷ []) ++ word 5 ++ (0 ∷ 0 ∷ []) ++ word 5) 4 13
     -- offset 8 of the register of index 4 (R13)
     ∷ refused (instruction 4 (0 ∷ 0 ∷ 1 ∷ 4 ∷ 8 ∷ 8 ∷ [])) 5 13
-    -- the same, cut before the offset: no check of the register is made (R6)
+    -- the same, truncated before the offset: no check of the register is made (R6)
     ∷ refused (instruction 4 (0 ∷ 0 ∷ 1 ∷ 4 ∷ 8 ∷ [])) 1 16
     -- mov of a 32-bit register from a 16-bit one (R14)
     ∷ refused (instruction 12 (4 ∷ 0 ∷ 1 ∷ 0 ∷ 32 ∷ 0 ∷ 0 ∷ 1 ∷ 3 ∷ 16 ∷ 0 ∷ [])) 6 2

@@ -1,4 +1,4 @@
--- What a read gave lies within the room.
+-- What a read gave lies within the buffer.
 use Prim.Native.Nat.{ℕ, _≤_}
 use mathlib.Core.Path.{_≡_}
 use Rattle.listing.specs.declared.Input.{Input}

@@ -59,7 +59,7 @@ refusal-says k p room list = record {
   of-refusal = λ k′ p′ e. let a : k ≡ k′ = cc in let b : p ≡ p′ = cc in rw (a, b);
 }
 
--- the lines due, where the list has room for them
+-- the lines due, where the list can hold them
 written-says : (s list : List ℕ) (due : List Line) (fits : Bool) → leb (18 * length due) (length list) ≡ fits → 18 * length due ≤ length list
     → Says (branchesText (length due) (linesText due)) (length list) (written s due list)
 written-says s list due false e room = absurd (omega (arith, leb-false (18 * length due) (length list) e))
@@ -119,7 +119,7 @@ module _ (s list : List ℕ) (room : length list ≡ 36864) where
       → Written old new count (refusalText k p) → Written old new count (printed s)
   refusal-text {k = k} {p} short is refusal w = rw (within s short, says .of-refusal k p (sym is ∙ rw refusal)) w
 
--- the text lies within its room
+-- the text lies within its buffer
 pub text-within : {old new : List ℕ} {r : ℕ} {text : List ℕ} → Written old new r text → r ≤ length new
 text-within {old} {new} {r} {text} w = omega (arith, w .long, ap length (w .is), length-append text (drop (length text) old))
 

@@ -10,7 +10,7 @@ use Rattle.listing.specs.declared.Ending.{Ending}
 use Rattle.listing.specs.declared.Ending.the-variants as ending
 use Rattle.listing.specs.Program.{printed}
 
--- what was read lies within the room
+-- what was read lies within the buffer
 abbrev pub Within : Input → ℕ → Type 0
 Within (input.Bytes n) room = n ≤ room
 Within input.Unread room = Unit {0}
@@ -21,7 +21,7 @@ statusOf ending.Written = 0
 statusOf ending.Unread = 1
 statusOf ending.Unwritten = 2
 
--- The text for the first bytes of the input's buffer, as many as were read, stands at the front of the text's buffer (L10, L11).
+-- The text for the first bytes of the input's buffer, as many as were read, stands at the start of the text's buffer (L10, L11).
 pub record Prepared (input old new : List ℕ) : Type 0 where
   pub count : ℕ
   pub within : count ≤ length input

@@ -23,28 +23,28 @@ enum Ending {
     Unwritten,
 }
 
-// Room for the longest input that is judged, and one byte more.
+// A buffer for the longest input that is judged, and one byte more.
 fn input_room() -> [u8; 65537]
     ensures { λ r. ⌜ 65537 ≡ length r ⌝ }
 {
     [0; 65537]
 }
 
-// Room for a line of each instruction that a sheet can have.
+// A buffer for a line of each instruction that a sheet can have.
 fn list_room() -> [u8; 36864]
     ensures { λ r. ⌜ 36864 ≡ length r ⌝ }
 {
     [0; 36864]
 }
 
-// Room for the text of these lines.
+// A buffer for the text of these lines.
 fn text_room() -> [u8; 92190]
     ensures { λ r. ⌜ 92190 ≡ length r ⌝ }
 {
     [0; 92190]
 }
 
-// One read of standard input. No bytes are its end.
+// One read of standard input. Zero bytes mean the end of input.
 fn read_more(room: &mut [u8]) -> Input
     ensures { λ r. ⌜ Within r (length (now (room .exit))) ⌝ }
 {
@@ -55,7 +55,7 @@ fn read_more(room: &mut [u8]) -> Input
     Input::Bytes(io::count(got, room))
 }
 
-// Reads standard input to its end, or until the room is full.
+// Reads standard input to its end, or until the buffer is full.
 fn read_input(room: &mut [u8]) -> Input
     ensures { λ r. ⌜ Within r (length (now (room .exit))) ⌝ }
 {
@@ -107,7 +107,7 @@ fn write_output(_read: &[u8], text: &[u8]) -> Ending
     }
 }
 
-// Puts what the program writes for a sheet at the front of the text's room, and gives its length.
+// Puts what the program writes for a sheet at the start of the text's buffer, and gives its length.
 fn text_of(s: &[u8], list: &mut [u8], text: &mut [u8]) -> usize
     requires { ⌜ length (now list) ≡ 36864 ⌝ }
     requires { ⌜ 92190 ≤ length (now text) ⌝ }

@@ -19,7 +19,7 @@ use Rattle.listing_text.proofs.Puts.{put-then, put-long, sets-append}
 pub put-decimal-of : {old new : List ℕ} {at next k : ℕ} (n : ℕ) → k ≡ placesOf n → Put old new at next (digits 10 k n) → Put old new at next (decimal n)
 put-decimal-of n e p = rw e at p
 
--- what is left of the room, after a text of at most so many bytes
+-- what is left of the buffer, after a text of at most so many bytes
 pub room : {old new : List ℕ} {at next : ℕ} {text : List ℕ} (most more : ℕ) → Put old new at next text → length text ≤ most
     → at + (most + more) ≤ length old → next + more ≤ length new
 room most more p short fits = omega (arith, p .end, put-long p)

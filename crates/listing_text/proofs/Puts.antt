@@ -38,7 +38,7 @@ put-long {old} {new} {at} {next} {text} p = ap length (p .is) ∙ length-sets ol
 pub put-none : (l : List ℕ) (at : ℕ) → at ≤ length l → Put l l at at []
 put-none l at h = record { is = refl; end = sym (add-zero at); inside = h }
 
--- a text from the buffer's front on
+-- a text from the buffer's start on
 pub written : {old new : List ℕ} {count : ℕ} {text : List ℕ} → Put old new 0 count text → Written old new count text
 written {old} {new} {count} {text} p =
     let fits : 0 + length text ≤ length old = omega (arith, p .end, p .inside, put-long p) in

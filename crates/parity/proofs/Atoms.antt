@@ -14,7 +14,7 @@ use Rattle.expr.proofs.Sameness.{sameTree-true, sameTree-refl}
 use Rattle.parity.specs.Parity.{Entry, entered, place, numberIn, noted, atomLow, lowOf, parity}
 use Rattle.parity.specs.Parity.Entry.{adds, multiplies, joins, keeps, clears, atom}
 
--- a list that has another one at its front
+-- a list that has another one at its start
 pub record Extends (l F : List Expr) : Type 0 where
   pub rest : List Expr
   pub is : F ≡ l ++ rest
@@ -48,7 +48,7 @@ place-found (x ∷ l) e d h = go (sameTree x e) refl h (place-found l e d)
     go true same h rest = sameTree-true x e same
     go false same h rest = rest (omega arith)
 
--- in a longer list a tree that is there has the same place, and the first one after the end has the length as its place
+-- in a longer list a tree that is there has the same index, and the first one after the end has the length as its index
 pub place-stays : (l r : List Expr) (e : Expr) → place l e < length l → place (l ++ r) e ≡ place l e
 unfolding place
 place-stays [] r e h = absurd (omega arith)

@@ -1,4 +1,4 @@
--- The laws of the calls by which `parity` goes through a part: what a child is lent, and what a part's polynomial is by its root.
+-- The laws of the calls by which `parity` goes through a part: what a child borrows, and what a part's polynomial is by its root.
 use Prim.Native.Nat.{ℕ, _+_, _*_, _-_, _%_, _≤_, _<_}
 use mathlib.Core.Path.{_≡_, refl, sym, ap, subst, _∙_}
 use mathlib.Core.Bool.{true, false}
@@ -39,7 +39,7 @@ two-length part n m e d =
     omega (arith, d .within, length-take-le m part (omega (arith, d .within)), length-take-le (n - m) (drop m part) (omega (arith, d .within, length-drop m part)))
 
 module _ {whole : List ℕ} {at : ℕ} {part table : List ℕ} {count : ℕ} {terms : List ℕ} (lent : Lent whole at part table count terms) where
-  -- the front of a part stands where the part does
+  -- the start of a part stands where the part does
   front-stands : (n : ℕ) → n ≤ length part → take n part ≡ take n (drop at whole)
   front-stands n h = ap (take n) (lent .stands) ∙ take-take n (length part) (drop at whole) h
 

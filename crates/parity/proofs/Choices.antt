@@ -373,7 +373,7 @@ numbers l (binary o a b) (zero ∷ path) = numbers l a path
 numbers l (binary o a b) (suc k ∷ path) = numbers (parity l a .atoms) b path
 numbers l (ternary c a b) path = length l
 
--- in a list that has it, an atom without an effect has its number as its place
+-- in a list that has it, an atom without an effect has its number as its index
 place-in : (l F : List Expr) (e : Expr) → Extends (noted l e) F → hasOwnValue e ≡ false → place F e ≡ numberIn l e
 place-in l F e x plain = go (noting l e)
   where

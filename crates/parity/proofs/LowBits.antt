@@ -26,7 +26,7 @@ halved (suc k) h = record { half = 2 ^ k; is = omega (arith, two-pow-succ k) }
 pub even-width : (t : ℕ) → Halved (bits t)
 even-width t = halved (bits t) (bits-pos t)
 
--- cut to a width, a number keeps its low bit
+-- truncated to a width, a number keeps its low bit
 cut-low : (m h n : ℕ) → m ≡ 2 * h → n % m % 2 ≡ n % 2
 cut-low m h n e = rw e (mod-mod-of-dvd 2 n (dvd-mul-right 2 h))
 

@@ -1,5 +1,5 @@
 -- Laws of `parity`'s result: the polynomial is in order; within the limits it has at most 256 terms; and a part numbers no more new
--- atoms than it has room for, four words for each but the first.
+-- atoms than it can hold, four words for each but the first.
 use Prim.Native.Nat.{ℕ, _+_, _*_, _%_, _^_, _≤_}
 use mathlib.Core.Path.{_≡_, _∙_}
 use mathlib.Core.Bool.{Bool, true, false, cond, _&&_}

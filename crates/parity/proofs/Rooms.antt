@@ -20,7 +20,7 @@ use Rattle.parity.specs.Lent.{ProductsRoom}
 use Rattle.parity.proofs.Ordered.{flat-binary, flat-cast}
 use Rattle.parity.proofs.Steps.{length-sum}
 
--- two to the number of leaves that w words have room for
+-- two to the number of leaves that w words can hold
 abbrev pub leaves : ℕ → ℕ
 leaves w = 2 ^ ((w + 2) / 4)
 
@@ -93,7 +93,7 @@ eight-each n w two few h = go (ltb ((w + 2) / 4) 6) refl (ltb ((w + 2) / 4) 8) r
         omega (arith, h, ltb-false ((w + 2) / 4) 6 e)
     go false e false f = omega (arith, few, ltb-false ((w + 2) / 4) 8 f)
 
--- the pairs of two sides have room
+-- the pairs of two sides fit
 pub pairs-room : (u v n k : ℕ) (scratch : List ℕ) → ProductsRoom (u + v + 2) scratch → n < leaves u → k < leaves v → n * k ≤ 4096 → n * k ≤ length scratch
 pairs-room u v n k scratch room h j within = go (ltb 36 (u + v + 2)) refl
   where
@@ -104,6 +104,6 @@ pairs-room u v n k scratch room h j within = go (ltb 36 (u + v + 2)) refl
         pow-le-pow-right (lit< tt) {i = (u + v + 2 + 2) / 4} {j = 9} (omega (arith, ltb-false 36 (u + v + 2) e)) in
         omega (arith, room .least, grown h j, leaves-two u v)
 
--- the same room serves a smaller part
+-- the same space serves a smaller part
 pub products-lent : {u w : ℕ} {scratch scratch′ : List ℕ} → ProductsRoom w scratch → u ≤ w → length scratch′ ≡ length scratch → ProductsRoom u scratch′
 products-lent room h e = record { least = omega (arith, room .least); most = λ k. omega (arith, room .most (omega arith)) }

@@ -1,5 +1,5 @@
--- The laws that the code's steps cite: a constant, how an operator enters, the place of an atom, and two polynomials that stand
--- one behind the other and are put together at the front.
+-- The laws that the code's steps cite: a constant, how an operator enters, the index of an atom, and two polynomials that stand
+-- one behind the other and are put together at the start.
 use Prim.Native.Nat.{ℕ, zero, suc, _+_, _*_, _-_, _/_, _%_, _^_, _≤_, _<_}
 use mathlib.Core.Path.{_≡_, refl, sym, ap, ap₂, _∙_}
 use mathlib.Core.Bool.{Bool, true, false, cond, _&&_}
@@ -98,7 +98,7 @@ module _ (whole atoms part : List ℕ) (i : ℕ) (so-far : Placing whole atoms p
       let none : place (atomsAt whole (drop i atoms)) (treeOf part) ≡ 0 = rw (all, drop-length atoms) in
       omega (arith, so-far .is)
 
--- one term at the front
+-- one term at the start
 pub front : (terms : List ℕ) (t : ℕ) → 1 ≤ length terms → take 1 (set terms 0 t) ≡ t ∷ []
 front [] t h = absurd (omega arith)
 front (x ∷ terms) t h = refl
@@ -159,7 +159,7 @@ length-behind terms n k h = length-take-le k (drop n terms) (omega (arith, lengt
 pub length-sum : (p q : List ℕ) → length (sum p q) ≤ length p + length q
 length-sum p q = rw (sym (times-one p q)) (length-times p 0 q)
 
--- a polynomial at the front, its count held to the limit
+-- a polynomial at the start, its count held to the limit
 pub limited-made : {poly old new : List ℕ} {count room atoms : ℕ} {r : Size} → Written poly count room old new
     → r ≡ cond (leb count 256) (Of count atoms) TooMany → Made (few poly) poly atoms new r
 limited-made w e = record { size = rw (w .count) at e; stands = λ _. rw (w .count) at (w .terms) }
@@ -215,7 +215,7 @@ pub sides-few : (terms : List ℕ) (n k : ℕ) {from : List ℕ} {atoms count al
 sides-few terms n k t =
     omega (arith, t .count, product-few (fewPairs (take n terms) (take k (drop n terms))) (product (take n terms) (take k (drop n terms))) (t .fit))
 
--- a polynomial moved from the front of one list to that of another
+-- a polynomial moved from the start of one list to that of another
 pub moved-made : {fits : Bool} {poly from : List ℕ} {atoms n k : ℕ} (terms : List ℕ) → Told fits poly atoms from n k → n ≤ length terms
     → Made fits poly atoms (paste terms 0 (take n from) (length (take n from))) (Of n k)
 moved-made {fits} {poly} {from} {atoms} {n} {k} terms t h = record {
@@ -236,7 +236,7 @@ pub join-past : (p q : List ℕ) → (fewPairs p q && few (product p q)) ≡ fal
 join-past p q h = no-join (fewPairs p q) (few (product p q)) (few (joined p q)) h
 
 module _ (terms : List ℕ) (n k : ℕ) (scratch : List ℕ) (s : Sides terms n k scratch) where
-  -- the or: the product stands at the front of one list, and the right side is copied behind it
+  -- the or: the product stands at the start of one list, and the right side is copied behind it
   module _ (from copy mid : List ℕ) (count all atoms sums room : ℕ)
       (t : Told (fewPairs (take n terms) (take k (drop n terms)) && few (product (take n terms) (take k (drop n terms)))) (product (take n terms) (take k (drop n terms))) atoms from count all)
       (long : length from ≡ length scratch)
@@ -275,7 +275,7 @@ module _ (terms : List ℕ) (n k : ℕ) (scratch : List ℕ) (s : Sides terms n 
         let fit = and-both (fewPairs (take n terms) (take k (drop n terms))) (few (product (take n terms) (take k (drop n terms)))) (t .fit) in
         rw (fit .0, fit .1, ← t .all) (limited-made (rw (join-sum .terms, join-product) at v) l)
 
--- as many atoms as places
+-- as many atoms as entries
 pub length-atoms : (whole ws : List ℕ) → length (atomsAt whole ws) ≡ length ws
 unfolding atomsAt
 length-atoms whole [] = refl
@@ -303,7 +303,7 @@ pow-small n h =
     rw one (mod-eq-of-lt (lt-of-le-of-lt most (lit< tt)))
 
 module _ (whole : List ℕ) (at : ℕ) (part table : List ℕ) (count : ℕ) (terms : List ℕ) (lent : Lent whole at part table count terms) where
-  -- the table has room for one more atom
+  -- the table can hold one more atom
   pub lent-count : count < 64
   lent-count = omega (arith, lent .room, wf-two part (lent .wf))
 

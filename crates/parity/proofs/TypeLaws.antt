@@ -1,4 +1,4 @@
--- Types that operands are taken at: never bool, at least 32 bits wide, and with room for the values of both operands.
+-- Types that operands are taken at: never bool, at least 32 bits wide, and wide enough for the values of both operands.
 use Prim.Native.Nat.{ℕ, zero, suc, _*_, _^_, _<_, _≤_}
 use mathlib.Core.Path.{_≡_, refl, sym, _∙_}
 use mathlib.Core.Bool.{Bool, true, false, cond, _&&_, false≢true}

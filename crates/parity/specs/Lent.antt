@@ -1,5 +1,5 @@
--- What the code of `parity` is lent, and what it leaves there. The atoms stand in a table as places in the words of one equality,
--- a polynomial at the front of a list of terms.
+-- What the code of `parity` borrows, and what it leaves there. The atoms stand in a table as offsets in the words of one equality,
+-- a polynomial at the start of a list of terms.
 use Prim.Native.Nat.{ℕ, _+_, _*_, _-_, _/_, _%_, _≤_, _<_}
 use mathlib.Core.Path.{_≡_}
 use mathlib.Core.Bool.{Bool, true, cond, _&&_}
@@ -56,16 +56,16 @@ pairLow pair x y = record {
 abbrev pub pairOf : Pair → List Expr → Expr → Expr → Low
 pairOf pair atoms a b = let x = parity atoms a in pairLow pair x (parity (x .atoms) b)
 
--- the words at a place, which is 512 times its start and its end
+-- the words of an atom, given as 512 times its start plus its end
 abbrev pub partAt : List ℕ → ℕ → List ℕ
 partAt whole w = take (w % 512 - w / 512) (drop (w / 512) whole)
 
--- the trees at some places
+-- the trees of some atoms
 unfoldable pub atomsAt : List ℕ → List ℕ → List Expr
 atomsAt whole [] = []
 atomsAt whole (w ∷ ws) = treeOf (partAt whole w) ∷ atomsAt whole ws
 
--- one tree stands at a place
+-- an atom is one tree
 pub record Part (whole : List ℕ) (w : ℕ) : Type 0 where
   pub order : w / 512 ≤ w % 512
   pub end : w % 512 ≤ length whole
@@ -74,19 +74,19 @@ pub record Part (whole : List ℕ) (w : ℕ) : Type 0 where
 pub record Parts (whole ws : List ℕ) : Type 0 where
   pub each : (i : ℕ) → i < length ws → Part whole (getD ws i 0)
 
--- Room for the terms of a part of w words: eight for each word hold the left sides' terms, which stand before what is being made,
+-- A buffer for the terms of a part of w words: eight for each word hold the left sides' terms, which stand before what is being made,
 -- and 272 more let the sides of an `or`, and their product, be added up.
 abbrev pub termsRoom : ℕ → ℕ
 termsRoom w = 8 * w + 272
 
--- Room for a product within a part of w words, and for a copy of a right side behind it. A part of 36 words has at most nine leaves,
+-- A buffer for a product within a part of w words, and for a copy of a right side behind it. A part of 36 words has at most nine leaves,
 -- and then no more than 512 pairs to multiply.
 pub record ProductsRoom (w : ℕ) (scratch : List ℕ) : Type 0 where
   pub least : 512 ≤ length scratch
   pub most : 36 < w → 4096 ≤ length scratch
 
--- A part of the whole from a place on, and room for its atoms and its terms. Each atom takes two words or more, and each side
--- of an operator leaves two for the operator itself, so 64 places suffice for 256 words.
+-- A part of the whole from an offset on, and buffers for its atoms and its terms. Each atom takes two words or more, and each side
+-- of an operator leaves two for the operator itself, so 64 entries suffice for 256 words.
 pub record Lent (whole : List ℕ) (at : ℕ) (part atoms : List ℕ) (count : ℕ) (terms : List ℕ) : Type 0 where
   pub wf : Wf part
   pub stands : part ≡ take (length part) (drop at whole)
@@ -110,7 +110,7 @@ pub record LentTwo (whole : List ℕ) (at : ℕ) (left right atoms : List ℕ) (
   pub parts : Parts whole (take count atoms)
   pub space : termsRoom (length left + length right + 2) ≤ length terms
 
--- The first n terms and the k after them are the sides' polynomials, and there is room to put them together.
+-- The first n terms and the k after them are the sides' polynomials, and there is space to put them together.
 pub record Sides (terms : List ℕ) (n k : ℕ) (scratch : List ℕ) : Type 0 where
   pub left : n ≤ 256
   pub right : k ≤ 256
@@ -119,7 +119,7 @@ pub record Sides (terms : List ℕ) (n k : ℕ) (scratch : List ℕ) : Type 0 wh
   pub copies : 512 ≤ length scratch
   pub products : n * k ≤ 4096 → n * k ≤ length scratch
 
--- A polynomial within the limits stands at the front, and its size is told; else that it passes them.
+-- A polynomial within the limits stands at the start, and its size is told; else that it passes them.
 pub record Made (fits : Bool) (poly : List ℕ) (atoms : ℕ) (terms : List ℕ) (r : Size) : Type 0 where
   pub size : r ≡ cond fits (Of (length poly) atoms) TooMany
   pub stands : fits ≡ true → take (length poly) terms ≡ poly

@@ -48,7 +48,7 @@ entered o b =
     (cond (eqb o opMod) (onRemainder (constantOf b))
     (cond (eqb o opShl) (onShift (constantOf b)) atom))))
 
--- the first place of a tree in a list, or the list's length where it is not there
+-- the first index of a tree in a list, or the list's length where it is not there
 unfoldable pub place : List Expr → Expr → ℕ
 place [] e = 0
 place (x ∷ l) e = cond (sameTree x e) 0 (suc (place l e))

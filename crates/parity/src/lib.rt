@@ -1,6 +1,6 @@
 // The low bit of a part as a polynomial over the low bits of its atoms. Parts are slices of the words of one equality; an atom is
-// kept as its place there. Polynomials stand at the front of a lent list, which serves as a stack: the left side's is made at its
-// front, the right side's after it, and the two are put together at the front.
+// kept as its offsets there. Polynomials stand at the start of a borrowed list, which serves as a stack: the left side's is made at its
+// start, the right side's after it, and the two are put together at the start.
 ghost use mathlib.Core.Path.{_≡_};
 ghost use mathlib.Core.Bool.{true, cond, _&&_};
 ghost use Prim.Native.Nat.{_+_, _≤_};
@@ -172,7 +172,7 @@ fn limited(count: usize, atoms: usize) -> Size
     Size::TooMany
 }
 
-// The sum of the sides, at the front.
+// The sum of the sides, at the start.
 fn add_sides(terms: &mut [u64], n: usize, k: usize, scratch: &mut [u64], atoms: usize) -> Size
     requires { ⌜ Sides (now terms) n k (now scratch) ⌝ }
     ensures { λ r. ⌜ Made (few (sumOf (take n (now (terms .entry))) (take k (drop n (now (terms .entry)))))) (sumOf (take n (now (terms .entry))) (take k (drop n (now (terms .entry))))) atoms (now (terms .exit)) r ⌝ }
@@ -183,7 +183,7 @@ fn add_sides(terms: &mut [u64], n: usize, k: usize, scratch: &mut [u64], atoms: 
     limited(count, atoms)
 }
 
-// The product of the sides, at the front of the scratch.
+// The product of the sides, at the start of the scratch.
 fn product_sides(terms: &[u64], n: usize, k: usize, scratch: &mut [u64], atoms: usize) -> Size
     requires { ⌜ Sides (now terms) n k (now scratch) ⌝ }
     ensures { λ r. ⌜ Made (fewPairs (take n (now (terms .entry))) (take k (drop n (now (terms .entry)))) && few (productOf (take n (now (terms .entry))) (take k (drop n (now (terms .entry)))))) (productOf (take n (now (terms .entry))) (take k (drop n (now (terms .entry))))) atoms (now (scratch .exit)) r ⌝ }
@@ -196,7 +196,7 @@ fn product_sides(terms: &[u64], n: usize, k: usize, scratch: &mut [u64], atoms: 
     limited(count, atoms)
 }
 
-// The product of the sides, at the front.
+// The product of the sides, at the start.
 fn multiply_sides(terms: &mut [u64], n: usize, k: usize, scratch: &mut [u64], atoms: usize) -> Size
     requires { ⌜ Sides (now terms) n k (now scratch) ⌝ }
     ensures { λ r. ⌜ Made (fewPairs (take n (now (terms .entry))) (take k (drop n (now (terms .entry)))) && few (productOf (take n (now (terms .entry))) (take k (drop n (now (terms .entry)))))) (productOf (take n (now (terms .entry))) (take k (drop n (now (terms .entry))))) atoms (now (terms .exit)) r ⌝ }
@@ -210,7 +210,7 @@ fn multiply_sides(terms: &mut [u64], n: usize, k: usize, scratch: &mut [u64], at
     }
 }
 
-// The or of the sides, at the front: their sum, with their product added to it.
+// The or of the sides, at the start: their sum, with their product added to it.
 fn join_sides(terms: &mut [u64], n: usize, k: usize, scratch: &mut [u64], atoms: usize) -> Size
     requires { ⌜ Sides (now terms) n k (now scratch) ⌝ }
     ensures { λ r. ⌜ Made (pairFits Pair.Or (take n (now (terms .entry))) (take k (drop n (now (terms .entry))))) (joinedOf (take n (now (terms .entry))) (take k (drop n (now (terms .entry))))) atoms (now (terms .exit)) r ⌝ }
@@ -282,7 +282,7 @@ pub fn sides(
     }
 }
 
-// The polynomial of a part that stands at `at` in the whole, given the atoms that have numbers already: its terms at the front of
+// The polynomial of a part that stands at `at` in the whole, given the atoms that have numbers already: its terms at the start of
 // `terms`, and its new atoms after the others in the table.
 pub fn parity(
     whole: &[u64],

@@ -1,4 +1,4 @@
--- Loops that add to a running sum in a lent list: what is still due, added to the sum so far, is the whole sum.
+-- Loops that add to a running sum in a borrowed list: what is still due, added to the sum so far, is the whole sum.
 use Prim.Native.Nat.{ℕ, _+_, _-_, _*_, _≤_, _<_}
 use mathlib.Core.Path.{_≡_, refl, sym, ap, _∙_}
 use mathlib.Core.Bool.{Bool, true, false, cond}
@@ -32,7 +32,7 @@ length-times l x [] = omega arith
 length-times l x (y ∷ b) =
     omega (arith, length-times (toggle (bitOr x y) l) x b, length-toggle (bitOr x y) l)
 
--- The sum so far stands at the front of `new`, with at most `used` terms; `left`, which is that sum with all that is still
+-- The sum so far stands at the start of `new`, with at most `used` terms; `left`, which is that sum with all that is still
 -- due, is the whole; from `room` on the list is as it was.
 pub record Running (left whole old new : List ℕ) (n used room : ℕ) : Type 0 where
   pub due : left ≡ whole
@@ -46,7 +46,7 @@ drop-further old new r room upto same =
     let all : r + (room - r) ≡ room = omega arith in
     rw all at (sym (drop-drop (room - r) r new) ∙ ap (λ (l : List ℕ). drop (room - r) l) same ∙ drop-drop (room - r) r old)
 
--- What toggling gives, as a list at the front.
+-- What toggling gives, as a list at the start.
 drop-over : (t l : List ℕ) (room : ℕ) → length t ≤ room → drop room (over t l) ≡ drop room l
 drop-over t l room upto =
     let all : length t + (room - length t) ≡ room = omega arith in
@@ -146,7 +146,7 @@ products-none l n a b up = record {
   run = record { due = refl; ordered = up; few = omega arith; long = refl; beyond = refl };
 }
 
--- the pairs of one more term of a have room
+-- the pairs of one more term of a fit
 pub row-room : (i k m : ℕ) → i < k → i * m + m ≤ k * m
 row-room i k m less = omega (arith, suc-mul i m, mul-le-mul-right m less)
 
@@ -184,7 +184,7 @@ products-done {old} {new} {a} {b} {n} {count} {i} so-far end room =
     let all : i ≡ length a = omega (arith, so-far .within) in
     running-done (rw (all, drop-length a) at (so-far .run)) (omega arith) room
 
--- For callers: what stands at the front fits the list, and ascends where the definition does.
+-- For callers: what stands at the start fits the list, and ascends where the definition does.
 pub written-fits : {t old new : List ℕ} {n room : ℕ} → Written t n room old new → n ≤ length new
 written-fits {new = new} {n = n} w = omega (arith, w .count, ap length (w .terms), length-take n new)
 

@@ -1,4 +1,4 @@
--- A term put in or taken out of a lent list by moving what stands above it: the front of the list is then `toggle`, and
+-- A term put in or taken out of a borrowed list by moving what stands above it: the start of the list is then `toggle`, and
 -- what stands beyond is as it was.
 use Prim.Native.Nat.{ℕ, zero, suc, _+_, _-_, _≤_, _<_}
 use mathlib.Core.Path.{_≡_, sym, ap, _∙_}
@@ -22,21 +22,21 @@ place-rest p = record {
   above = λ i h h′. p .above (suc i) (omega arith) (omega arith);
 }
 
--- The search among the first n entries finds the place of a term.
+-- The search among the first n entries finds the index of a term.
 pub found : (l : List ℕ) (n t at : ℕ) → Ascending (take n l) → at ≡ countBelow (take n l) t → Bracket (take n l) t at at
 found l n t at up is = rw is (count-splits (take n l) up t)
 
 pub found-within : (l : List ℕ) (n t at : ℕ) → n ≤ length l → Ascending (take n l) → at ≡ countBelow (take n l) t → at ≤ n
 found-within l n t at room up is = omega (arith, found l n t at up is .within, length-take-le n l room)
 
--- a list with t put in at a place, and with the term at a place taken out
+-- a list with t put in at an index, and with the term at an index taken out
 abbrev with-term : ℕ → ℕ → List ℕ → List ℕ
 with-term t at f = take at f ++ (t ∷ drop at f)
 
 abbrev without : ℕ → List ℕ → List ℕ
 without at f = take at f ++ drop (suc at) f
 
--- `toggle` at the place of its term: where the term is not there yet, and where it is
+-- `toggle` at the index of its term: where the term is not there yet, and where it is
 toggle-new : (t : ℕ) (l : List ℕ) (at : ℕ) → Bracket l t at at → (at < length l → getD l at 0 ≡ t → ⊥)
     → toggle t l ≡ with-term t at l
 unfolding toggle
@@ -56,7 +56,7 @@ toggle-old t (x ∷ l) (suc at) p within here =
     rw (lt-ltb x t (p .below 0 (omega arith)))
     (ap (λ (r : List ℕ). x ∷ r) (toggle-old t l at (place-rest p) (omega arith) here))
 
--- an entry of a list that is cut at `at` and goes on with r
+-- an entry of a list that is split at `at` and goes on with r
 entry-before : (f r : List ℕ) (at i : ℕ) → at ≤ length f → i < at → getD (take at f ++ r) i 0 ≡ getD f i 0
 entry-before f r at i room h =
     List·getD-append (take at f) r 0 i (simp length-take (omega arith)) ∙ getD-take at f i 0 h
@@ -65,7 +65,7 @@ entry-from : (f r : List ℕ) (at j : ℕ) → at ≤ length f → getD (take at
 entry-from f r at j room =
     ap (λ (k : ℕ). getD (take at f ++ r) (k + j) 0) (sym (length-take-le at f room)) ∙ getD-append-add (take at f) r j 0
 
--- A list with t over its front is known by its entries.
+-- A list with t over its start is known by its entries.
 over-is : (t old new : List ℕ) → length new ≡ length old → length t ≤ length old
     → ((i : ℕ) → i < length t → getD new i 0 ≡ getD t i 0)
     → ((i : ℕ) → length t ≤ i → getD new i 0 ≡ getD old i 0)

@@ -60,14 +60,14 @@ ascending-more {l} up x last = record { rises = λ i h. rise i (simp length-appe
     rise : (i : ℕ) → i + 1 < length l + 1 → getD (l ++ (x ∷ [])) i 0 < getD (l ++ (x ∷ [])) (i + 1) 0
     rise i h = rw (old i (omega arith)) (pick i (eq-or-lt-of-le (omega arith)))
 
--- the front of an ascending list
+-- the start of an ascending list
 pub ascending-take : {l : List ℕ} → Ascending l → (n : ℕ) → Ascending (take n l)
 ascending-take {l} up n = record { rises = λ i h. rise i (simp length-take at h) }
   where
     rise : (i : ℕ) → i + 1 < min n (length l) → getD (take n l) i 0 < getD (take n l) (i + 1) 0
     rise i h = rw (getD-take n l i 0 (omega arith), getD-take n l (i + 1) 0 (omega arith)) (up .rises i (omega arith))
 
--- the front, one element longer
+-- the start, one element longer
 pub ascending-longer : (l : List ℕ) (n : ℕ) → Ascending (take n l) → n < length l
     → (1 ≤ n → getD l (n - 1) 0 < getD l n 0) → Ascending (take (n + 1) l)
 ascending-longer l n up within last =
@@ -94,7 +94,7 @@ bracket-whole l x = record {
   above = λ i h h′. absurd (omega arith);
 }
 
--- an element below x moves lo to the place after it, and one at or above x moves hi to it
+-- an element below x moves lo to the index after it, and one at or above x moves hi to it
 pub bracket-up : {l : List ℕ} {x lo hi n : ℕ} → Ascending l → Bracket l x lo hi → (m : ℕ)
     → (m < hi) × (n ≡ m + 1) × (getD l m 0 < x) → Bracket l x n hi
 bracket-up {l} {x} up b m known = record {
@@ -135,7 +135,7 @@ count-is (a ∷ l) x (suc n) b =
       above = λ i h h′. b .above (suc i) (omega arith) (omega arith);
     })))
 
--- a split of a list, with one more element in front
+-- a split of a list, with one more element before it
 front : (a : ℕ) (l : List ℕ) (x n : ℕ) → a < x → ((i : ℕ) → i < n → getD l i 0 < x)
     → (i : ℕ) → i < suc n → getD (a ∷ l) i 0 < x
 front a l x n less below zero h = less
@@ -205,7 +205,7 @@ place-past {l} {x} {n} up count off = place-none l x (λ i h e. go i h e (decLt 
         let upto : getD l n 0 ≤ getD l i 0 = ascending-upto up n i (omega arith) h in
         off (omega arith) (omega arith)
 
--- What a place tells: the element there is x, and where x stands nowhere no element is.
+-- What an index tells: the element there is x, and where x stands nowhere no element is.
 abbrev Told : List ℕ → ℕ → Found → Type 0
 Told l x (At i) = (i < length l) × (getD l i 0 ≡ x)
 Told l x Nothing = (i : ℕ) → i < length l → getD l i 0 ≡ x → ⊥

@@ -37,7 +37,7 @@ pub nodes-on : (s : List ℕ) (p : Place) (k : ℕ) {a : ℕ} → nodesFrom s p 
 unfolding nodesFrom
 nodes-on s p k e = back (λ j. nodesFrom s p j .next) (nodes-keep s p) k 0 e (omega arith)
 
--- what an accepted sheet is: each section starts at the place that reading gives, and its records were read whole
+-- what an accepted sheet is: each section starts at the offset that reading gives, and its records were read whole
 pub record Accepted (s : List ℕ) (sheet : Sheet) : Type 0 where
   pub is : sheetAt s .sheet ≡ sheet
   pub instructions : instructionsFrom s (At (sheet .instructions .at)) (sheet .instructions .count) ≡ sheetAt s .instructions
@@ -131,7 +131,7 @@ module _ (s : List ℕ) (p : Place) where
   unfolding nth-block
   blocks-nth = nth (λ j. blocksFrom s p j .list) nth-block no-blocks more-blocks
 
--- the block of a number stands at its place
+-- the block of a number stands at its offset
 pub block-at : (s : List ℕ) (b k j : ℕ) (none : Block) {a : ℕ} → blocksFrom s (At b) k .next ≡ At a → j < k
     → getD (blocksFrom s (At b) k .list) j none ≡ blockOf (blockAt s (At (b + 16 * j)))
 block-at s b k j none e lt =

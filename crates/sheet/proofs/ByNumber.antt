@@ -102,7 +102,7 @@ module _ (s : List ℕ) (sheet : Sheet) (read : readingOf s ≡ reading.Accepted
     unfolding from
     nth-node-is d = rw (r-is, here, ← accepted s sheet read .nodes) (sym (nodes-nth s from (sheet .nodes .count) number d counted))
 
-  -- the index of the sheet in lists that have room for it
+  -- the index of the sheet in lists that can hold it
   front : {A : Type 0} (n : ℕ) {list : List A} (before entries : List A) → list ≡ over entries before → length entries ≡ n → n ≤ length before → InFront n list entries
   front n before entries is long fits =
       record { room = rw (is, over-length entries before) fits; are = rw (is, ← long) (over-front entries before (rw long fits)) }

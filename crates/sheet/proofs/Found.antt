@@ -58,7 +58,7 @@ module _ (s : List ℕ) (number : ℕ) {p : Place} (found : p ≡ foundOn (readi
           go true b-is e = record { sheet = sheet; read = read; below = ltb-true _ _ b-is }
           go false b-is e = let z : _≡_ {A = ℕ} 0 1 = cc in absurd (omega arith)
 
-  -- it stands whole at that place
+  -- it stands whole at that offset
   pub found-whole : ReadNode s (nodeAt s (At at))
   found-whole =
       let there = there-is in

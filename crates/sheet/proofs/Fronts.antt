@@ -1,4 +1,4 @@
--- Entries at the front of a lent list, and the index that the loops keep.
+-- Entries at the start of a borrowed list, and the index that the loops keep.
 use Prim.Native.Nat.{ℕ, zero, suc, _+_, _≤_, _<_}
 use mathlib.Core.Path.{_≡_, refl, sym, ap, _∙_}
 use mathlib.Core.Bool.{Bool}
@@ -42,7 +42,7 @@ module _ {A : Type 0} where
   over-more (e ∷ entries) [] x = refl
   over-more (e ∷ entries) (b ∷ before) x = ap (λ (l : List A). e ∷ l) (over-more entries before x)
 
-  -- entries that the list has room for stand at its front
+  -- entries that the list can hold stand at its start
   pub over-front : (entries before : List A) → length entries ≤ length before → take (length entries) (over entries before) ≡ entries
   unfolding over
   over-front [] before fits = refl
@@ -92,7 +92,7 @@ module _ (s : List ℕ) (p : Place) where
   unfolding nth-place
   places-nth k j lt = nth (λ j. instructionsFrom s p j .places) nth-place no-places more-places k j 0 lt
 
--- an entry more, at the place of its number
+-- an entry more, at the index of its number
 entry : {A : Type 0} {list : List A} (before entries : List A) (x : A) (k : ℕ) → list ≡ over entries before → length entries ≡ k
     → set list k x ≡ over (entries ++ (x ∷ [])) before
 entry before entries x k is long = rw (is, ← long) (over-more entries before x)

@@ -1,5 +1,5 @@
--- Every refusal of reading has a number from 1 to 9, and a place that is not beyond the sheet's end. Assumes nothing.
--- Each stage keeps that the place it comes to is within the sheet, and a refusal stands at a place that an earlier stage came to.
+-- Every refusal of reading has a number from 1 to 9, and an offset that is not beyond the sheet's end. Assumes nothing.
+-- Each stage keeps that the offset it comes to is within the sheet, and a refusal stands at an offset that an earlier stage came to.
 use Prim.Native.Nat.{ℕ, zero, suc, _+_, _≤_}
 use mathlib.Core.Path.{_≡_, refl}
 use mathlib.Core.List.{List}
@@ -37,7 +37,7 @@ abbrev after : Field → Place
 after f = f .next
 
 module _ (s : List ℕ) where
-  -- reading came to a place of the sheet, or was refused at one
+  -- reading came to an offset of the sheet, or was refused at one
   record Placed (p : Place) : Type 0 where
     within : Within (length s) p
 
@@ -50,7 +50,7 @@ module _ (s : List ℕ) where
   judged false k at (At next) n le h = record { within = record { number = n; place = le } }
   judged ok k at (Refused k′ at′) n le h = h
 
-  -- one of two, each with a place
+  -- one of two, each with an offset
   either : {A : Type 0} (next : A → Place) (b : Bool) (x y : A) → Placed (next x) → Placed (next y) → Placed (next (cond b x y))
   either next true x y h k = h
   either next false x y h k = k

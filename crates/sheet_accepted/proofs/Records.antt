@@ -1,4 +1,4 @@
--- A record that was read whole, from its parts at plain places.
+-- A record that was read whole, from its parts at plain offsets.
 use Prim.Native.Nat.{ℕ, zero, suc, _+_, _*_, _≤_, _<_}
 use mathlib.Core.Path.{_≡_, refl, ap, sym, _∙_}
 use mathlib.Core.List.{List}

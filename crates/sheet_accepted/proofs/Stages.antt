@@ -1,4 +1,4 @@
--- The stages of a record that was read whole, at plain places.
+-- The stages of a record that was read whole, at plain offsets.
 use Prim.Native.Nat.{ℕ, zero, suc, _+_, _*_, _≤_, _<_}
 use mathlib.Core.Path.{_≡_, refl, ap, sym, _∙_}
 use mathlib.Core.List.{List}

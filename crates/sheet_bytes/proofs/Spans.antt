@@ -1,4 +1,4 @@
--- Bytes that stand in a sheet from a place to a place.
+-- Bytes that stand in a sheet from an offset to an offset.
 use Prim.Native.Nat.{ℕ, _+_, zero, suc, _/_, _<_, _≤_}
 use mathlib.Core.Path.{_≡_, refl, ap}
 use mathlib.Core.List.{List, [], _∷_, _++_, append-nil}

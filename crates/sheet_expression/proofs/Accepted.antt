@@ -142,7 +142,7 @@ one-tree variables s p e =
       short = rw (taken-length variables (n .value) s (n .next) (n .value)) (omega (arith, counted .atMost));
     }
 
--- so are the words that its reader left at the front of a list
+-- so are the words that its reader left at the start of a list
 pub took-tree : (variables : ℕ) (s : List ℕ) (p : Place) {records : ℕ} {next : Place} {before after : List ℕ}
     → Took records next before after (expressionAt variables s p) → WentOn (expressionAt variables s p .next)
     → Wf (take (2 * records) after) × (length (take (2 * records) after) ≤ 256)

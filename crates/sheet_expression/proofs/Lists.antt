@@ -32,14 +32,14 @@ taken-depth variables total s p (suc k) =
     let t = takenFrom variables total s p k in
     omega (arith, depth-one variables (t .depth) (total - suc k) s (t .next), taken-depth variables total s p k)
 
--- a second word stored behind a front and a first one
+-- a second word stored behind a start and a first one
 second : (front rest : List ℕ) (n a b y : ℕ) → length front ≡ n
     → set (front ++ (a ∷ y ∷ rest)) (n + 1) b ≡ (front ++ (a ∷ b ∷ [])) ++ rest
 second front rest n a b y e =
     rw (← append-snoc front a (y ∷ rest), set-at (front ++ (a ∷ [])) y rest b (n + 1) (rw length-append (omega arith)))
     (simp append-assoc)
 
--- two words stored behind a front
+-- two words stored behind a start
 pub stored-two : (front rest : List ℕ) (n a b : ℕ) → length front ≡ n → n + 2 ≤ length rest
     → set (set (front ++ drop n rest) n a) (n + 1) b ≡ (front ++ (a ∷ b ∷ [])) ++ drop (n + 2) rest
 stored-two front rest n a b e fits =
@@ -48,7 +48,7 @@ stored-two front rest n a b e fits =
     drop-cons rest n 0 (omega arith) ∙ rw two (ap (λ (l : List ℕ). getD rest n 0 ∷ l) (drop-cons rest (suc n) 0 (omega arith))) in
     rw (d, set-at front _ _ a n e) (second front (drop (n + 2) rest) n a b (getD rest (suc n) 0) e)
 
--- what a loop over the records has left: the depth, the place, and the lent list with the words at its front
+-- what a loop over the records has left: the depth, the offset, and the borrowed list with the words at its start
 pub record Stored (depth : ℕ) (next : Place) (before after : List ℕ) (t : Taken) : Type 0 where
   pub trees : depth ≡ t .depth
   pub place : next ≡ t .next
@@ -92,7 +92,7 @@ module _ (variables total : ℕ) (s : List ℕ) (p : Place) where
         rw (taken-next variables total s p k)
         (stored-one variables (total - k - 1) s (takenFrom variables total s p k) (2 * k) (taken-length variables total s p k) stored r-is fits)
 
-    -- the lent list keeps its length
+    -- the borrowed list keeps its length
     pub stored-length : 2 * k ≤ length before → length after ≡ length before
     stored-length fits =
         let long : length (takenFrom variables total s p k .words) ≡ 2 * k = taken-length variables total s p k in
@@ -116,7 +116,7 @@ module _ (variables total : ℕ) (s : List ℕ) (p : Place) where
       let long : length (takenFrom variables total s p total .words) ≡ 2 * total = taken-length variables total s p total in
       record { size = long; few = few; place = stored .place; list = λ on. rw long at (stored .list) }
 
--- the words stand at the front
+-- the words stand at the start
 pub took-front : {records : ℕ} {next : Place} {before after : List ℕ} {t : Taken} → Took records next before after t → WentOn (t .next)
     → take (2 * records) after ≡ t .words
 took-front {records} {before = before} {t = t} took on = rw (took .list on) (take-at (t .words) (drop (2 * records) before) (2 * records) (took .size))

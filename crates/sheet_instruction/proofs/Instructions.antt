@@ -88,7 +88,7 @@ registers-rest s p (suc k) i le =
     (set-comm (registersFrom s p k .list) k i r nothing (λ e. omega arith)
     ∙ ap (λ (l : List Register). set l k r) (registers-rest s p k i (omega arith)))
 
--- from a refusal on the list and the place stay
+-- from a refusal on the list and the offset stay
 abbrev Stays : List ℕ → Place → ℕ → ℕ → ℕ → ℕ → Type 0
 Stays s p j k at n = _≡_ {A = Registers} (record { list = registersFrom s p j .list; count = n; next = Refused k at }) (registersFrom s p n)
 

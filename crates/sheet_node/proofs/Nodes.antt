@@ -98,7 +98,7 @@ unfolding nodeAt
 node-is s p v-is typesEnd-is start-is types-is k-is condition-is conditionEnd-is a-is next-is =
     rw (next-is, a-is, conditionEnd-is, condition-is, k-is, types-is, start-is, typesEnd-is, v-is)
 
--- its front
+-- its start
 pub front-is : (s : List ℕ) (p : Place) {v k : Field} {end : Place} → v ≡ countAt 0 32 s p → end ≡ typesFrom s (v .next) (v .value)
     → k ≡ countAt 0 64 s end
     → _≡_ {A = NodeFront} (record { variables = v .value; types = v .next; statements = k .value; body = k .next }) (frontOf (nodeAt s p))

@@ -71,7 +71,7 @@ module _ (types s : List ℕ) (p : Place) {map : Field} (map-is : map ≡ mapAt 
       rw (← map-is, ne-eqb (map .value) 3 other)
       record { assigned = refl; variable = refl; size = refl; few = omega arith; place = refl; list = λ on. refl }
 
--- a statement that was read whole: its words stand at the front of the list
+-- a statement that was read whole: its words stand at the start of the list
 pub took-words : {f : StatementReading} {before after : List ℕ} {r : StatementRead} → TookStatement f before after r → WentOn (r .next)
     → take (2 * f .records) after ≡ r .words
 took-words {f} {before = before} {r = r} took on = rw (took .list on) (take-at (r .words) (drop (2 * f .records) before) (2 * f .records) (took .size))

@@ -1,4 +1,4 @@
--- A list is copied into another, from a place on: the first i elements are.
+-- A list is copied into another, from an offset on: the first i elements are.
 use Prim.Native.Nat.{ℕ, _+_, _≤_, _<_}
 use mathlib.Core.Path.{_≡_, refl, sym, ap, _∙_}
 use mathlib.Core.List.{List}

@@ -1,4 +1,4 @@
--- A node's statements are passed one after the other: what is still due of them, from the table that stands in the lent words, is what the node's
+-- A node's statements are passed one after the other: what is still due of them, from the table that stands in the borrowed words, is what the node's
 -- statements make of any condition. A statement that was read whole is one of the list, and its words are one tree.
 use Prim.Native.Nat.{ℕ, suc, _+_, _*_, _-_, _≤_, _<_}
 use mathlib.Core.Path.{_≡_, refl, sym, ap, subst, _∙_}
@@ -101,7 +101,7 @@ module _ {types s : List ℕ} {p : Place} {n : ℕ} {table lengths words out : L
   pub passing-lent : i < n → Lent types table lengths words out
   passing-lent below = record { few = g .held (omega arith); slots = g .slots; wordsRoom = g .wordsRoom; outRoom = g .outRoom }
 
-  -- what is due starts with the statement at this place
+  -- what is due starts with the statement at this offset
   due-here : i < n → (c : Expr) → withAssignments (statementsFrom types s p n .list) c
       ≡ substituted (tableOf table lengths) (statementOf (statementAt types s next) ∷ drop (suc i) (statementsFrom types s p n .list)) c
   due-here below c =
@@ -148,7 +148,7 @@ module _ {r : Step} {table lengths : List ℕ} {read : StatementsRead} (g : Pass
   pub passed-long : r .fits ≡ false → (c : Expr) → withAssignments (read .list) c ≡ tooLong
   passed-long much c = g .same c ∙ ap (λ (b : Bool). cond b (substituted (tableOf table lengths) [] c) tooLong) much
 
-  -- the condition is read at the place after the statements
+  -- the condition is read at the offset after the statements
   pub passed-here : r .fits ≡ true → (n : ℕ) (s : List ℕ) → WentOn (expressionAt n s (read .next) .next) → WentOn (expressionAt n s (r .next) .next)
   passed-here short n s on = rw (g .place short) on
 

@@ -147,7 +147,7 @@ variable-of (cast t a) h = absurd (omega (arith, kind-of 6 t (lit< tt)))
 variable-of (binary o a b) h = absurd (omega (arith, kind-of 7 o (lit< tt)))
 variable-of (ternary c a b) h = absurd (omega arith)
 
--- n words of a list from a place on, as the code takes them
+-- n words of a list from an offset on, as the code takes them
 abbrev pub part : List ℕ → ℕ → ℕ → List ℕ
 part l a n = take (a + n - a) (drop a l)
 
@@ -157,7 +157,7 @@ part-is l a n = let z : a + n - a ≡ n = omega arith in rw z
 pub part-length : (l : List ℕ) (a n : ℕ) → a + n ≤ length l → length (part l a n) ≡ n
 part-length l a n h = rw (part-is l a n) (length-take-le n (drop a l) (rw (length-drop a l) (omega arith)))
 
--- the words between two places, where the front is known up to the second
+-- the words between two offsets, where the start is known up to the second
 part-behind : (l body w : List ℕ) (a n : ℕ) → take (a + n) l ≡ body ++ w → length body ≡ a → take n (drop a l) ≡ w
 part-behind l body w a n h size =
     sym (drop-at (take a l) (take n (drop a l)) a front) ∙ ap (drop a) (sym (take-add a n l) ∙ h) ∙ drop-at body w a size
@@ -237,7 +237,7 @@ none-held table lengths d none n e is there =
     let z : _≡_ {A = ℕ} 0 1 = cc in
     omega arith
 
--- where words do, they are those of the variable's place
+-- where words do, they are those of the variable's slot
 record Stands (lengths : List ℕ) (left tag n : ℕ) : Type 0 where
   outside : left ≡ 0
   kind : kindOf tag ≡ kindVariable
@@ -352,14 +352,14 @@ module _ {table lengths rs out : List ℕ} {from at left : ℕ} (w : Writing tab
           held-top table lengths rs from left d st (w .within) (w .words ∙ ap flats e) (subst (λ (t : List Expr). left ≤ length t) e (w .enough)) slots n a
           is some number
 
--- A record's words are put in front of what is written.
+-- A record's words are put before what is written.
 module _ {table lengths rs out : List ℕ} {from at left left′ : ℕ} {words-here : List ℕ} (w : Writing table lengths rs out from at left)
     (c : Cut (tableOf table lengths) rs (w .trees) from left words-here left′) where
   whole-words : (flats (mixed (tableOf table lengths) left′ (c .next)) ++ words-here) ++ drop at out
       ≡ flat (substitute (tableOf table lengths) (treeOf rs))
   whole-words = ap (λ (l : List ℕ). l ++ drop at out) (sym (c .same)) ∙ w .due
 
-  -- there is no room for them
+  -- there is no space for them
   pub writing-full : at < length words-here → long (substitute (tableOf table lengths) (treeOf rs)) ≡ true
   writing-full less =
       let all = simp (length-append, length-drop) at (ap length whole-words) in
@@ -406,7 +406,7 @@ writing-end {table} {lengths} {rs} {out} {from} {at} {left} w none = (all, not-l
         (empty (w .trees) (omega (arith, ap length (w .words), length-take from rs)) (w .enough)))
         ∙ w .due
 
--- The place that a held value is copied from.
+-- The offset that a held value is copied from.
 pub held-place : {table lengths : List ℕ} → Slots table lengths → (left tag n a : ℕ) → n ≡ heldWords lengths left tag → (n ≡ 0 → ⊥) → a ≡ argumentOf tag
     → (a < 32) × (256 * a + n ≤ length table)
 held-place {table} {lengths} slots left tag n a is some number =

@@ -1,4 +1,4 @@
--- The held table in lent words: what an entry reads, and what ends, clears or stores an entry.
+-- The held table in borrowed words: what an entry reads, and what ends, clears or stores an entry.
 use Prim.Native.Nat.{ℕ, _+_, _*_, _-_, _≤_, _<_}
 use mathlib.Core.Path.{_≡_, refl, sym, ap, subst, fun-ext, _∙_}
 use mathlib.Core.Logic.{_⊎_, inl, inr}
@@ -195,7 +195,7 @@ entry-kept v table old new k e = by (eqb k v || entryReads v (tableOf table old 
     by true e = free-slot table new k e
     by false e = same-entry table old new k e
 
--- beyond the places nothing is held
+-- beyond the slots nothing is held
 beyond-kept : (v : ℕ) (table old new : List ℕ) (k : ℕ) → getD new k 0 ≡ getD old k 0 → getD old k 0 ≡ 0
     → tableOf table new k ≡ kept v (tableOf table old) k
 beyond-kept v table old new k e none = free-slot table new k (e ∙ none) ∙ sym (kept-free v (tableOf table old) k (free-slot table old k none))
@@ -257,7 +257,7 @@ cleared table n room places = record {
   holds = fun-ext (λ v. free-slot table (replicate n 0) v (all-none n v));
 }
 
--- ---- a value is stored at its variable's place
+-- ---- a value is stored in its variable's slot
 
 own-place : (d s : List ℕ) (at : ℕ) → at ≤ length d → take (length s) (drop at (paste d at s (length s))) ≡ s
 own-place d s at room =
@@ -266,7 +266,7 @@ own-place d s at room =
     ∙ ap (λ (l : List ℕ). take (length s) (l ++ drop (at + length s) d)) (take-length s)
     ∙ take-at s (drop (at + length s) d) (length s) refl
 
--- what stands before the place, and behind what is stored, is as it was
+-- what stands before the slot, and behind what is stored, is as it was
 front-same : (x y z : List ℕ) (a n : ℕ) → a + n ≤ length x → take n (drop a (x ++ y)) ≡ take n (drop a (x ++ z))
 front-same x y z a n h =
     ap (take n) (drop-append-le a x y (omega arith)) ∙ take-append-le n (drop a x) y far

@@ -5,8 +5,8 @@ pub mod Kept
 -- runs of a node, by its substituted condition, which is admitted where the node is
 pub mod Runs
 pub mod Admitted
--- the pass that substitutes, and what it leaves in the lent words
+-- the pass that substitutes, and what it leaves in the borrowed words
 pub mod Backward
--- the held table in lent words
+-- the held table in borrowed words
 pub mod Entries
 pub mod Taken

@@ -1,4 +1,4 @@
--- The lines in the lent list: each is read back from its 18 bytes, and what is beyond them is as it was.
+-- The lines in the borrowed list: each is read back from its 18 bytes, and what is beyond them is as it was.
 use Prim.Native.Nat.{ℕ, zero, suc, _+_, _*_, _^_, _<_, _≤_}
 use mathlib.Core.Path.{_≡_, refl, ap, _∙_}
 use mathlib.Core.Bool.{Bool, true, false, cond}

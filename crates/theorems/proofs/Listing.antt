@@ -1,4 +1,4 @@
--- The listing: its lines are those due, in their places; and when it is refused.
+-- The listing: its lines are those due, in their order; and when it is refused.
 use Prim.Native.Nat.{ℕ, zero, suc, _*_, _<_, _≤_}
 use mathlib.Core.Path.{_≡_, refl, sym, ap, _∙_}
 use mathlib.Core.Bool.{Bool, true, false, cond}
@@ -192,7 +192,7 @@ none-first s sheet other k number place all-are some-are below e =
     let same : other .nodes .count ≡ sheet .nodes .count = ap (λ (x : Sheet). x .nodes .count) (same-sheet s (some-are .read) (all-are .read)) in
     all-are .nodes k (omega (arith, below, same)) number place e
 
--- the same number and the same place
+-- the same number and the same offset
 abbrev Same : ℕ → ℕ → ℕ → ℕ → Type 0
 Same number place number′ place′ = (number ≡ number′) × (place ≡ place′)
 

@@ -94,7 +94,7 @@ pub kept-list : (s : List Byte) (list : List ℕ) (number place : ℕ) → listi
     → listingOf (numbers s) list .list ≡ list
 kept-list = list-kept
 
--- What the listing program writes for at most 65,536 bytes is the text of the listing's answer and lines, on any list with room for a line of each
+-- What the listing program writes for at most 65,536 bytes is the text of the listing's answer and lines, on any list that can hold a line of each
 -- instruction that a sheet can have.
 pub program-text : (s list : List ℕ) → length s ≤ 65536 → 36864 ≤ length list
     → printed s ≡ textOf (listingOf s list .answer) (listingOf s list .list)

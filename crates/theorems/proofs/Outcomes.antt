@@ -1,4 +1,4 @@
--- Evaluation, by the answers that its contract speaks of: whatever the bytes, the number and the lent values, an answer is what every run of that
+-- Evaluation, by the answers that its contract speaks of: whatever the bytes, the number and the borrowed values, an answer is what every run of that
 -- node does that starts from those values.
 use Prim.Native.Nat.{ℕ, _≤_, _<_}
 use mathlib.Core.Path.{_≡_, refl, sym, ap, _∙_}
@@ -46,7 +46,7 @@ says evaluation.Holds t h = h
 says evaluation.Fails t h = h
 says (evaluation.Refused k at) t h = h
 
--- The theorem: for all bytes, every number and all lent values, the answer is what every run of that node does that starts from those values.
+-- The theorem: for all bytes, every number and all borrowed values, the answer is what every run of that node does that starts from those values.
 pub answers-run : (s : List ℕ) (number : ℕ) (values : List ℕ) (c : Choices) → StartsFrom (nodeNumbered s number .types) values c
     → SaysOf (evaluationAnswer s number values) (nodeRun s number c)
 unfolding evaluationAnswer evaluatedNode
@@ -84,7 +84,7 @@ answer-outcome s number values c starts from = go (readingOf s) refl from
         (from-run (evaluatedNode s number values) (rw t at h)))))
         (λ t. let thirteen : 13 ≡ 14 = rw t at h in absurd (omega (arith, thirteen)))
 
--- a choice that starts from the lent values
+-- a choice that starts from the borrowed values
 abbrev pub lent : List ℕ → Choices
 lent values =
     record { start = λ v. getD values v 0; memory = λ i path t a. 0; contents = λ t a. 0; effects = λ i path. 0; renewed = λ i v. 0 }
@@ -92,7 +92,7 @@ lent values =
 lent-starts : (types values : List ℕ) → StartsFrom types values (lent values)
 lent-starts types values v below = refl
 
--- The theorem on 14: where an answer comes from the run, it is 14 exactly when no run that starts from the lent values has an outcome.
+-- The theorem on 14: where an answer comes from the run, it is 14 exactly when no run that starts from the borrowed values has an outcome.
 pub fourteen : (s : List ℕ) (number : ℕ) (values : List ℕ) → AnswerFromRun (evaluationAnswer s number values)
     → (evaluationAnswer s number values ≡ refused 14 (nodePlace s number))
     ↔ ((c : Choices) → StartsFrom (nodeNumbered s number .types) values c → nodeRun s number c ≡ truth.NoOutcome)

@@ -73,7 +73,7 @@ refusal-is : (number place : ℕ) (list : List ℕ) → text.refusalText number 
 unfolding text.refusalText ascii
 refusal-is number place list = rw (ten (placesOf number) number, ten (placesOf place) place)
 
--- At most 65,536 bytes: the text of the listing's answer, on any list that has room for a line of each instruction.
+-- At most 65,536 bytes: the text of the listing's answer, on any list that can hold a line of each instruction.
 pub text-is : (s list : List ℕ) → length s ≤ 65536 → 36864 ≤ length list
     → printed s ≡ textOf (listingOf s list .answer) (listingOf s list .list)
 text-is s list short room = within s short ∙ go (listingOf s list .answer) refl

@@ -16,7 +16,7 @@ unfoldable pub numeral : (base k n : ℕ) → List ℕ
 numeral base zero n = []
 numeral base (suc k) n = numeral base k (n / base) ++ (getD (ascii "0123456789abcdef") (n % base) 0 ∷ [])
 
--- n in base ten, with no zeros in front
+-- n in base ten, without leading zeros
 abbrev pub inTen : ℕ → List ℕ
 inTen n = numeral 10 (placesOf n) n
 
@@ -36,7 +36,7 @@ unfoldable pub linesFrom : List ℕ → (k count : ℕ) → List ℕ
 linesFrom list k zero = []
 linesFrom list k (suc count) = lineText (lineAt list k) ++ linesFrom list (suc k) count
 
--- The number of lines and the lines of the list; or the refusal with its number and its place (L10, L11).
+-- The number of lines and the lines of the list; or the refusal with its number and its offset (L10, L11).
 abbrev pub textOf : ListedNumbers → List ℕ → List ℕ
 textOf (lines count) list = ascii "branches " ++ inTen count ++ ascii "\n" ++ linesFrom list 0 count
 textOf (refused number place) list = ascii "refused " ++ inTen number ++ ascii " at " ++ inTen place ++ ascii "\n"

@@ -1,5 +1,5 @@
 -- What the value of an expression does not depend on: the effects where nothing has a value of its own; memory and what variables are inside
--- loads where there is no load; a variable that is not read; in a condition, the place of a load. Assumes nothing.
+-- loads where there is no load; a variable that is not read; in a condition, the position of a load. Assumes nothing.
 use mathlib.Core.Path.{_≡_, refl, sym, ap, ap₂, _∙_}
 use mathlib.Core.Bool.{Bool, true, false, cond, _||_, false≢true}
 use mathlib.Core.List.{List, []}

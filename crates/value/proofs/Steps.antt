@@ -1,4 +1,4 @@
--- Evaluation on lent values is a node's run. An expression without load and effect does not look at memory, at the effects or at what variables
+-- Evaluation on borrowed values is a node's run. An expression without load and effect does not look at memory, at the effects or at what variables
 -- are inside loads; so each statement of a run, on values that stand in a list, is one evaluation. Assumes nothing.
 use mathlib.Core.Path.{_≡_, refl, sym, ap, fun-ext, _∙_}
 use mathlib.Core.Bool.{Bool, true, false, cond}

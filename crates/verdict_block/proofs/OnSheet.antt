@@ -20,7 +20,7 @@ use Rattle.verdict_block.specs.Contracts.{RangeOf}
 use Rattle.verdict_block.proofs.Ranges.{range-is}
 
 module _ (s : List ℕ) (sheet : Sheet) (read : readingOf s ≡ Accepted sheet) where
-  -- there are as many instructions as places
+  -- there are as many instructions as offsets
   pub inside : {end : ℕ} {places : List ℕ} → places ≡ sheetAt s .instructions .places → end ≤ length places
       → end ≤ length (sheetAt s .instructions .list)
   inside places-are fits = rw (instructions-count s sheet read, ← places-count s sheet read, ← places-are) fits

@@ -1,4 +1,4 @@
--- Bytes that are written over the front of a list stand there.
+-- Bytes that are written over the start of a list stand there.
 use Prim.Native.Nat.{ℕ, _≤_}
 use mathlib.Core.Path.{_≡_, refl, ap}
 use mathlib.Core.List.{List, [], _∷_, _++_}
@@ -7,7 +7,7 @@ use lib.ListN.{length, drop}
 use Rattle.sheet_bytes.proofs.Spans.{Spans, spans-cut, spans-self}
 use Rattle.sheet.specs.Index.{over}
 
--- where the list has room for them
+-- where the list can hold them
 over-append : (bs list : List ℕ) → length bs ≤ length list → over bs list ≡ bs ++ drop (length bs) list
 unfolding over
 over-append [] list fits = refl

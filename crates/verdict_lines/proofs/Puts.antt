@@ -1,4 +1,4 @@
--- Bytes put into a list at a place: one by one, and one list after the other.
+-- Bytes put into a list at an offset: one by one, and one list after the other.
 use Prim.Native.Nat.{ℕ, zero, suc, _+_, _-_, _/_, _%_, _<_}
 use mathlib.Core.Path.{_≡_, refl, sym, ap, _∙_}
 use mathlib.Core.List.{List, [], _∷_, _++_}

@@ -1,4 +1,4 @@
--- The answer for a node that was read whole, from its substituted condition in lent words.
+-- The answer for a node that was read whole, from its substituted condition in borrowed words.
 use Prim.Native.Nat.{ℕ, _+_, _-_, _≤_, _<_}
 use mathlib.Core.Path.{_≡_, refl, sym, ap, subst, _∙_}
 use mathlib.Core.Bool.{Bool, true, false, cond}
@@ -64,7 +64,7 @@ module _ {w : Written} (out : List ℕ) {at : ℕ} (whole : WholeWords w out) (i
 pub whole-at : (s : List ℕ) (p : Place) → WentOn (nodeAt s p .next) → ReadNode s (nodeAt s p)
 whole-at s p on = record { at = p; is = refl; on = on }
 
--- for the front of a node that was read whole
+-- for the start of a node that was read whole
 module _ (s : List ℕ) (node : NodeReading) (read : ReadNode s node) {front : NodeFront} (front-is : front ≡ frontOf node) where
   -- its types
   pub types-fit : {from : ℕ} → from ≡ startOf (front .types) → (a : ℕ) → front .body ≡ At a → from + front .variables ≤ length s

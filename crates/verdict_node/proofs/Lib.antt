@@ -1,4 +1,4 @@
 -- the answer for a node, from its substituted condition
 pub mod Judged
--- the lent table, or its own
+-- the borrowed table, or its own
 pub mod Rooms

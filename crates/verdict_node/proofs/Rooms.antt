@@ -1,4 +1,4 @@
--- The lent table has room for what may be held, or one of its own has.
+-- The borrowed table can hold what may be held, or one of its own can.
 use Prim.Native.Nat.{ℕ, _*_, _≤_, _<_}
 use mathlib.Core.Path.{_≡_, refl}
 use mathlib.Core.Bool.{Bool, true, false, cond}
@@ -23,7 +23,7 @@ module _ {types lengths words out : List ℕ} (lent : LentWords types lengths wo
     outRoom = lent .outRoom;
   }
 
-  -- the lent one
+  -- the borrowed one
   module _ {most : ℕ} (is : most ≡ cond (eqb n 0) 0 (length types)) where
     most-held : 0 < n → most ≡ length types
     most-held some = by (eqb n 0) refl is

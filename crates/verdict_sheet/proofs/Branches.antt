@@ -30,7 +30,7 @@ use Rattle.verdict_block.proofs.Between.{apart-none, apart-between}
 use Rattle.verdict_sheet.specs.Sites.{branchAt, unlessLater, lastBranch, blockSite}
 use Rattle.verdict_sheet.specs.Kept.{BranchIndex, ifBranch, branchEnding, SiteIs}
 
--- the mark at a place that was found
+-- the mark at an index that was found
 marked : List Bool → Found → Bool
 marked branches (At k) = getD branches k false
 marked branches Nothing = false

@@ -140,7 +140,7 @@ module _ (s : List ℕ) (blocks : ℕ) where
       → Reached (sheetAt s .instructions .list) progress.Through slots (judgedUpTo s blocks n)
   nodes-whole k n slots all-of is = rw (← all-of) is
 
--- the lengths of the room for nodes' verdicts: some of it is made, the rest is as long as it was lent
+-- the lengths of the buffers for nodes' verdicts: some are made, the rest are as long as they were
 pub record Rooms (sums pairs : ℕ) (t l w o a m p : List ℕ) : Type 0 where
   pub table : 1024 ≡ length t
   pub lengths : 32 ≡ length l

@@ -1,4 +1,3 @@
-use mathlib.Core.Path.{refl}
 use Rattle.answer_listing.proofs.Listings.{made-empty, attempt-done, attempt-never}
 use borrow.Author.Needs.{needs}
 use Rattle.answer_listing.proofs.list_long.Statement.{statement}

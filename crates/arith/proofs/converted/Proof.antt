@@ -1,4 +1,4 @@
--- `arith::converted` meets its contract: the residue at 64 bits, cut, is the residue at the width.
+-- `arith::converted` meets its contract: the residue at 64 bits, truncated, is the residue at the width.
 -- Assumes nothing.
 use mathlib.Core.Path.{ap, _∙_}
 use Prim.Native.Nat.{ℕ, _%_, _^_}

@@ -1,4 +1,4 @@
--- `arith::difference` meets its contract: what wraps at 64 bits and is cut wraps at the width.
+-- `arith::difference` meets its contract: what wraps at 64 bits and is truncated wraps at the width.
 -- Assumes nothing.
 use mathlib.Core.Path.{_∙_}
 use borrow.Author.Needs.{needs}

@@ -1,4 +1,4 @@
--- `arith::shift_left` meets its contract: what wraps at 64 bits and is cut wraps at the width.
+-- `arith::shift_left` meets its contract: what wraps at 64 bits and is truncated wraps at the width.
 -- Assumes nothing.
 use mathlib.Core.Path.{_∙_}
 use Prim.Native.Nat.{_*_, _^_}

@@ -1,4 +1,4 @@
--- `arith::sum` meets its contract: what wraps at 64 bits and is cut wraps at the width.
+-- `arith::sum` meets its contract: what wraps at 64 bits and is truncated wraps at the width.
 -- Assumes nothing.
 use mathlib.Core.Path.{ap, _∙_}
 use Prim.Native.Nat.{ℕ, _+_, _%_, _^_}

@@ -1,4 +1,4 @@
--- `decide::equality` meets its contract: its steps' answers put together. The lent lists keep their lengths from call to call.
+-- `decide::equality` meets its contract: its steps' answers put together. The borrowed lists keep their lengths from call to call.
 -- Assumes nothing.
 use mathlib.Core.Path.{_∙_}
 use native.Mathlib.Omega.{arith}

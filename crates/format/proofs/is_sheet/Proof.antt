@@ -1,4 +1,4 @@
--- `format::is_sheet` meets its contract: what the slice lends are bytes, so what the format says of reading goes for them.
+-- `format::is_sheet` meets its contract: what the slice provides are bytes, so what the format says of reading goes for them.
 use borrow.Author.Needs.{needs}
 use native.Mathlib.Omega.{arith}
 use Rattle.format.proofs.Unique.{says-sheet, says-none}

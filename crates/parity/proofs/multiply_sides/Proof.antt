@@ -1,4 +1,4 @@
--- `parity::multiply_sides` meets its contract: the product is moved to the front.
+-- `parity::multiply_sides` meets its contract: the product is moved to the start.
 -- Assumes nothing.
 use mathlib.Core.Path.{sym}
 use native.Mathlib.Omega.{arith}

@@ -15,7 +15,7 @@ Inv-loop s variables total out₀ depth₀ next₀ i₀ out depth next i =
 abbrev μ-loop : tie.MeasureT-loop
 μ-loop s variables total out₀ depth₀ next₀ i₀ out depth next i = total - i
 
--- the lent list is as long as it was, and the depth is at most the count
+-- the borrowed list is as long as it was, and the depth is at most the count
 long : (c : tie.At-loop Inv-loop μ-loop) → length (c .loop .out) ≡ length (c .before .before .before .args .out .now)
 long c = stored-length _ _ _ _ _ (c .loop .inv .1) (omega arith)
 

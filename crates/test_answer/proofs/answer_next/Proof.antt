@@ -8,7 +8,7 @@ use Rattle.test_io.specs.declared.Next.the-variants.{Frame}
 use Rattle.test_answer.proofs.answer_next.Statement.{statement}
 use Rattle.test_answer.proofs.answer_next.Tie as tie
 
--- a frame that was read lies within the room
+-- a frame that was read lies within the buffer
 within : (next : Next) (n room : ℕ) → next ≡ Frame n → Fits next room → n ≤ room
 within next n room e h = subst (λ (r : Next). Fits r room) e h
 

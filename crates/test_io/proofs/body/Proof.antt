@@ -1,4 +1,4 @@
--- `test_io::body` meets its contract: what is lent to the read is as long as the frame, which the test on the room allows.
+-- `test_io::body` meets its contract: what the read borrows is as long as the frame, which the test on the buffer allows.
 use lib.Seq.{length-take-le}
 use native.Mathlib.Omega.{arith}
 use mathlib.Core.Path.{sym}

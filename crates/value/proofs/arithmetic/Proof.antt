@@ -1,4 +1,4 @@
--- `value::arithmetic` meets its contract: each number reads its place of the table.
+-- `value::arithmetic` meets its contract: each number reads its entry of the table.
 -- Assumes nothing.
 use mathlib.Core.Path.{ap, sym}
 use lib.ListN.{List·getD-eq-default}

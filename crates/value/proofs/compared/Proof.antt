@@ -1,4 +1,4 @@
--- `value::compared` meets its contract: each number reads its place of the table.
+-- `value::compared` meets its contract: each number reads its entry of the table.
 -- Assumes nothing.
 use mathlib.Core.Bool.{Bool, not}
 use mathlib.Core.Path.{ap, sym, _∙_}

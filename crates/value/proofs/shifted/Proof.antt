@@ -1,4 +1,4 @@
--- `value::shifted` meets its contract: each number reads its place of the table.
+-- `value::shifted` meets its contract: each number reads its entry of the table.
 -- Assumes nothing.
 use mathlib.Core.Path.{_≡_, ap}
 use native.Mathlib.Omega.{arith}
