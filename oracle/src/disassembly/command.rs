@@ -8,13 +8,12 @@ use crate::disassembly::judge::{Decided, Program};
 use crate::disassembly::operand::parts;
 use crate::disassembly::sheets::{self, Counts, FunctionSheet};
 use crate::disassembly::text::{self, Disassembly, Label};
-use crate::disassembly::{pointers, steps, unwinding};
+use crate::disassembly::{hidden, objdump, pointers, steps, unwinding};
 use crate::sheets::encode::encode;
 use crate::sheets::syntax::Sheet;
 use std::collections::BTreeMap;
 use std::fs;
 use std::io::{self, Read, Write};
-use std::process::Command;
 
 /// What to list: a linked file, or the disassembly of one.
 pub enum Source<'a> {
@@ -39,20 +38,6 @@ const BATCH: usize = 1_000;
 /// Differences that are shown.
 const SHOWN: usize = 10;
 
-const NO_OBJDUMP: &str = "objdump cannot be run (GNU binutils)";
-
-/// What objdump writes of a file.
-fn disassembled(path: &str) -> Result<String, String> {
-    let options = ["-d", "-M", "intel", "--no-show-raw-insn", "--"];
-    let output = Command::new("objdump").args(options).arg(path).env("LC_ALL", "C").output();
-    let output = output.map_err(|error| format!("{NO_OBJDUMP}: {error}"))?;
-    if !output.status.success() {
-        let words = String::from_utf8_lossy(&output.stderr);
-        return Err(format!("objdump: {}", words.trim()));
-    }
-    Ok(String::from_utf8_lossy(&output.stdout).into_owned())
-}
-
 /// What the file says about entries and functions.
 fn outside(file: &File) -> Result<Outside, String> {
     let code = file.code();
@@ -62,8 +47,10 @@ fn outside(file: &File) -> Result<Outside, String> {
         unread: unwinding.unread,
         entries: unwinding.pads,
         possible: pointers::stored(file, &code),
-        slots: Vec::new(),
+        ..Outside::default()
     };
+    outside.possible.extend(pointers::marked(file));
+    outside.possible.extend(file.named());
     outside.entries.push(file.entry);
     outside.functions.extend(file.functions());
     for name in [".got", ".got.plt"] {
@@ -78,6 +65,21 @@ fn add_tables(file: &File, control: &ControlFlow, outside: &mut Outside) {
     let code = file.code();
     let targets = control.named.iter().flat_map(|table| pointers::offsets(file, &code, *table));
     outside.possible.extend(targets);
+}
+
+/// Adds what runs from entries that the text does not show.
+fn add_hidden(
+    file: &File,
+    text: &Disassembly,
+    control: &ControlFlow,
+    outside: &mut Outside,
+) -> Result<(), String> {
+    let functions = outside.functions.iter().map(|span| span.start);
+    let shown = control.targets.iter().chain(&control.named).chain(&control.unseen);
+    let known = outside.entries.iter().chain(&outside.possible);
+    let starts = shown.chain(known).copied().chain(functions);
+    let starts = starts.filter(|address| text.line_at(*address).is_err()).collect();
+    hidden::follow(text, outside, starts, &|places| objdump::runs(file, places))
 }
 
 const TEXT_ALONE: &str = "from the text alone: landing pads, tables and pointers to code, and \
@@ -105,11 +107,20 @@ fn list_file(job: &Job, path: &str) -> Result<bool, String> {
     let bytes = content(path)?;
     let file = elf::read(&bytes)?;
     let mut outside = outside(&file)?;
-    let text = disassembled(path)?;
+    let text = disassembly(path, &bytes)?;
     let text = text::read(&text)?;
     let control = control_flow::read(&text, &outside);
     add_tables(&file, &control, &mut outside);
+    add_hidden(&file, &text, &control, &mut outside)?;
     judged(job, &text, &leaders(&text, &control, &outside))
+}
+
+/// What objdump writes of a file, or of a copy where it is the standard input.
+fn disassembly(path: &str, bytes: &[u8]) -> Result<String, String> {
+    match path {
+        "-" => objdump::disassembled(objdump::Copy::new("input", bytes)?.path()?),
+        _ => objdump::disassembled(path),
+    }
 }
 
 fn content(path: &str) -> Result<Vec<u8>, String> {

@@ -4,7 +4,9 @@
 use crate::disassembly::elf::Span;
 use crate::disassembly::instruction::{listed, Flow, Standing};
 use crate::disassembly::operand::{parts, Operand, Parts};
+use crate::disassembly::returns;
 use crate::disassembly::text::{Disassembly, Line};
+use std::collections::HashSet;
 
 /// Where control goes after a line, and what tells padding and calls apart.
 #[derive(Clone, Copy, Debug, PartialEq, Eq)]
@@ -27,6 +29,10 @@ pub struct Outside {
     pub possible: Vec<u64>,
     /// Where the loader stores the addresses of functions for jumps through them.
     pub slots: Vec<Span>,
+    /// Jumps of code that the text does not show, from and to.
+    pub joins: Vec<(u64, u64)>,
+    /// Where such code goes to an address that is not known.
+    pub opens: Vec<u64>,
 }
 
 #[derive(Debug, Default)]
@@ -37,29 +43,37 @@ pub struct ControlFlow {
     /// Other addresses that instructions name: immediates, and what they address
     /// relative to rip.
     pub named: Vec<u64>,
+    /// Lines that the processor may read otherwise than they are shown.
+    pub unclear: Vec<u64>,
+    /// Where code may go on that is not shown.
+    pub unseen: Vec<u64>,
+    /// Returns that are taken for jumps.
+    pub returns: usize,
 }
+
+/// The longest instruction.
+pub const LONGEST: u64 = 15;
 
 pub fn read(text: &Disassembly, outside: &Outside) -> ControlFlow {
     let mut control = ControlFlow::default();
-    let mut before = None;
     for line in &text.lines {
         let parts = parts(line.text);
-        let step = returning(before, step(line, &parts), &parts);
-        before = Some(line);
+        let step = step(line, &parts);
         match step.flow {
             Flow::Branch(target) | Flow::Jump(target) => control.targets.push(target),
-            _ if parts.mnemonic == "call" => control.targets.extend(parts.target()),
-            _ => {
-                let immediates = parts.operands.iter().filter_map(|operand| match operand {
-                    Operand::Immediate(value) => Some(*value),
-                    _ => None,
-                });
-                control.named.extend(immediates.chain(parts.shown));
-            }
+            _ if goes_to(&parts) => control.targets.extend(parts.target()),
+            _ => control.named.extend(addresses(&parts, 0)),
+        }
+        if is_unclear(line, &parts) {
+            control.unclear.push(line.address);
+            let end = line.address.wrapping_add(line.size.max(1));
+            control.unseen.extend((line.address + 1..=line.address + LONGEST).chain([end + 2]));
         }
         control.steps.push(through_slot(text, outside, line, &parts, step));
     }
-    for list in [&mut control.targets, &mut control.named] {
+    returns_as_jumps(text, outside, &mut control);
+    control.unseen.extend(ends_of_runs(text, &control.steps));
+    for list in [&mut control.targets, &mut control.named, &mut control.unseen] {
         list.sort_unstable();
         list.dedup();
     }
@@ -76,16 +90,83 @@ fn step(line: &Line, parts: &Parts) -> Step {
     Step { flow: listed.flow, padding, call: matches!(listed.standing, Standing::Call(_)) }
 }
 
-/// A return right behind an instruction that puts an address where it is taken
-/// from is a jump to that address.
-fn returning(before: Option<&Line>, step: Step, parts: &Parts) -> Step {
-    let put = before.is_some_and(|line| {
-        line.text.starts_with("push ") || line.text.contains("QWORD PTR [rsp],")
+fn goes_to(parts: &Parts) -> bool {
+    ["call", "jmp"].contains(&parts.mnemonic) && parts.target().is_some()
+}
+
+/// The addresses that an instruction may name. Those that objdump works out from
+/// the instruction's own are too high by `moved`.
+pub fn addresses(parts: &Parts, moved: u64) -> Vec<u64> {
+    let own = |address: u64| address.wrapping_sub(moved);
+    let immediates = parts.operands.iter().filter_map(|operand| match operand {
+        Operand::Immediate(value) => Some(*value),
+        _ => None,
     });
-    match parts.mnemonic {
-        "ret" if put => Step { flow: Flow::IndirectJump, ..step },
-        _ => step,
+    let worked_out = parts.shown.into_iter().chain(parts.target()).map(own);
+    immediates.chain(worked_out).collect()
+}
+
+/// Bytes that objdump cannot decode, and near branches with 66 before them, whose
+/// length and target depend on the processor.
+fn is_unclear(line: &Line, parts: &Parts) -> bool {
+    line.text.contains("(bad)") || parts.mnemonic == ".byte" || is_short_branch(line, parts)
+}
+
+fn is_short_branch(line: &Line, parts: &Parts) -> bool {
+    let name = parts.mnemonic;
+    let branch = ["j", "loop", "call", "ret"].iter().any(|start| name.starts_with(start));
+    let far = name.starts_with("retf");
+    let wide = parts.prefixes.iter().any(|prefix| prefix.starts_with("rex.W"));
+    branch && !far && !wide && (has_operand_prefix(line.bytes) || shows_operand_prefix(parts))
+}
+
+fn shows_operand_prefix(parts: &Parts) -> bool {
+    parts.prefixes.contains(&"data16") || ["jmpw", "callw", "retw"].contains(&parts.mnemonic)
+}
+
+/// Whether 66 is among the prefixes before the first other byte.
+fn has_operand_prefix(bytes: &str) -> bool {
+    const OTHERS: &[&str] = &["67", "f2", "f3", "2e", "36", "3e", "26", "64", "65", "f0"];
+    let mut prefixes = bytes.split(' ').take_while(|byte| *byte == "66" || OTHERS.contains(byte));
+    prefixes.any(|byte| byte == "66")
+}
+
+/// A return whose address was put on the stack by the code before it is a jump.
+fn returns_as_jumps(text: &Disassembly, outside: &Outside, control: &mut ControlFlow) {
+    let calls = text.lines.iter().map(|line| parts(line.text));
+    let calls = calls.filter(|parts| parts.mnemonic == "call").filter_map(|parts| parts.target());
+    let functions = outside.functions.iter().map(|span| span.start);
+    let starts: HashSet<u64> = functions.chain(calls).collect();
+    let ends: HashSet<u64> = outside.functions.iter().map(|span| span.end).collect();
+    let goes_on = |steps: &[Step], number: usize| {
+        goes_on(steps[number], ends.contains(&text.lines[number + 1].address))
+    };
+    for (number, line) in text.lines.iter().enumerate() {
+        let is_return = parts(line.text).mnemonic == "ret";
+        let lines = &text.lines[..=number];
+        let on = |at: usize| goes_on(&control.steps, at);
+        if is_return && returns::is_jump(lines, on, |address| starts.contains(&address)) {
+            control.steps[number].flow = Flow::IndirectJump;
+            control.returns += 1;
+        }
     }
+}
+
+/// A call that ends a function is one that does not return.
+pub fn goes_on(step: Step, function_ends: bool) -> bool {
+    match step.flow {
+        Flow::Next => !(step.call && function_ends),
+        Flow::Branch(_) => true,
+        _ => false,
+    }
+}
+
+/// Where control goes on behind a line, and the text does not.
+fn ends_of_runs(text: &Disassembly, steps: &[Step]) -> Vec<u64> {
+    let nexts = text.lines.iter().skip(1).map(|next| !next.after_gap).chain([false]);
+    let lines = text.lines.iter().zip(steps).zip(nexts);
+    let last = lines.filter(|((_, step), shown)| !shown && goes_on(**step, false));
+    last.filter_map(|((line, _), _)| line.end()).collect()
 }
 
 /// A jump of a linkage stub, or through a slot that the loader fills, goes to

@@ -1,5 +1,5 @@
-//! What is read of an ELF file beside its disassembly: sections, symbols of
-//! functions, and whether its code is final.
+//! What is read of an ELF file beside its disassembly: sections, executable
+//! segments, symbols, and whether its code is final.
 
 #[derive(Clone, Debug, PartialEq, Eq)]
 pub struct Section<'a> {
@@ -11,13 +11,26 @@ pub struct Section<'a> {
     pub size: u64,
 }
 
+/// What is loaded to be run: code, and whatever else stands beside it.
+pub struct Segment<'a> {
+    pub address: u64,
+    pub bytes: &'a [u8],
+}
+
 pub struct File<'a> {
     pub entry: u64,
+    /// Whether it may be loaded at any address, so that pointers have 8 bytes.
+    pub movable: bool,
     pub sections: Vec<Section<'a>>,
+    pub segments: Vec<Segment<'a>>,
 }
 
 const ALLOCATED: u64 = 2;
 const EXECUTABLE: u64 = 4;
+
+/// Of segments: the kind that is loaded, and the flag of those that are run.
+const LOADED: u64 = 1;
+const RUN: u64 = 1;
 
 const SYMBOLS: [u32; 2] = [2, 11];
 const NO_BYTES: u32 = 8;
@@ -60,12 +73,18 @@ pub fn read(bytes: &[u8]) -> Result<File<'_>, String> {
     if field(4, 1)? != 2 || field(5, 1)? != 1 || field(18, 2)? != 62 {
         return Err("not for x86-64: only 64-bit ELF files of that machine are taken".to_string());
     }
-    match field(16, 2)? {
+    let kind = field(16, 2)?;
+    match kind {
         2 | 3 => {}
         1 => return Err("not linked: its addresses and constants are not final".to_string()),
         _ => return Err("neither a program nor a shared library".to_string()),
     }
-    let file = File { entry: field(24, 8)?, sections: sections(bytes).ok_or(CUT)? };
+    let file = File {
+        entry: field(24, 8)?,
+        movable: kind == 3,
+        sections: sections(bytes).ok_or(CUT)?,
+        segments: segments(bytes).ok_or(CUT)?,
+    };
     if file.relocates_code() {
         return Err("its code is changed when it is loaded (text relocations)".to_string());
     }
@@ -79,6 +98,23 @@ fn sections(bytes: &[u8]) -> Option<Vec<Section<'_>>> {
     let names_at = table + 64 * number(bytes, 62, 2)?;
     let names = contents(bytes, names_at)?;
     (0..count).map(|index| section(bytes, table + 64 * index, names)).collect()
+}
+
+/// The executable segments that are loaded.
+fn segments(bytes: &[u8]) -> Option<Vec<Segment<'_>>> {
+    let (table, count) = (number(bytes, 32, 8)?, number(bytes, 56, 2)?);
+    let headers = (0..count).map(|index| table + 56 * index);
+    let mut segments = Vec::new();
+    for at in headers {
+        let (kind, flags) = (number(bytes, at, 4)?, number(bytes, at + 4, 4)?);
+        if kind == LOADED && flags & RUN != 0 {
+            let start = usize::try_from(number(bytes, at + 8, 8)?).ok()?;
+            let size = usize::try_from(number(bytes, at + 32, 8)?).ok()?;
+            let bytes_of = bytes.get(start..start.checked_add(size)?)?;
+            segments.push(Segment { address: number(bytes, at + 16, 8)?, bytes: bytes_of });
+        }
+    }
+    Some(segments)
 }
 
 /// The bytes of the section whose header stands at `at`.
@@ -107,21 +143,46 @@ impl<'a> File<'a> {
         self.sections.iter().find(|section| section.name == name)
     }
 
+    /// What the processor can run: sections of code, and all else that is loaded
+    /// with them.
     pub fn code(&self) -> Vec<Span> {
-        let code = self.sections.iter().filter(|section| section.flags & EXECUTABLE != 0);
-        code.map(|s| Span { start: s.address, end: s.address + s.size }).collect()
+        let sections = self.sections.iter().filter(|section| section.flags & EXECUTABLE != 0);
+        let sections = sections.map(|s| Span { start: s.address, end: s.address + s.size });
+        let segments = self.segments.iter();
+        let segments = segments.map(|s| Span {
+            start: s.address,
+            end: s.address.saturating_add(s.bytes.len() as u64),
+        });
+        sections.chain(segments).collect()
     }
 
-    /// Sections that are in memory and are no code.
-    pub fn data(&self) -> impl Iterator<Item = &Section<'a>> {
-        let kinds = |section: &&Section| section.flags & (ALLOCATED | EXECUTABLE) == ALLOCATED;
-        self.sections.iter().filter(kinds)
+    /// The bytes from an address that can be run, to the end of its segment.
+    pub fn code_at(&self, address: u64) -> Option<&'a [u8]> {
+        self.segments.iter().find_map(|segment| {
+            let at = usize::try_from(address.checked_sub(segment.address)?).ok()?;
+            segment.bytes.get(at..).filter(|bytes| !bytes.is_empty())
+        })
+    }
+
+    /// Sections that are in memory.
+    pub fn loaded(&self) -> impl Iterator<Item = &Section<'a>> {
+        self.sections.iter().filter(|section| section.flags & ALLOCATED != 0)
+    }
+
+    fn symbols(&self) -> impl Iterator<Item = &'a [u8]> + '_ {
+        let tables = self.sections.iter().filter(|section| SYMBOLS.contains(&section.kind));
+        tables.flat_map(|table| table.bytes.chunks_exact(24))
+    }
+
+    /// The addresses of the symbols that are defined here, whatever their type.
+    pub fn named(&self) -> Vec<u64> {
+        let defined = self.symbols().filter(|symbol| number(symbol, 6, 2) != Some(0));
+        defined.filter_map(|symbol| number(symbol, 8, 8)).collect()
     }
 
     /// The ranges of the symbols that are functions with a size.
     pub fn functions(&self) -> Vec<Span> {
-        let tables = self.sections.iter().filter(|section| SYMBOLS.contains(&section.kind));
-        tables.flat_map(|table| table.bytes.chunks_exact(24)).filter_map(function).collect()
+        self.symbols().filter_map(function).collect()
     }
 
     /// Whether the entries of `.dynamic` say that the loader writes to code.

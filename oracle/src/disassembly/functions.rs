@@ -4,10 +4,11 @@
 //! The code is cut at labels and at the ends of known functions. Two parts are
 //! joined where control can go from one into the other, but for calls and jumps
 //! to the start of a function. A part is open, and all that is joined
-//! with it, if it has a jump to an address that is not in the text, or is
-//! entered between two of the instructions that are shown.
+//! with it, if it has a jump to an address that is not in the text, is entered
+//! between two of the instructions that are shown by a jump or as a function, or has
+//! bytes that the processor may read otherwise.
 
-use crate::disassembly::control_flow::{ControlFlow, Outside, Step};
+use crate::disassembly::control_flow::{goes_on, ControlFlow, Outside, Step};
 use crate::disassembly::elf::Span;
 use crate::disassembly::instruction::Flow;
 use crate::disassembly::text::Disassembly;
@@ -108,27 +109,19 @@ fn join_following(text: &Disassembly, steps: &[Step], outside: &Outside, parts: 
     }
 }
 
-/// A call that ends a function is one that does not return.
-fn goes_on(step: Step, function_ends: bool) -> bool {
-    match step.flow {
-        Flow::Next => !(step.call && function_ends),
-        Flow::Branch(_) => true,
-        _ => false,
-    }
-}
-
 /// Joins two parts where one jumps into the other. A jump to the start of a
 /// known function, or to a linkage stub, is a call that does not come back.
 fn join_jumps(text: &Disassembly, steps: &[Step], outside: &Outside, parts: &mut CodeParts) {
     let starts: HashSet<u64> = outside.functions.iter().map(|span| span.start).collect();
-    for (line, step) in text.lines.iter().zip(steps) {
-        let target = match step.flow {
-            Flow::Jump(target) if starts.contains(&target) => continue,
-            Flow::Jump(target) | Flow::Branch(target) => target,
-            _ => continue,
-        };
+    let shown = text.lines.iter().zip(steps).filter_map(|(line, step)| match step.flow {
+        Flow::Jump(target) if starts.contains(&target) => None,
+        Flow::Jump(target) | Flow::Branch(target) => Some((line.address, target)),
+        _ => None,
+    });
+    let hidden = outside.joins.iter().copied().filter(|(_, target)| !starts.contains(target));
+    for (from, target) in shown.chain(hidden) {
         if text.reaches(target) && !text.in_stub(target) {
-            parts.join(parts.of(line.address), parts.of(target));
+            parts.join(parts.of(from), parts.of(target));
         }
     }
 }
@@ -147,6 +140,7 @@ fn open_parts(
     let starts = outside.functions.iter().map(|span| span.start);
     let entries = control.targets.iter().chain(&outside.entries).copied().chain(starts);
     open.extend(entries.filter(between).map(|address| parts.of(address)));
+    open.extend(control.unclear.iter().chain(&outside.opens).map(|address| parts.of(*address)));
     for span in &outside.unread {
         open.extend(parts.of(span.start)..=parts.of(span.end.max(span.start + 1) - 1));
     }

@@ -42,6 +42,7 @@ pub struct Listed<'a> {
 }
 
 /// Calls, returns, system calls and traps; after some of them nothing follows.
+/// Returns by more than an address go wherever the stack or a register says.
 const CALLS: &[(&str, Flow)] = &[
     ("call", Flow::Next),
     ("syscall", Flow::Next),
@@ -51,11 +52,21 @@ const CALLS: &[(&str, Flow)] = &[
     ("int3", Flow::Next),
     ("icebp", Flow::Next),
     ("ret", Flow::Ends),
-    ("retf", Flow::Ends),
-    ("iret", Flow::Ends),
-    ("iretq", Flow::Ends),
-    ("sysret", Flow::Ends),
-    ("sysretq", Flow::Ends),
+    ("retw", Flow::IndirectJump),
+    ("retf", Flow::IndirectJump),
+    ("retfw", Flow::IndirectJump),
+    ("retfq", Flow::IndirectJump),
+    ("iret", Flow::IndirectJump),
+    ("iretw", Flow::IndirectJump),
+    ("iretd", Flow::IndirectJump),
+    ("iretq", Flow::IndirectJump),
+    ("uiret", Flow::IndirectJump),
+    ("sysret", Flow::IndirectJump),
+    ("sysretd", Flow::IndirectJump),
+    ("sysretq", Flow::IndirectJump),
+    ("sysexit", Flow::IndirectJump),
+    ("sysexitd", Flow::IndirectJump),
+    ("sysexitq", Flow::IndirectJump),
     ("ud0", Flow::Ends),
     ("ud1", Flow::Ends),
     ("ud2", Flow::Ends),
@@ -75,11 +86,8 @@ const IDLE: &[&str] = &["data16", "cs", "ds", "es", "fs", "gs", "ss", "rex.W"];
 const REPEATS: &[&str] = &["rep", "repz", "repnz"];
 
 /// Functions that go to the address in a register, and are jumped to in place of
-/// a jump through it.
+/// a jump through it. The jump has a target of its own as well.
 const THUNKS: &[&str] = &["__x86_indirect_thunk", "__llvm_retpoline"];
-
-/// The one that is jumped to in place of a return.
-const RETURN_THUNK: &str = "__x86_return_thunk";
 
 struct Reading<'a> {
     address: u64,
@@ -151,9 +159,6 @@ impl<'a> Reading<'a> {
         let name = self.parts.symbol.unwrap_or("");
         if THUNKS.iter().any(|thunk| name.starts_with(thunk)) {
             return self.call_like(Flow::IndirectJump, Standing::Call(self.parts.mnemonic));
-        }
-        if name.starts_with(RETURN_THUNK) {
-            return self.call_like(Flow::Ends, Standing::Call(self.parts.mnemonic));
         }
         let flow = Flow::Jump(target);
         Listed { instruction: self.plain(), flow, standing: Standing::Listed }

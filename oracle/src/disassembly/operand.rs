@@ -26,6 +26,8 @@ pub struct Parts<'a> {
     pub prefixes: Vec<&'a str>,
     pub mnemonic: &'a str,
     pub operands: Vec<Operand>,
+    /// The operands as they are written.
+    pub words: Vec<&'a str>,
     /// The address that objdump works out for an operand relative to rip.
     pub shown: Option<u64>,
     /// The name behind a jump's target, with its offset.
@@ -60,8 +62,9 @@ pub fn parts(text: &str) -> Parts<'_> {
     loop {
         let (word, behind) = rest.split_once(' ').unwrap_or((rest, ""));
         if !is_prefix(word) {
-            let operands = split(behind.trim()).map(operand).collect();
-            return Parts { prefixes, mnemonic: word, operands, shown, symbol };
+            let words: Vec<&str> = split(behind.trim()).collect();
+            let operands = words.iter().map(|word| operand(word)).collect();
+            return Parts { prefixes, mnemonic: word, operands, words, shown, symbol };
         }
         prefixes.push(word);
         rest = behind.trim_start();
@@ -121,7 +124,7 @@ fn segmented(word: &str) -> bool {
     word.split_once(':').is_some_and(|(segment, _)| SEGMENTS.contains(&segment))
 }
 
-fn general(word: &str) -> Option<Register> {
+pub fn general(word: &str) -> Option<Register> {
     static TABLE: OnceLock<HashMap<&str, Register>> = OnceLock::new();
     TABLE.get_or_init(|| named_registers().collect()).get(word).copied()
 }

@@ -11,27 +11,45 @@ fn in_code(code: &[Span], address: u64) -> bool {
     code.iter().any(|span| span.holds(address))
 }
 
-/// Every aligned 8-byte number of the data, and every addend of a relocation,
-/// that is an address of code.
+/// Every number in what is loaded, and every addend of a relocation, that is an
+/// address of code: of 8 bytes, and of 4 where the file is loaded where it says.
 pub fn stored(file: &File, code: &[Span]) -> Vec<u64> {
-    let words = file.data().flat_map(|section| aligned(section).chunks_exact(8));
-    let words = words.filter_map(|word| number(word, 0, 8));
+    let sizes: &[usize] = if file.movable { &[8] } else { &[8, 4] };
+    let mut found = Vec::new();
+    for section in file.loaded() {
+        for size in sizes {
+            let numbers = section.bytes.windows(*size).filter_map(|word| number(word, 0, *size));
+            found.extend(numbers.filter(|address| in_code(code, *address)));
+        }
+    }
     let tables = file.sections.iter().filter(|section| section.kind == RELOCATIONS);
     let entries = tables.flat_map(|section| section.bytes.chunks_exact(24));
     let addends = entries.filter_map(|entry| number(entry, 16, 8));
-    words.chain(addends).filter(|address| in_code(code, *address)).collect()
+    found.extend(addends.filter(|address| in_code(code, *address)));
+    found.sort_unstable();
+    found.dedup();
+    found
 }
 
-/// The section's bytes from its first address that is a multiple of 8.
-fn aligned<'a>(section: &Section<'a>) -> &'a [u8] {
-    let before = (section.address.wrapping_neg() % 8) as usize;
-    section.bytes.get(before..).unwrap_or(&[])
+/// endbr64 and endbr32 but for their last byte.
+const ENDBR: [u8; 3] = [0xf3, 0x0f, 0x1e];
+const ENDBR_LAST: [u8; 2] = [0xfa, 0xfb];
+
+/// Where the instructions stand that mark the targets of indirect jumps.
+pub fn marked(file: &File) -> Vec<u64> {
+    let mut found = Vec::new();
+    for segment in &file.segments {
+        let marks = segment.bytes.windows(4).enumerate();
+        let marks = marks.filter(|(_, w)| w[..3] == ENDBR && ENDBR_LAST.contains(&w[3]));
+        found.extend(marks.map(|(at, _)| segment.address + at as u64));
+    }
+    found
 }
 
 /// The targets of a table of 4-byte offsets from its own start, if `table` is
 /// one: as far as they lead to code.
 pub fn offsets(file: &File, code: &[Span], table: u64) -> Vec<u64> {
-    let Some(section) = file.data().find(|section| covers(section, table)) else {
+    let Some(section) = file.loaded().find(|section| covers(section, table)) else {
         return Vec::new();
     };
     let entries = section.bytes[(table - section.address) as usize..].chunks_exact(4);

@@ -1,17 +1,30 @@
-//! The output of `objdump -d -M intel --no-show-raw-insn`, line by line.
+//! The output of `objdump -d -M intel`, line by line, with the bytes of each
+//! instruction or without them.
 
 /// The one format that is taken.
 pub const FORMAT: &str = "elf64-x86-64";
 
 /// An instruction, or bytes that objdump could not decode.
-#[derive(Clone, Copy, Debug, PartialEq, Eq)]
+#[derive(Clone, Copy, Debug, Default, PartialEq, Eq)]
 pub struct Line<'a> {
     pub address: u64,
     /// What follows the address: prefixes, mnemonic, operands, comment.
     pub text: &'a str,
-    /// Nothing is shown between the line before and this one, or that line is of
-    /// another section.
+    /// The instruction's bytes as shown, the first ones if they take more than a
+    /// line; empty if they are not shown.
+    pub bytes: &'a str,
+    /// How many bytes it has; 0 if they are not shown.
+    pub size: u64,
+    /// Something that is no instruction is between the line before and this one,
+    /// or that line is of another section.
     pub after_gap: bool,
+}
+
+impl Line<'_> {
+    /// The address behind the instruction, if its bytes are shown.
+    pub fn end(&self) -> Option<u64> {
+        (self.size > 0).then(|| self.address.wrapping_add(self.size))
+    }
 }
 
 /// A name that objdump prints above an address.
@@ -29,6 +42,8 @@ pub struct Disassembly<'a> {
     /// First and last address of the sections of linkage stubs, `.plt` and the
     /// like, whose jumps go to functions alone.
     pub stubs: Vec<(u64, u64)>,
+    /// Whether the bytes of instructions are shown.
+    pub with_bytes: bool,
 }
 
 #[derive(Default)]
@@ -39,13 +54,28 @@ struct Section<'a> {
     gap: bool,
 }
 
+/// A line with an address. One with bytes and no text goes on the one before; data
+/// is shown as characters, with no tab before them.
+pub struct Shown<'a> {
+    pub address: u64,
+    pub bytes: &'a str,
+    pub text: &'a str,
+    pub data: bool,
+}
+
+impl Shown<'_> {
+    pub fn size(&self) -> u64 {
+        self.bytes.split_whitespace().count() as u64
+    }
+}
+
 /// What a line of the output is.
 enum Kind<'a> {
     Empty,
     Format(&'a str),
     Section(&'a str),
     Label(Label<'a>),
-    Instruction(u64, &'a str),
+    Instruction(Shown<'a>),
     Skipped,
     Relocation,
     Unclear,
@@ -60,12 +90,19 @@ fn hexadecimal(word: &str) -> Option<u64> {
     }
 }
 
+/// A name may have any character, so lines with one are known by their addresses.
 fn kind(line: &str) -> Kind<'_> {
     if line.trim().is_empty() {
         return Kind::Empty;
     }
-    if let Some((_, format)) = line.split_once("file format ") {
-        return Kind::Format(format.trim());
+    if let Some(shown) = shown(line) {
+        return Kind::Instruction(shown);
+    }
+    if let Some(label) = label(line) {
+        return Kind::Label(label);
+    }
+    if let Some(format) = format(line) {
+        return Kind::Format(format);
     }
     if let Some(name) = line.strip_prefix("Disassembly of section ") {
         return Kind::Section(name.trim_end_matches(':'));
@@ -76,16 +113,31 @@ fn kind(line: &str) -> Kind<'_> {
     if line.starts_with("\t\t") && line.contains(": R_") {
         return Kind::Relocation;
     }
-    if let Some(instruction) = instruction(line) {
-        return instruction;
-    }
-    label(line).map_or(Kind::Unclear, Kind::Label)
+    Kind::Unclear
 }
 
-fn instruction(line: &str) -> Option<Kind<'_>> {
-    let (address, text) = line.split_once(":\t")?;
+/// The format of the file, which a line names behind the file and before all others.
+fn format(line: &str) -> Option<&str> {
+    let (_, format) = line.split_once("file format ")?;
+    Some(format.trim())
+}
+
+/// The line of an instruction, with its bytes before it or without.
+pub fn shown(line: &str) -> Option<Shown<'_>> {
+    let (address, rest) = line.split_once(":\t")?;
     let address = hexadecimal(address.trim_start())?;
-    Some(Kind::Instruction(address, text.trim_end()))
+    let bytes = &rest[..leading_bytes(rest)];
+    let (text, data) = match rest[bytes.len()..].trim_start_matches(' ') {
+        text if bytes.is_empty() => (text, false),
+        text => (text.trim_start_matches('\t'), !text.is_empty() && !text.starts_with('\t')),
+    };
+    Some(Shown { address, bytes: bytes.trim_end(), text: text.trim_end(), data })
+}
+
+/// The length of the bytes at the start of a text, each two digits and a space.
+fn leading_bytes(text: &str) -> usize {
+    let is_byte = |chunk: &[u8]| matches!(chunk, [a, b, b' '] if a.is_ascii_hexdigit() && b.is_ascii_hexdigit());
+    3 * text.as_bytes().chunks(3).take_while(|chunk| is_byte(chunk)).count()
 }
 
 fn label(line: &str) -> Option<Label<'_>> {
@@ -95,9 +147,6 @@ fn label(line: &str) -> Option<Label<'_>> {
 
 /// What makes an instruction's line one of another form of output.
 fn other_form(text: &str) -> Option<&'static str> {
-    if text.contains('\t') {
-        return Some("the bytes of instructions are shown; objdump needs --no-show-raw-insn");
-    }
     // A name between < and > may have any character.
     let operands = text.split('<').next().unwrap_or("");
     if operands.contains('%') {
@@ -168,18 +217,34 @@ impl<'a> Section<'a> {
         match kind {
             Kind::Label(label) => self.labels.push(label),
             Kind::Skipped => self.gap = true,
-            Kind::Instruction(address, text) => {
-                if let Some(form) = other_form(text) {
-                    return Err(form);
-                }
-                self.lines.push(Line { address, text, after_gap: self.gap });
-                self.gap = false;
-            }
+            Kind::Instruction(shown) => self.instruction(&shown)?,
             Kind::Relocation => {
                 return Err("a relocation: the file is not linked, its code is not final")
             }
             _ => return Err("no line of a disassembly"),
         }
+        Ok(())
+    }
+
+    fn instruction(&mut self, shown: &Shown<'a>) -> Result<(), &'static str> {
+        let size = shown.size();
+        if shown.data {
+            self.gap = true;
+            return Ok(());
+        }
+        if shown.text.is_empty() {
+            let before = self.lines.last_mut().filter(|line| line.end() == Some(shown.address));
+            before.ok_or("bytes without an instruction")?.size += size;
+            return Ok(());
+        }
+        if let Some(form) = other_form(shown.text) {
+            return Err(form);
+        }
+        let end = self.lines.last().and_then(Line::end);
+        let after_gap = self.gap || end.is_some_and(|end| end != shown.address);
+        let Shown { address, bytes, text, .. } = *shown;
+        self.lines.push(Line { address, text, bytes, size, after_gap });
+        self.gap = false;
         Ok(())
     }
 }
@@ -205,6 +270,7 @@ fn joined(mut sections: Vec<Section>) -> Result<Disassembly, String> {
     if all.lines.is_empty() {
         return Err("no instruction is in the disassembly".to_string());
     }
+    all.with_bytes = all.lines.iter().all(|line| line.size > 0);
     all.labels.sort_by_key(|label| label.address);
     Ok(all)
 }

@@ -136,7 +136,7 @@ pub fn read(file: &File) -> Option<Unwinding> {
     let Some(section) = file.section(".eh_frame") else {
         return Some(unwinding);
     };
-    let mut fields = Fields::of(section, section.address)?;
+    let mut fields = Fields { bytes: section.bytes, address: section.address };
     while !fields.bytes.is_empty() {
         let length = fields.unsigned(4)?;
         if length == 0 {
@@ -183,7 +183,7 @@ fn frame(
 }
 
 fn landing_pads(file: &File, table: u64, function: u64) -> Option<Vec<u64>> {
-    let mut fields = file.data().find_map(|section| Fields::of(section, table))?;
+    let mut fields = file.loaded().find_map(|section| Fields::of(section, table))?;
     let encoding = fields.unsigned(1)? as Encoding;
     let base = if encoding == OMITTED { function } else { fields.pointer(encoding)? };
     if fields.unsigned(1)? as Encoding != OMITTED {

@@ -3,6 +3,7 @@
 use crate::disassembly::blocks::leaders;
 use crate::disassembly::control_flow::{self, Outside};
 use crate::disassembly::elf::{self, Span};
+use crate::disassembly::hidden::{self, Decoded, Run};
 use crate::disassembly::instruction::{listed, Flow, Standing};
 use crate::disassembly::judge::of_listing;
 use crate::disassembly::sheets::{self, Counts, FunctionSheet};
@@ -29,7 +30,7 @@ fn function(instructions: &[&str]) -> String {
 
 /// The text of an instruction's line in a sheet, without its address.
 fn in_sheet(instruction: &str) -> String {
-    let listed = listed(&Line { address: 0, text: instruction, after_gap: false });
+    let listed = listed(&Line { text: instruction, ..Line::default() });
     let sheet = Sheet { instructions: vec![listed.instruction], ..Sheet::default() };
     assert!(reader::read(&encode(&sheet).bytes).is_ok(), "{instruction}");
     to_text::text(&sheet).trim().replacen("insn 0x0 ", "", 1)
@@ -128,12 +129,14 @@ fn instructions_become_what_the_manual_says_of_them() {
 
 #[test]
 fn control_goes_where_the_instruction_says() {
-    let flow = |text| listed(&Line { address: 0, text, after_gap: false }).flow;
+    let flow = |text| listed(&Line { text, ..Line::default() }).flow;
     assert_eq!(flow("jmp    1178 <f+0x12>"), Flow::Jump(0x1178));
     assert_eq!(flow("jmp    QWORD PTR [rax*8+0x1234]"), Flow::IndirectJump);
     assert_eq!(flow("data16 jmp rax"), Flow::IndirectJump);
     assert_eq!(flow("jmp    1178 <__x86_indirect_thunk_rax>"), Flow::IndirectJump);
-    assert_eq!(flow("jmp    1178 <__x86_return_thunk>"), Flow::Ends);
+    assert_eq!(flow("jmp    1178 <__x86_return_thunk>"), Flow::Jump(0x1178));
+    assert_eq!(flow("retfq"), Flow::IndirectJump);
+    assert_eq!(flow("iretq"), Flow::IndirectJump);
     assert_eq!(flow("data16 je 1178 <f+0x12>"), Flow::Branch(0x1178));
     assert_eq!(flow("xbegin 1178 <f+0x12>"), Flow::Branch(0x1178));
     assert_eq!(flow("loop   1178 <f+0x12>"), Flow::Branch(0x1178));
@@ -148,7 +151,7 @@ fn the_table_has_each_name_once_and_none_that_is_modelled() {
     let once: BTreeSet<&String> = names.iter().collect();
     assert_eq!(names.len(), once.len(), "a name stands twice");
     assert!(names.iter().all(|name| !mnemonic::NAMES.contains(&name.as_str())));
-    let unknown = Line { address: 0, text: "vpnothing xmm0", after_gap: false };
+    let unknown = Line { text: "vpnothing xmm0", ..Line::default() };
     assert_eq!(listed(&unknown).standing, Standing::Unknown("vpnothing"));
 }
 
@@ -160,7 +163,8 @@ fn what_is_no_disassembly_is_refused() {
     assert!(error(&HEAD.replace("elf64-x86-64", "elf64-littleaarch64")).contains("aarch64"));
     assert!(error(HEAD).contains("no instruction"));
     assert!(error(&function(&["mov    %eax,%ebx"])).contains("-M intel"));
-    assert!(error(&function(&["90 \tnop"])).contains("--no-show-raw-insn"));
+    assert!(error(&function(&["%"])).contains("-M intel"));
+    assert!(error(&function(&["90 "])).contains("bytes without an instruction"));
     assert!(error(&format!("{HEAD}{HEAD}")).contains("more than one file"));
     let relocation = function(&["nop"]) + "\t\t\t1000: R_X86_64_PLT32\tputs-0x4\n";
     assert!(error(&relocation).contains("not linked"));
@@ -219,8 +223,132 @@ fn a_call_an_address_and_a_gap_start_blocks() {
     let code = function(&["nop", "mov    eax,0x1003", "nop", "nop"]);
     assert_eq!(starts(&text::read(&code).unwrap(), &Outside::default()), [0x1000, 0x1003]);
     let code =
-        function(&["nop", "nop"]) + "\t...\n    1010:\tnop\n    1011:\t(bad)\n    1012:\tnop\n";
+        function(&["nop", "nop"]) + "\t...\n    1010:\tnop\n    1011:\tud2\n    1012:\tnop\n";
     assert_eq!(starts(&text::read(&code).unwrap(), &Outside::default()), [0x1000, 0x1010, 0x1012]);
+}
+
+#[test]
+fn bytes_before_instructions_are_read() {
+    let code = function(&["31 c0                \txor    eax,eax"]);
+    // Bytes that go on, characters of data, and a gap that only the bytes show.
+    let code = code + "    1002:\t48 b8 00 00 00 00 00 \tmovabs rax,0x0\n    1009:\t00 00 00 \n";
+    let code = code + "    100c:\t41 42 43                     %\tC\n    100f:\t90 \tnop\n";
+    let code = code + "    1012:\tc3                   \tret\n";
+    let text = text::read(&code).unwrap();
+    let lines: Vec<(u64, u64, bool)> =
+        text.lines.iter().map(|line| (line.address, line.size, line.after_gap)).collect();
+    let due = [(0x1000, 2, true), (0x1002, 10, false), (0x100f, 1, true), (0x1012, 1, true)];
+    assert_eq!(lines, due);
+    assert_eq!(text.lines[1].text, "movabs rax,0x0");
+    // Control goes on where nothing is shown.
+    let control = control_flow::read(&text, &Outside::default());
+    assert_eq!(control.unseen, [0x100c, 0x1010]);
+}
+
+#[test]
+fn names_may_have_any_character() {
+    let code = function(&["call   1000 <file format b>"]).replace("<f>", "<a: file format b>");
+    assert_eq!(text::read(&code).unwrap().labels[0].name, "a: file format b");
+}
+
+/// Whether the return at the end of a function's lines is taken for a jump.
+fn returns_elsewhere(instructions: &[&str]) -> bool {
+    let code = function(&[instructions, &["ret"]].concat());
+    let text = text::read(&code).unwrap();
+    let span = Span { start: 0x1000, end: 0x1000 + text.lines.len() as u64 };
+    let outside = Outside { functions: vec![span], ..Outside::default() };
+    control_flow::read(&text, &outside).returns == 1
+}
+
+#[test]
+fn a_return_to_what_was_put_on_the_stack_is_a_jump() {
+    let jumps: &[&[&str]] = &[
+        &["push   rax", "mov    ecx,0x1", "nop"],
+        &["push   QWORD PTR [rax]", "push   rcx", "pop    rdx"],
+        &["mov    QWORD PTR [rsp-0x8],rax", "sub    rsp,0x8"],
+        &["sub    rsp,0x18", "mov    QWORD PTR [rsp+0x10],rax", "add    rsp,0x10"],
+        &["sub    rsp,0x18", "mov    QWORD PTR [rsp+0x18],rax", "add    rsp,0x18"],
+        &["add    QWORD PTR [rsp],0x5", "nop"],
+        &["mov    DWORD PTR [rsp+0x4],eax"],
+        &["mov    QWORD PTR [rsp+rax*8],rcx"],
+        &["xchg   rax,QWORD PTR [rsp]"],
+        &["movups XMMWORD PTR [rsp-0x8],xmm0"],
+        &["push   rbp", "mov    rbp,rsp", "mov    QWORD PTR [rbp+0x8],rax", "leave"],
+        &["push   rbp", "mov    rbp,rsp", "mov    QWORD PTR [rbp+0x8],rax", "pop    rbp"],
+        &["mov    rdx,rsp", "mov    QWORD PTR [rdx],rax"],
+        &["lea    rdx,[rsp-0x8]", "mov    QWORD PTR [rdx+0x8],rax"],
+        &["mov    rsp,rax"],
+        &["lea    rsp,[rax+0x8]"],
+        &["and    rsp,0xfffffffffffffff0"],
+        &["pop    rsp"],
+        &["pop    rdx"],
+        &["frobnicate"],
+    ];
+    for case in jumps {
+        assert!(returns_elsewhere(case), "{case:?}");
+    }
+}
+
+#[test]
+fn a_return_behind_what_a_function_puts_back_is_one() {
+    let frame = ["push   rbp", "mov    rbp,rsp"];
+    let returns: &[&[&str]] = &[
+        &["nop"],
+        &[frame[0], frame[1], "mov    QWORD PTR [rbp-0x8],rax", "pop    rbp"],
+        &[frame[0], frame[1], "sub    rsp,0x10", "call   1000 <f>", "leave"],
+        &[frame[0], frame[1], "push   rbx", "lea    rsp,[rbp-0x8]", "pop    rbx", "pop    rbp"],
+        &["sub    rsp,0x20", "mov    QWORD PTR [rsp+0x18],rax", "add    rsp,0x20"],
+        &["mov    QWORD PTR [rdi],rax"],
+        &["cmp    QWORD PTR [rsp],0x5"],
+        &["mov    rax,QWORD PTR [rsp]"],
+    ];
+    for case in returns {
+        assert!(!returns_elsewhere(case), "{case:?}");
+    }
+}
+
+#[test]
+fn code_that_is_not_shown_is_followed_to_a_line() {
+    let code =
+        function(&["31 c0 \txor    eax,eax"]) + "    1002:\t3d 85 ff 90 90 \tcmp    eax,0x1\n";
+    let code = code + "    1007:\t74 00 \tje     1009 <f+0x9>\n    1009:\tc3 \tret\n";
+    let text = text::read(&code).unwrap();
+    let decoded = |address, text: &str, moved| Decoded { address, text: text.to_string(), moved };
+    let followed = |lines: Vec<Decoded>| {
+        let mut outside = Outside::default();
+        let decode = |places: &[u64]| {
+            let run = Run { lines: lines.clone(), rest: None };
+            let is_start = |place: &u64| *place == 0x1003;
+            Ok(places
+                .iter()
+                .map(|p| if is_start(p) { run.clone() } else { Run::default() })
+                .collect())
+        };
+        hidden::follow(&text, &mut outside, vec![0x1003], &decode).unwrap();
+        outside
+    };
+    let to_line = vec![decoded(0x1003, "test   edi,edi", 0), decoded(0x1007, "je     0x1009", 0)];
+    assert_eq!(followed(to_line).possible, [0x1007]);
+    let outside = followed(vec![decoded(0x1003, "jmp    0x3009", 0x2000)]);
+    assert_eq!((outside.possible, outside.joins), (vec![0x1009], vec![(0x1003, 0x1009)]));
+    assert_eq!(followed(vec![decoded(0x1003, "jmp    rax", 0)]).opens, [0x1003]);
+    let pushed = vec![decoded(0x1003, "push   rax", 0), decoded(0x1004, "ret", 0)];
+    assert_eq!(followed(pushed).opens, [0x1004]);
+}
+
+#[test]
+fn lines_that_processors_read_otherwise_open_their_part() {
+    let every: Vec<u64> = (0x1000..0x1003).collect();
+    for line in ["(bad)", ".byte 0x3d", "data16 je 1000 <f>", "prefetch (bad)", "retw"] {
+        let code = function(&["nop", "nop", line]);
+        assert_eq!(starts(&text::read(&code).unwrap(), &Outside::default()), every, "{line}");
+    }
+    let code = function(&["66 66 48 e8 00 00 00 00 \tdata16 rex.W call 1000 <f>"]);
+    let text = text::read(&code).unwrap();
+    assert_eq!(control_flow::read(&text, &Outside::default()).unclear, []);
+    let code = function(&["66 0f 85 00 00 \tjne    1005 <f+0x5>"]);
+    let text = text::read(&code).unwrap();
+    assert_eq!(control_flow::read(&text, &Outside::default()).unclear, [0x1000]);
 }
 
 #[test]
@@ -342,17 +470,18 @@ fn long_functions_become_several_sheets() {
 
 #[test]
 fn a_sheet_has_the_blocks_of_its_function() {
-    let code = function(&["xor    eax,eax", "je     1003 <f+0x3>", "ret", "frobnicate", "ret"]);
+    let jump = "jmp    1000 <f>";
+    let code = function(&["xor    eax,eax", "je     1003 <f+0x3>", "ret", "frobnicate", jump]);
     let text = text::read(&code).unwrap();
     let mut counts = Counts::default();
     let parts = all_parts(&text, &mut counts);
     assert_eq!(parts.len(), 1);
     let due = "insn 0x1000 xor eax eax\ninsn 0x1001 je target 0x1003\ninsn 0x1002 other call\n\
-               insn 0x1003 other call\ninsn 0x1004 other call\n\
+               insn 0x1003 other call\ninsn 0x1004 other\n\
                block 0x1000 0x1002\nblock 0x1002 0x1003\nblock 0x1003 0x1005\n";
     assert_eq!(to_text::text(&parts[0].sheet), due);
     assert_eq!(counts.functions, 1);
-    assert_eq!(counts.calls, [("ret".to_string(), 2)].into());
+    assert_eq!(counts.calls, [("ret".to_string(), 1)].into());
     assert_eq!(counts.unknown, [("frobnicate".to_string(), 1)].into());
 }
 
@@ -380,7 +509,7 @@ fn a_file_tells_its_functions_and_landing_pads() {
 #[test]
 fn the_claims_are_what_the_rules_of_the_sheet_say() {
     let changed = |instruction: &str| {
-        let listed = listed(&Line { address: 0, text: instruction, after_gap: false });
+        let listed = listed(&Line { text: instruction, ..Line::default() });
         let Changes { registers, flags } = changes(&listed.instruction);
         (registers, flags)
     };

@@ -1,0 +1,27 @@
+# A pointer to code at an odd address in data.
+.intel_syntax noprefix
+.text
+.globl _start
+.type _start, @function
+_start:
+    mov ebx, [rsp]
+    dec ebx                         # 0 without arguments, 1 with one
+    call [rip + pointer]
+.size _start, . - _start
+
+.type f, @function
+f:
+    xor ebx, ebx
+.Lplace:
+    test ebx, ebx
+    mov edi, 10
+    je 1f
+    mov edi, 20
+1:  mov eax, 60
+    syscall
+.size f, . - f
+
+.data
+.balign 8
+    .byte 0
+pointer: .quad .Lplace

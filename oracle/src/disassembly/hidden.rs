@@ -1,0 +1,118 @@
+//! Code that is run and not shown: what starts between two lines of the text, or
+//! where it shows no instructions. It is decoded from each place that control may
+//! come to, as far as a line of the text; there a block starts. Both readings
+//! stand, and the branches of this one are not judged.
+
+use crate::disassembly::control_flow::{addresses, Outside, LONGEST};
+use crate::disassembly::instruction::{listed, Flow};
+use crate::disassembly::operand::parts;
+use crate::disassembly::returns;
+use crate::disassembly::text::{Disassembly, Line};
+use std::collections::HashSet;
+
+/// An instruction with its own address. Addresses in its text are those of a copy,
+/// and too high by `moved`.
+#[derive(Clone, Debug)]
+pub struct Decoded {
+    pub address: u64,
+    pub text: String,
+    pub moved: u64,
+}
+
+impl Decoded {
+    fn line(&self) -> Line<'_> {
+        Line { address: self.address, text: &self.text, ..Line::default() }
+    }
+}
+
+/// The instructions from a place on.
+#[derive(Clone, Debug, Default)]
+pub struct Run {
+    pub lines: Vec<Decoded>,
+    /// Where it goes on, if there is more of it.
+    pub rest: Option<u64>,
+}
+
+/// Decodes from each of some addresses; nothing where there are no bytes.
+pub type Decoder<'a> = dyn Fn(&[u64]) -> Result<Vec<Run>, String> + 'a;
+
+struct Follower<'a> {
+    text: &'a Disassembly<'a>,
+    outside: &'a mut Outside,
+    seen: HashSet<u64>,
+    waiting: Vec<u64>,
+}
+
+/// Adds to `outside` what runs from the places that are not lines of the text.
+pub fn follow(
+    text: &Disassembly,
+    outside: &mut Outside,
+    starts: Vec<u64>,
+    decode: &Decoder,
+) -> Result<(), String> {
+    let mut follower = Follower { text, outside, seen: HashSet::new(), waiting: Vec::new() };
+    starts.into_iter().for_each(|start| follower.reached(start));
+    while !follower.waiting.is_empty() {
+        let mut places = std::mem::take(&mut follower.waiting);
+        places.sort_unstable();
+        places.dedup();
+        let runs = decode(&places)?;
+        runs.iter().for_each(|run| follower.take(run));
+    }
+    Ok(())
+}
+
+impl Follower<'_> {
+    /// Control may come to this address.
+    fn reached(&mut self, address: u64) {
+        if self.text.line_at(address).is_ok() {
+            self.outside.possible.push(address);
+        } else if !self.seen.contains(&address) {
+            self.waiting.push(address);
+        }
+    }
+
+    fn take(&mut self, run: &Run) {
+        for (number, line) in run.lines.iter().enumerate() {
+            if self.text.line_at(line.address).is_ok() {
+                self.outside.possible.push(line.address);
+                return;
+            }
+            if !self.seen.insert(line.address) || !self.line(&run.lines[..=number]) {
+                return;
+            }
+        }
+        if let Some(rest) = run.rest {
+            self.reached(rest);
+        }
+    }
+
+    /// Takes the last of these lines; whether control goes on from it.
+    fn line(&mut self, lines: &[Decoded]) -> bool {
+        let last = &lines[lines.len() - 1];
+        let flow = listed(&last.line()).flow;
+        let addresses = addresses(&parts(&last.text), last.moved);
+        addresses.into_iter().for_each(|address| self.reached(address));
+        match flow {
+            Flow::Branch(target) | Flow::Jump(target) => {
+                self.outside.joins.push((last.address, target.wrapping_sub(last.moved)));
+            }
+            Flow::IndirectJump => self.outside.opens.push(last.address),
+            Flow::Ends if returns_elsewhere(lines) => self.outside.opens.push(last.address),
+            // The processor may run what objdump cannot decode, as an instruction of any
+            // length.
+            _ if last.text.contains("(bad)") => {
+                (1..=LONGEST).for_each(|size| self.reached(last.address.wrapping_add(size)));
+                return false;
+            }
+            _ => {}
+        }
+        matches!(flow, Flow::Next | Flow::Branch(_))
+    }
+}
+
+fn returns_elsewhere(lines: &[Decoded]) -> bool {
+    let lines: Vec<Line> = lines.iter().map(Decoded::line).collect();
+    let last = parts(lines[lines.len() - 1].text).mnemonic;
+    last == "ret" && returns::is_jump(&lines, |_| true, |_| false)
+}

@@ -1,0 +1,273 @@
+//! Whether a return is one, or a jump to an address that the code before it has
+//! put on the stack.
+//!
+//! From the return backwards, as far as control goes on from line to line, the
+//! place of the return address is followed as a distance from rsp, or from rbp
+//! where rsp is taken from it. The return is a jump if something is pushed or
+//! stored in that place, if the distance is lost, or if it is not 0 at the start
+//! of a function.
+
+use crate::disassembly::instruction::{listed, Standing};
+use crate::disassembly::operand::{general, parts, Operand, Parts};
+use crate::disassembly::steps::changes;
+use crate::disassembly::table::{is_string, RBP, RDI, RSP};
+use crate::disassembly::text::Line;
+
+/// An address relative to a register; no offset where an index is added.
+#[derive(Clone, Copy, Debug, PartialEq, Eq)]
+struct Place {
+    base: u8,
+    offset: Option<i64>,
+}
+
+#[derive(Clone, Copy, Debug)]
+struct Store {
+    place: Place,
+    size: i64,
+}
+
+impl Store {
+    /// Whether it may write to the eight bytes at `offset` from the same base.
+    fn reaches(&self, offset: i64) -> bool {
+        let Some(at) = self.place.offset else {
+            return true;
+        };
+        at < offset.saturating_add(8) && offset < at.saturating_add(self.size)
+    }
+}
+
+/// Where the return address is, before a line.
+struct Slot {
+    base: u8,
+    offset: i64,
+    /// The saved rbp is right below it: rbp + 8 is its place if rbp is the frame's.
+    frame: bool,
+    /// What later lines store relative to other registers.
+    stores: Vec<Store>,
+}
+
+/// The return address's place is lost, or something else is stored there.
+struct Jump;
+
+const PUSHES: &[&str] = &["push", "pushf", "pushfq"];
+const POPS: &[&str] = &["pop", "popf", "popfq"];
+
+/// Instructions that read their first operand, or address it only.
+const READERS: &[&str] = &[
+    "cmp", "test", "bt", "mul", "imul", "div", "idiv", "nop", "call", "jmp", "push", "comiss",
+    "comisd", "ucomiss", "ucomisd", "vcomiss", "vcomisd", "vucomiss", "vucomisd", "ptest",
+    "vptest", "ldmxcsr", "vldmxcsr", "fld", "fild", "fldcw", "fldenv", "frstor", "fadd", "fiadd",
+    "fsub", "fisub", "fsubr", "fisubr", "fmul", "fimul", "fdiv", "fidiv", "fdivr", "fidivr",
+    "fcom", "fcomp", "ficom", "ficomp",
+];
+
+/// Whether the return at the end of `lines` is a jump. `goes_on` says of a line's
+/// number whether control goes on from it to the next, `starts` whether a known
+/// function starts at an address.
+pub fn is_jump(
+    lines: &[Line],
+    goes_on: impl Fn(usize) -> bool,
+    starts: impl Fn(u64) -> bool,
+) -> bool {
+    let mut slot = Slot { base: RSP, offset: 0, frame: false, stores: Vec::new() };
+    let mut number = lines.len() - 1;
+    loop {
+        let at_start = starts(lines[number].address);
+        if at_start && (slot.base, slot.offset) != (RSP, 0) {
+            return true;
+        }
+        if number == 0 || lines[number].after_gap || !goes_on(number - 1) {
+            return false;
+        }
+        number -= 1;
+        if slot.before(&lines[number]).is_err() {
+            return true;
+        }
+    }
+}
+
+impl Slot {
+    /// Goes back over a line.
+    fn before(&mut self, line: &Line) -> Result<(), Jump> {
+        let parts = parts(line.text);
+        let listed = listed(line);
+        if let Standing::Unknown(_) = listed.standing {
+            return Err(Jump);
+        }
+        if listed.instruction.call_like {
+            // What is called, or the system, leaves rsp and rbp as they were, and may
+            // write below the stack.
+            return if self.base == RSP && self.offset < 0 { Err(Jump) } else { Ok(()) };
+        }
+        stores(&parts).into_iter().try_for_each(|store| self.store(store))?;
+        self.addresses(&parts)?;
+        let written = changes(&listed.instruction).registers;
+        self.stores.retain(|store| written >> store.place.base & 1 == 0);
+        if written >> RSP & 1 != 0 {
+            self.moved(&parts)?;
+        } else if written >> RBP & 1 != 0 {
+            self.frame_set(&parts)?;
+        }
+        Ok(())
+    }
+
+    fn store(&mut self, store: Store) -> Result<(), Jump> {
+        let base = store.place.base;
+        let in_frame = self.frame && base == RBP && store.reaches(8);
+        if in_frame || (base == self.base && store.reaches(self.offset)) {
+            return Err(Jump);
+        }
+        if base != RSP && base != RBP {
+            self.stores.push(store);
+        }
+        Ok(())
+    }
+
+    /// A register takes an address of the stack, and something is stored through it.
+    fn addresses(&mut self, parts: &Parts) -> Result<(), Jump> {
+        let [Operand::General(to), _] = parts.operands[..] else {
+            return Ok(());
+        };
+        let from = source(parts).filter(|from| from.base == self.base);
+        let (Some(from), true) = (from, ![RSP, RBP].contains(&to.index)) else {
+            return Ok(());
+        };
+        let into = self.stores.iter().filter(|store| store.place.base == to.index);
+        let reaches = |store: &Store| match from.offset {
+            Some(offset) => store.reaches(self.offset.wrapping_sub(offset)),
+            None => true,
+        };
+        if into.into_iter().any(reaches) {
+            return Err(Jump);
+        }
+        Ok(())
+    }
+
+    /// Goes back over a change of rsp.
+    fn moved(&mut self, parts: &Parts) -> Result<(), Jump> {
+        let name = parts.mnemonic;
+        if name == "leave" && self.base == RSP {
+            return self.rebase(Place { base: RBP, offset: Some(8) });
+        }
+        if PUSHES.contains(&name) || POPS.contains(&name) {
+            return self.pushed(parts);
+        }
+        if self.base != RSP {
+            return Ok(());
+        }
+        match (name, parts.operands.as_slice()) {
+            ("add", [_, Operand::Immediate(by)]) => self.by(*by as i64),
+            ("sub", [_, Operand::Immediate(by)]) => self.by((*by as i64).wrapping_neg()),
+            ("mov" | "lea", [Operand::General(to), _]) if to.size == 64 => {
+                self.rebase(source(parts).ok_or(Jump)?)
+            }
+            _ => Err(Jump),
+        }
+    }
+
+    fn pushed(&mut self, parts: &Parts) -> Result<(), Jump> {
+        let short = parts.words.first().is_some_and(|word| {
+            word.starts_with("WORD") || general(word).is_some_and(|register| register.size == 16)
+        });
+        let to = match parts.operands.first() {
+            Some(Operand::General(register)) => Some(register.index),
+            _ => None,
+        };
+        if PUSHES.contains(&parts.mnemonic) {
+            let size = if short { 2 } else { 8 };
+            let store = Store { place: Place { base: RSP, offset: Some(0) }, size };
+            self.store(store)?;
+            return if self.base == RSP { self.by(-size) } else { Ok(()) };
+        }
+        if to == Some(RSP) || (to == Some(RBP) && self.base == RBP) {
+            return Err(Jump);
+        }
+        if to == Some(RBP) {
+            self.frame = self.base == RSP && self.offset == 0;
+        }
+        match self.base {
+            RSP => self.by(if short { 2 } else { 8 }),
+            _ => Ok(()),
+        }
+    }
+
+    /// Goes back over a change of rbp alone.
+    fn frame_set(&mut self, parts: &Parts) -> Result<(), Jump> {
+        self.frame = false;
+        match (self.base, parts.mnemonic) {
+            (RBP, "mov" | "lea") => self.rebase(source(parts).ok_or(Jump)?),
+            (RBP, _) => Err(Jump),
+            _ => Ok(()),
+        }
+    }
+
+    fn by(&mut self, distance: i64) -> Result<(), Jump> {
+        self.offset = self.offset.checked_add(distance).ok_or(Jump)?;
+        Ok(())
+    }
+
+    /// The base is worked out from another register, by its place.
+    fn rebase(&mut self, from: Place) -> Result<(), Jump> {
+        if from.base != RSP && from.base != RBP {
+            return Err(Jump);
+        }
+        self.base = from.base;
+        self.by(from.offset.ok_or(Jump)?)
+    }
+}
+
+/// The address that a mov of a register or a lea gives.
+fn source(parts: &Parts) -> Option<Place> {
+    match (parts.mnemonic, parts.operands.as_slice(), parts.words.as_slice()) {
+        ("mov", [_, Operand::General(register)], _) if register.size == 64 => {
+            Some(Place { base: register.index, offset: Some(0) })
+        }
+        ("lea", [_, Operand::Memory], [_, word]) => place(word),
+        _ => None,
+    }
+}
+
+/// What an instruction stores relative to a register.
+fn stores(parts: &Parts) -> Vec<Store> {
+    if is_string(parts.mnemonic) {
+        let place = Place { base: RDI, offset: None };
+        return vec![Store { place, size: 1 }];
+    }
+    let written = match parts.mnemonic {
+        name if READERS.contains(&name) || name.starts_with("prefetch") => 0,
+        "xchg" | "xadd" => 2,
+        _ => 1,
+    };
+    let words = parts.words.iter().take(written).filter(|word| word.contains('['));
+    words.filter_map(|word| Some(Store { place: place(word)?, size: size(word) })).collect()
+}
+
+/// How many bytes are written: as the operand says, or as many as may be.
+fn size(word: &str) -> i64 {
+    match word.split_once(" PTR ").map_or("", |(name, _)| name) {
+        "BYTE" => 1,
+        "WORD" => 2,
+        "DWORD" => 4,
+        "QWORD" => 8,
+        "XMMWORD" => 16,
+        "YMMWORD" => 32,
+        "ZMMWORD" => 64,
+        _ => 1_024,
+    }
+}
+
+/// The place of an operand in memory, by its text: `[rsp+rax*8-0x8]`.
+fn place(word: &str) -> Option<Place> {
+    let inside = word.split_once('[')?.1.split(']').next()?;
+    let end = inside.find(['+', '-', '*']).unwrap_or(inside.len());
+    let base = general(&inside[..end]).filter(|base| base.size >= 32)?.index;
+    let rest = &inside[end..];
+    let number = |digits: &str| i64::from_str_radix(digits, 16).ok();
+    let offset = match (rest.strip_prefix("+0x"), rest.strip_prefix("-0x")) {
+        _ if rest.is_empty() => Some(0),
+        (Some(digits), _) => number(digits),
+        (_, Some(digits)) => number(digits).map(i64::wrapping_neg),
+        _ => None,
+    };
+    Some(Place { base, offset })
+}
