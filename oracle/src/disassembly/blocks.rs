@@ -27,7 +27,7 @@ pub fn leaders(text: &Disassembly, control: &ControlFlow, outside: &Outside) -> 
     }
     for (number, line) in text.lines.iter().enumerate() {
         let goes_on = number > 0 && control.steps[number - 1].flow == Flow::Next;
-        if !goes_on || line.after_gap {
+        if !goes_on || line.after_gap || line.text.starts_with("endbr") {
             leads[number] = true;
         }
     }

@@ -8,7 +8,7 @@ use crate::disassembly::judge::{Decided, Program};
 use crate::disassembly::operand::parts;
 use crate::disassembly::sheets::{self, Counts, FunctionSheet};
 use crate::disassembly::text::{self, Disassembly, Label};
-use crate::disassembly::{hidden, objdump, pointers, steps, unwinding};
+use crate::disassembly::{assumptions, hidden, objdump, pointers, steps, unwinding};
 use crate::sheets::encode::encode;
 use crate::sheets::syntax::Sheet;
 use std::collections::BTreeMap;
@@ -85,6 +85,9 @@ fn add_hidden(
 const TEXT_ALONE: &str = "from the text alone: landing pads, tables and pointers to code, and \
     whether the file is linked, are not known";
 
+const NO_BYTES: &str = "without the bytes of instructions (--show-raw-insn): data among the \
+    code, what is left out, and prefixes that are not shown, are not known";
+
 /// Lists the source; true unless a program and the given source differ.
 pub fn list(job: &Job) -> Result<bool, String> {
     match job.source {
@@ -98,8 +101,13 @@ fn list_text(job: &Job, path: &str) -> Result<bool, String> {
     let text = String::from_utf8_lossy(&bytes);
     let text = text::read(&text)?;
     say(TEXT_ALONE)?;
-    let outside = Outside::default();
+    if !text.with_bytes {
+        say(NO_BYTES)?;
+    }
+    let mut outside = Outside::default();
     let control = control_flow::read(&text, &outside);
+    outside.opens = unseen(&text, &control);
+    assumptions::stated(&text, &control).into_iter().try_for_each(say)?;
     judged(job, &text, &leaders(&text, &control, &outside))
 }
 
@@ -112,7 +120,14 @@ fn list_file(job: &Job, path: &str) -> Result<bool, String> {
     let control = control_flow::read(&text, &outside);
     add_tables(&file, &control, &mut outside);
     add_hidden(&file, &text, &control, &mut outside)?;
+    assumptions::stated(&text, &control).into_iter().try_for_each(say)?;
     judged(job, &text, &leaders(&text, &control, &outside))
+}
+
+/// Places among the lines where code may run that they do not show.
+fn unseen(text: &Disassembly, control: &ControlFlow) -> Vec<u64> {
+    let places = control.named.iter().chain(&control.unseen).copied();
+    places.filter(|place| text.reaches(*place) && text.line_at(*place).is_err()).collect()
 }
 
 /// What objdump writes of a file, or of a copy where it is the standard input.

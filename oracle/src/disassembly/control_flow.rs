@@ -106,10 +106,12 @@ pub fn addresses(parts: &Parts, moved: u64) -> Vec<u64> {
     immediates.chain(worked_out).collect()
 }
 
-/// Bytes that objdump cannot decode, and near branches with 66 before them, whose
-/// length and target depend on the processor.
+/// Bytes that objdump cannot decode, prefixes with no instruction behind them, and
+/// near branches with 66 before them, whose length and target depend on the
+/// processor.
 fn is_unclear(line: &Line, parts: &Parts) -> bool {
-    line.text.contains("(bad)") || parts.mnemonic == ".byte" || is_short_branch(line, parts)
+    let no_code = line.text.contains("(bad)") || ["", ".byte"].contains(&parts.mnemonic);
+    no_code || is_short_branch(line, parts)
 }
 
 fn is_short_branch(line: &Line, parts: &Parts) -> bool {

@@ -9,6 +9,8 @@ pub struct Section<'a> {
     pub address: u64,
     pub bytes: &'a [u8],
     pub size: u64,
+    /// The number of a section that belongs to it: the symbols of relocations.
+    pub link: usize,
 }
 
 /// What is loaded to be run: code, and whatever else stands beside it.
@@ -33,6 +35,7 @@ const LOADED: u64 = 1;
 const RUN: u64 = 1;
 
 const SYMBOLS: [u32; 2] = [2, 11];
+const RELOCATIONS: u32 = 4;
 const NO_BYTES: u32 = 8;
 const DYNAMIC: u32 = 6;
 
@@ -135,6 +138,7 @@ fn section<'a>(bytes: &'a [u8], at: u64, names: &'a [u8]) -> Option<Section<'a>>
         address: number(bytes, at + 16, 8)?,
         bytes: contents(bytes, at)?,
         size: number(bytes, at + 32, 8)?,
+        link: number(bytes, at + 40, 4)? as usize,
     })
 }
 
@@ -172,6 +176,21 @@ impl<'a> File<'a> {
     fn symbols(&self) -> impl Iterator<Item = &'a [u8]> + '_ {
         let tables = self.sections.iter().filter(|section| SYMBOLS.contains(&section.kind));
         tables.flat_map(|table| table.bytes.chunks_exact(24))
+    }
+
+    /// What relocations with addends store: the addend, or a symbol's address with it.
+    pub fn relocated(&self) -> Vec<u64> {
+        let tables = self.sections.iter().filter(|section| section.kind == RELOCATIONS);
+        let entries = tables.flat_map(|table| {
+            let symbols = self.sections.get(table.link).map_or(&[][..], |section| section.bytes);
+            table.bytes.chunks_exact(24).map(move |entry| (symbols, entry))
+        });
+        let stored = entries.filter_map(|(symbols, entry)| {
+            let symbol = number(entry, 12, 4)?.checked_mul(24)?.checked_add(8)?;
+            let addend = number(entry, 16, 8)?;
+            Some([addend, addend.wrapping_add(number(symbols, symbol, 8).unwrap_or(0))])
+        });
+        stored.flatten().collect()
     }
 
     /// The addresses of the symbols that are defined here, whatever their type.

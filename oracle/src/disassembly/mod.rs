@@ -2,6 +2,7 @@
 //! branches of a program. docs/LISTER.md says what has to be right here for the
 //! verdicts to be true of the program.
 
+pub mod assumptions;
 pub mod blocks;
 pub mod command;
 pub mod control_flow;

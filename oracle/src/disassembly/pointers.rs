@@ -4,15 +4,12 @@
 
 use crate::disassembly::elf::{number, File, Section, Span};
 
-/// Relocations that store an address.
-const RELOCATIONS: u32 = 4;
-
 fn in_code(code: &[Span], address: u64) -> bool {
     code.iter().any(|span| span.holds(address))
 }
 
-/// Every number in what is loaded, and every addend of a relocation, that is an
-/// address of code: of 8 bytes, and of 4 where the file is loaded where it says.
+/// Every number in what is loaded, or stored by a relocation, that is an address of
+/// code: of 8 bytes, and of 4 where the file is loaded where it says.
 pub fn stored(file: &File, code: &[Span]) -> Vec<u64> {
     let sizes: &[usize] = if file.movable { &[8] } else { &[8, 4] };
     let mut found = Vec::new();
@@ -22,10 +19,8 @@ pub fn stored(file: &File, code: &[Span]) -> Vec<u64> {
             found.extend(numbers.filter(|address| in_code(code, *address)));
         }
     }
-    let tables = file.sections.iter().filter(|section| section.kind == RELOCATIONS);
-    let entries = tables.flat_map(|section| section.bytes.chunks_exact(24));
-    let addends = entries.filter_map(|entry| number(entry, 16, 8));
-    found.extend(addends.filter(|address| in_code(code, *address)));
+    let relocated = file.relocated().into_iter();
+    found.extend(relocated.filter(|address| in_code(code, *address)));
     found.sort_unstable();
     found.dedup();
     found

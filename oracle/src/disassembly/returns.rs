@@ -20,6 +20,13 @@ struct Place {
     offset: Option<i64>,
 }
 
+impl Place {
+    fn plus(self, offset: Option<i64>) -> Place {
+        let sum = self.offset.zip(offset).and_then(|(a, b)| a.checked_add(b));
+        Place { base: self.base, offset: sum }
+    }
+}
+
 #[derive(Clone, Copy, Debug)]
 struct Store {
     place: Place,
@@ -61,6 +68,9 @@ const READERS: &[&str] = &[
     "fcom", "fcomp", "ficom", "ficomp",
 ];
 
+/// Instructions that change an address by some distance.
+const CHANGES: &[&str] = &["add", "sub", "inc", "dec", "and", "or"];
+
 /// Whether the return at the end of `lines` is a jump. `goes_on` says of a line's
 /// number whether control goes on from it to the next, `starts` whether a known
 /// function starts at an address.
@@ -100,11 +110,10 @@ impl Slot {
             return if self.base == RSP && self.offset < 0 { Err(Jump) } else { Ok(()) };
         }
         stores(&parts).into_iter().try_for_each(|store| self.store(store))?;
-        self.addresses(&parts)?;
         let written = changes(&listed.instruction).registers;
-        self.stores.retain(|store| written >> store.place.base & 1 == 0);
+        self.through(&parts, written)?;
         if written >> RSP & 1 != 0 {
-            self.moved(&parts)?;
+            self.moved(&parts, written >> RBP & 1 != 0)?;
         } else if written >> RBP & 1 != 0 {
             self.frame_set(&parts)?;
         }
@@ -123,28 +132,26 @@ impl Slot {
         Ok(())
     }
 
-    /// A register takes an address of the stack, and something is stored through it.
-    fn addresses(&mut self, parts: &Parts) -> Result<(), Jump> {
-        let [Operand::General(to), _] = parts.operands[..] else {
-            return Ok(());
-        };
-        let from = source(parts).filter(|from| from.base == self.base);
-        let (Some(from), true) = (from, ![RSP, RBP].contains(&to.index)) else {
-            return Ok(());
-        };
-        let into = self.stores.iter().filter(|store| store.place.base == to.index);
-        let reaches = |store: &Store| match from.offset {
-            Some(offset) => store.reaches(self.offset.wrapping_sub(offset)),
-            None => true,
-        };
-        if into.into_iter().any(reaches) {
-            return Err(Jump);
+    /// Stores through registers that this line writes: it may give them an address of
+    /// the stack.
+    fn through(&mut self, parts: &Parts, written: u16) -> Result<(), Jump> {
+        let from = source(parts);
+        for mut store in std::mem::take(&mut self.stores) {
+            let Place { base, offset } = store.place;
+            if written >> base & 1 != 0 {
+                store.place = match from {
+                    Some(from) => from.plus(offset),
+                    None if CHANGES.contains(&parts.mnemonic) => Place { base, offset: None },
+                    None => continue,
+                };
+            }
+            self.store(store)?;
         }
         Ok(())
     }
 
     /// Goes back over a change of rsp.
-    fn moved(&mut self, parts: &Parts) -> Result<(), Jump> {
+    fn moved(&mut self, parts: &Parts, frame: bool) -> Result<(), Jump> {
         let name = parts.mnemonic;
         if name == "leave" && self.base == RSP {
             return self.rebase(Place { base: RBP, offset: Some(8) });
@@ -152,8 +159,9 @@ impl Slot {
         if PUSHES.contains(&name) || POPS.contains(&name) {
             return self.pushed(parts);
         }
+        self.frame &= !frame;
         if self.base != RSP {
-            return Ok(());
+            return if frame { Err(Jump) } else { Ok(()) };
         }
         match (name, parts.operands.as_slice()) {
             ("add", [_, Operand::Immediate(by)]) => self.by(*by as i64),

@@ -2,7 +2,7 @@
 
 use crate::disassembly::blocks::leaders;
 use crate::disassembly::control_flow::{self, Outside};
-use crate::disassembly::elf::{self, Span};
+use crate::disassembly::elf::{self, File, Section, Segment, Span};
 use crate::disassembly::hidden::{self, Decoded, Run};
 use crate::disassembly::instruction::{listed, Flow, Standing};
 use crate::disassembly::judge::of_listing;
@@ -277,6 +277,9 @@ fn a_return_to_what_was_put_on_the_stack_is_a_jump() {
         &["push   rbp", "mov    rbp,rsp", "mov    QWORD PTR [rbp+0x8],rax", "pop    rbp"],
         &["mov    rdx,rsp", "mov    QWORD PTR [rdx],rax"],
         &["lea    rdx,[rsp-0x8]", "mov    QWORD PTR [rdx+0x8],rax"],
+        &["mov    rdx,rsp", "mov    rcx,rdx", "mov    QWORD PTR [rcx],rax"],
+        &["mov    rdx,rsp", "add    rdx,rcx", "mov    QWORD PTR [rdx+0x40],rax"],
+        &["leave", "leave"],
         &["mov    rsp,rax"],
         &["lea    rsp,[rax+0x8]"],
         &["and    rsp,0xfffffffffffffff0"],
@@ -299,6 +302,8 @@ fn a_return_behind_what_a_function_puts_back_is_one() {
         &[frame[0], frame[1], "push   rbx", "lea    rsp,[rbp-0x8]", "pop    rbx", "pop    rbp"],
         &["sub    rsp,0x20", "mov    QWORD PTR [rsp+0x18],rax", "add    rsp,0x20"],
         &["mov    QWORD PTR [rdi],rax"],
+        &["lea    rdx,[rsp-0x10]", "mov    QWORD PTR [rdx+0x8],rax"],
+        &["mov    rdx,rsp", "mov    rdx,rdi", "mov    QWORD PTR [rdx],rax"],
         &["cmp    QWORD PTR [rsp],0x5"],
         &["mov    rax,QWORD PTR [rsp]"],
     ];
@@ -339,7 +344,7 @@ fn code_that_is_not_shown_is_followed_to_a_line() {
 #[test]
 fn lines_that_processors_read_otherwise_open_their_part() {
     let every: Vec<u64> = (0x1000..0x1003).collect();
-    for line in ["(bad)", ".byte 0x3d", "data16 je 1000 <f>", "prefetch (bad)", "retw"] {
+    for line in ["(bad)", ".byte 0x3d", "data16 je 1000 <f>", "prefetch (bad)", "retw", "rex.W"] {
         let code = function(&["nop", "nop", line]);
         assert_eq!(starts(&text::read(&code).unwrap(), &Outside::default()), every, "{line}");
     }
@@ -504,6 +509,27 @@ fn a_file_tells_its_functions_and_landing_pads() {
     };
     assert!(unwinding.pads.iter().all(covered));
     assert!(pointers::stored(&file, &code).iter().any(|address| covered(address)));
+}
+
+/// A section with an address and bytes.
+fn section<'a>(name: &'a str, address: u64, bytes: &'a [u8]) -> Section<'a> {
+    let size = bytes.len() as u64;
+    Section { name, kind: 1, flags: 2, address, bytes, size, link: 0 }
+}
+
+#[test]
+fn pointers_are_found_wherever_they_stand() {
+    let bytes = [0, 0x34, 0x12, 0, 0, 0, 0, 0, 0, 7, 0x35, 0x12, 0, 0, 7];
+    let segment = Segment { address: 0x1230, bytes: &[0; 8] };
+    let sections = vec![section(".data", 0x2000, &bytes), section(".eh_frame", 0x3000, &[])];
+    let mut file = File { entry: 0, movable: true, sections, segments: vec![segment] };
+    assert_eq!(pointers::stored(&file, &file.code()), [0x1234]);
+    file.movable = false;
+    assert_eq!(pointers::stored(&file, &file.code()), [0x1234, 0x1235]);
+    // An empty table for unwinding is none.
+    assert!(unwinding::read(&file).is_some_and(|unwinding| unwinding.functions.is_empty()));
+    file.segments[0].bytes = &[0x90, 0xf3, 0x0f, 0x1e, 0xfa, 0xf3, 0x0f, 0x1e];
+    assert_eq!(pointers::marked(&file), [0x1231]);
 }
 
 #[test]
