@@ -37,7 +37,11 @@ same-length : tie.Need-same-length
 same-length c = search needs
 
 returns : tie.Need-returns
-returns c = attempt-done (c .before .before .before .before .before .before .before .before .before .before .before .list-in .result) _ _ _ (c .before .before .before .before .before .before .before .before .before .before .before .before .before .before .before .before .before .before .before .before .before .before .args .list .now) _ (c .before .before .before .before .before .before .before .before .before .before .before .list-in .ensures) (c .before .attempt .given .1)
+returns c =
+    let at-attempt = c .before in
+    let at-list-in = at-attempt .before .before .before .before .before .before .before .before .before .before in
+    let at-start = at-list-in .before .before .before .before .before .before .before .before .before .before .before in
+    attempt-done (at-list-in .list-in .result) _ _ _ (at-start .args .list .now) _ (at-list-in .list-in .ensures) (at-attempt .attempt .given .1)
 
 same-length-2 : tie.Need-same-length-2
 same-length-2 c = search needs

@@ -24,19 +24,28 @@ slice-aggregate-judge-2 : tie.Need-slice-aggregate-judge-2
 slice-aggregate-judge-2 c = sym (length-take-le _ _ (c .before .before .before .before .before .before .before .before .before .before .before .before .before .before .pre .1 .1 .0 .1 .room))
 
 slice-aggregate-judge-3 : tie.Need-slice-aggregate-judge-3
-slice-aggregate-judge-3 c = sym (length-take-le _ _ (c .before .before .before .before .before .before .before .before .before .before .before .before .before .before .before .pre .1 .1 .1 .0 .room))
+slice-aggregate-judge-3 c =
+    let at-start = c .before .before .before .before .before .before .before .before .before .before .before .before .before .before .before in
+    sym (length-take-le _ _ (at-start .pre .1 .1 .1 .0 .room))
 
 judge-requires : tie.Need-judge-requires
-judge-requires c κs = (c .before .before .before .before .before .before .before .before .before .before .before .before .before .before .before .before .pre .0, (record { addresses = c .before .before .before .before .before .before .before .before .before .before .before .before .before .before .before .before .pre .1 .0 .0 .are; branches = c .before .before .before .before .before .before .before .before .before .before .before .before .before .before .before .before .pre .1 .1 .0 .1 .are; rising = rw (c .before .before .before .before .before .before .before .before .before .before .before .before .before .before .before .before .pre .1 .0 .0 .are) (addresses-rise (c .before .before .before .before .before .before .before .before .before .before .before .before .before .before .before .before .args .s .now) (c .before .before .before .before .before .before .before .before .before .before .before .before .before .before .before .before .args .sheet) (c .before .before .before .before .before .before .before .before .before .before .before .before .before .before .before .before .pre .0)) }, ((c .before .before .before .before .before .before .before .before .before .before .before .before .before .before .before .before .pre .1 .0 .1 .are, c .before .before .before .before .before .before .before .before .before .before .before .before .before .before .before .before .pre .1 .1 .1 .0 .are), slots-front (c .before .before .before .before .before .before .before .before .before .before .before .before .before .before .before .before .pre .1 .1 .1 .1) (sheetAt (c .before .before .before .before .before .before .before .before .before .before .before .before .before .before .before .before .args .s .now) .instructions .list) (instructions-count (c .before .before .before .before .before .before .before .before .before .before .before .before .before .before .before .before .args .s .now) (c .before .before .before .before .before .before .before .before .before .before .before .before .before .before .before .before .args .sheet) (c .before .before .before .before .before .before .before .before .before .before .before .before .before .before .before .before .pre .0)))))
+judge-requires c κs =
+    let at-start = c .before .before .before .before .before .before .before .before .before .before .before .before .before .before .before .before in
+    (at-start .pre .0, (record { addresses = at-start .pre .1 .0 .0 .are; branches = at-start .pre .1 .1 .0 .1 .are; rising = rw (at-start .pre .1 .0 .0 .are) (addresses-rise (at-start .args .s .now) (at-start .args .sheet) (at-start .pre .0)) }, ((at-start .pre .1 .0 .1 .are, at-start .pre .1 .1 .1 .0 .are), slots-front (at-start .pre .1 .1 .1 .1) (sheetAt (at-start .args .s .now) .instructions .list) (instructions-count (at-start .args .s .now) (at-start .args .sheet) (at-start .pre .0)))))
 
 enum-told : tie.Need-enum-told
 enum-told c = search needs
 
 slice-aggregate-write-lines : tie.Need-slice-aggregate-write-lines
-slice-aggregate-write-lines c = sym (length-take-le _ _ (c .before .before .before .before .before .before .before .before .before .before .before .before .before .before .before .before .before .before .before .before .before .before .pre .1 .1 .0 .0 .room))
+slice-aggregate-write-lines c =
+    let at-start = c .before .before .before .before .before .before .before .before .before .before .before .before .before .before .before .before .before .before .before .before .before .before in
+    sym (length-take-le _ _ (at-start .pre .1 .1 .0 .0 .room))
 
 write-lines-requires : tie.Need-write-lines-requires
-write-lines-requires c κs = (length-take-le _ _ (c .before .before .before .before .before .before .before .before .before .before .before .before .before .before .before .before .before .before .before .before .before .before .before .before .pre .1 .0 .0 .room) ∙ sym (c .before .before .before .before .before .before .before .judge .kept .1 .1 .1 .1 .1 .1 .0 ∙ sym (slots-count (c .before .before .before .before .before .before .before .before .before .before .before .before .before .before .before .before .before .before .before .before .before .before .before .before .pre .1 .1 .1 .1))), length-take-le _ _ (c .before .before .before .before .before .before .before .before .before .before .before .before .before .before .before .before .before .before .before .before .before .before .before .before .pre .1 .1 .0 .0 .room) ∙ sym (c .before .before .before .before .before .before .before .judge .kept .1 .1 .1 .1 .1 .1 .0 ∙ sym (slots-count (c .before .before .before .before .before .before .before .before .before .before .before .before .before .before .before .before .before .before .before .before .before .before .before .before .pre .1 .1 .1 .1))))
+write-lines-requires c κs =
+    let at-judge = c .before .before .before .before .before .before .before in
+    let at-start = at-judge .before .before .before .before .before .before .before .before .before .before .before .before .before .before .before .before .before in
+    (length-take-le _ _ (at-start .pre .1 .0 .0 .room) ∙ sym (at-judge .judge .kept .1 .1 .1 .1 .1 .1 .0 ∙ sym (slots-count (at-start .pre .1 .1 .1 .1))), length-take-le _ _ (at-start .pre .1 .1 .0 .0 .room) ∙ sym (at-judge .judge .kept .1 .1 .1 .1 .1 .1 .0 ∙ sym (slots-count (at-start .pre .1 .1 .1 .1))))
 
 enum-known-reached : tie.Need-enum-known-reached
 enum-known-reached c = search needs
@@ -48,13 +57,22 @@ same-length-2 : tie.Need-same-length-2
 same-length-2 c = search needs
 
 returns : tie.Need-returns
-returns c = listed-through (c .before .before .before .before .before .before .before .before .before .before .before .before .before .before .before .before .before .before .before .before .before .before .before .before .before .before .before .before .before .args .s .now) (judgedUpTo (c .before .before .before .before .before .before .before .before .before .before .before .before .before .before .before .before .before .before .before .before .before .before .before .before .before .before .before .before .before .args .s .now) (c .before .before .before .before .before .before .before .before .before .before .before .before .before .before .before .before .before .before .before .before .before .before .before .before .before .before .before .before .before .args .sheet .blocks .count) (c .before .before .before .before .before .before .before .before .before .before .before .before .before .before .before .before .before .before .before .before .before .before .before .before .before .before .before .before .before .args .sheet .nodes .count)) (c .before .before .before .before .before .before .before .before .before .before .before .before .judge .last .1 .1 .1 .1 .1 .1 .0) (c .before .before .before .before .write-lines .result) (c .before .before .before .before .write-lines .last .1 .1 .1 .1 .0) (c .before .before .before .before .before .before .before .before .before .before .before .before .before .before .before .before .before .before .before .before .before .before .before .before .before .before .before .before .before .args .list .now) (c .before .before .before .before .before .before .before .before .before .before .before .before .before .before .before .before .before .before .before .before .before .before .before .before .before .before .before .before .before .pre .1 .0 .0 .are) (c .before .before .before .before .before .before .before .before .before .before .before .before .before .before .before .before .before .before .before .before .before .before .before .before .before .before .before .before .before .pre .1 .1 .0 .0 .are) (rw (c .before .before .before .before .before .before .before .before .enum-told .given .1) at (c .before .before .before .before .before .before .before .before .before .before .before .before .judge .ensures)) (c .before .before .before .before .write-lines .ensures)
+returns c =
+    let at-write-lines = c .before .before .before .before in
+    let at-enum-told = at-write-lines .before .before .before .before in
+    let at-judge = at-enum-told .before .before .before .before in
+    let at-start = at-judge .before .before .before .before .before .before .before .before .before .before .before .before .before .before .before .before .before in
+    listed-through (at-start .args .s .now) (judgedUpTo (at-start .args .s .now) (at-start .args .sheet .blocks .count) (at-start .args .sheet .nodes .count)) (at-judge .judge .last .1 .1 .1 .1 .1 .1 .0) (at-write-lines .write-lines .result) (at-write-lines .write-lines .last .1 .1 .1 .1 .0) (at-start .args .list .now) (at-start .pre .1 .0 .0 .are) (at-start .pre .1 .1 .0 .0 .are) (rw (at-enum-told .enum-told .given .1) at (at-judge .judge .ensures)) (at-write-lines .write-lines .ensures)
 
 same-length-3 : tie.Need-same-length-3
 same-length-3 c = search needs
 
 returns-2 : tie.Need-returns-2
-returns-2 c = listed-refused (c .before .before .before .before .before .before .before .before .before .before .before .before .before .before .before .before .before .before .before .before .before .before .before .before .args .s .now) (judgedUpTo (c .before .before .before .before .before .before .before .before .before .before .before .before .before .before .before .before .before .before .before .before .before .before .before .before .args .s .now) (c .before .before .before .before .before .before .before .before .before .before .before .before .before .before .before .before .before .before .before .before .before .before .before .before .args .sheet .blocks .count) (c .before .before .before .before .before .before .before .before .before .before .before .before .before .before .before .before .before .before .before .before .before .before .before .before .args .sheet .nodes .count)) (c .before .before .before .before .before .before .before .judge .last .1 .1 .1 .1 .1 .1 .0) (c .before .before .before .reached .given .0 .0) (c .before .before .before .reached .given .0 .1 .0) (c .before .before .before .before .before .before .before .before .before .before .before .before .before .before .before .before .before .before .before .before .before .before .before .before .args .list .now) (rw (c .before .before .before .reached .given .1) at (c .before .before .before .before .before .before .before .judge .ensures))
+returns-2 c =
+    let at-reached = c .before .before .before in
+    let at-judge = at-reached .before .before .before .before in
+    let at-start = at-judge .before .before .before .before .before .before .before .before .before .before .before .before .before .before .before .before .before in
+    listed-refused (at-start .args .s .now) (judgedUpTo (at-start .args .s .now) (at-start .args .sheet .blocks .count) (at-start .args .sheet .nodes .count)) (at-judge .judge .last .1 .1 .1 .1 .1 .1 .0) (at-reached .reached .given .0 .0) (at-reached .reached .given .0 .1 .0) (at-start .args .list .now) (rw (at-reached .reached .given .1) at (at-judge .judge .ensures))
 
 pub list-sheet-spec : {M : Type 1} → statement M
 list-sheet-spec =

@@ -38,13 +38,22 @@ same-length : tie.Need-same-length
 same-length c = search needs
 
 returns : tie.Need-returns
-returns c = attempt-done (c .before .before .before .before .before .before .before .before .before .before .before .list-in .result) _ _ _ (c .before .before .before .before .before .before .before .before .before .before .before .before .before .before .before .before .before .before .before .before .before .args .list .now) _ (c .before .before .before .before .before .before .before .before .before .before .before .list-in .ensures) (c .before .attempt .given .1)
+returns c =
+    let at-attempt = c .before in
+    let at-list-in = at-attempt .before .before .before .before .before .before .before .before .before .before in
+    let at-start = at-list-in .before .before .before .before .before .before .before .before .before .before in
+    attempt-done (at-list-in .list-in .result) _ _ _ (at-start .args .list .now) _ (at-list-in .list-in .ensures) (at-attempt .attempt .given .1)
 
 same-length-2 : tie.Need-same-length-2
 same-length-2 c = search needs
 
 returns-2 : tie.Need-returns-2
-returns-2 c = attempt-again (c .before .before .before .before .before .before .before .before .before .before .before .before .before .before .list-in .result) _ _ _ (c .before .before .before .before .before .before .before .before .before .before .before .before .before .before .before .before .before .before .before .before .before .before .before .before .args .list .now) _ (c .before .before .before .before .before .before .before .before .before .before .before .before .before .before .list-in .ensures) (c .before .before .list-long .result) (c .before .before .list-long .last .1 .0) (c .before .before .before .before .enum-told .given .1) (c .before .before .list-long .ensures)
+returns-2 c =
+    let at-list-long = c .before .before in
+    let at-enum-told = at-list-long .before .before in
+    let at-list-in = at-enum-told .before .before .before .before .before .before .before .before .before .before in
+    let at-start = at-list-in .before .before .before .before .before .before .before .before .before .before in
+    attempt-again (at-list-in .list-in .result) _ _ _ (at-start .args .list .now) _ (at-list-in .list-in .ensures) (at-list-long .list-long .result) (at-list-long .list-long .last .1 .0) (at-enum-told .enum-told .given .1) (at-list-long .list-long .ensures)
 
 pub list-short-spec : {M : Type 1} → statement M
 list-short-spec =
