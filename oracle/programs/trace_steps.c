@@ -202,17 +202,18 @@ static void trace(pid_t child, uint64_t offset)
 {
     struct user_regs_struct before, after;
     struct claim *last = NULL;
-    int status, signal = 0;
+    int status, passed, signal = 0;
     ptrace(PTRACE_GETREGS, child, NULL, &before);
     for (;;) {
+        passed = signal;
         if (ptrace(PTRACE_SINGLESTEP, child, NULL, (void *)(long)signal) != 0)
             fail("the program cannot be traced");
         if (waitpid(child, &status, 0) < 0 || WIFEXITED(status) || WIFSIGNALED(status))
             return;
         signal = WSTOPSIG(status) == SIGTRAP ? 0 : WSTOPSIG(status);
         ptrace(PTRACE_GETREGS, child, NULL, &after);
-        if (signal != 0) {
-            /* The instruction has not run, or a handler is about to. */
+        if (signal != 0 || passed != 0) {
+            /* The instruction has not run; or control is at a handler's first one. */
             last = NULL;
             before = after;
             continue;
