@@ -77,7 +77,11 @@ fn add_hidden(
     let functions = outside.functions.iter().map(|span| span.start);
     let shown = control.targets.iter().chain(&control.named).chain(&control.unseen);
     let known = outside.entries.iter().chain(&outside.possible);
-    let starts = shown.chain(known).copied().chain(functions);
+    let wide = control
+        .unclear
+        .iter()
+        .filter_map(|address| control_flow::wide_target(file.code_at(*address)?, *address));
+    let starts = shown.chain(known).copied().chain(functions).chain(wide);
     let starts = starts.filter(|address| text.line_at(*address).is_err()).collect();
     hidden::follow(text, outside, starts, &|places| objdump::runs(file, places))
 }

@@ -114,7 +114,8 @@ fn is_unclear(line: &Line, parts: &Parts) -> bool {
     no_code || is_short_branch(line, parts)
 }
 
-fn is_short_branch(line: &Line, parts: &Parts) -> bool {
+/// Whether it is a near branch with 66 before it and no REX.W.
+pub fn is_short_branch(line: &Line, parts: &Parts) -> bool {
     let name = parts.mnemonic;
     let branch = ["j", "loop", "call", "ret"].iter().any(|start| name.starts_with(start));
     let far = name.starts_with("retf");
@@ -126,11 +127,28 @@ fn shows_operand_prefix(parts: &Parts) -> bool {
     parts.prefixes.contains(&"data16") || ["jmpw", "callw", "retw"].contains(&parts.mnemonic)
 }
 
+const OTHER_PREFIXES: [u8; 10] = [0x67, 0xf2, 0xf3, 0x2e, 0x36, 0x3e, 0x26, 0x64, 0x65, 0xf0];
+
+/// Where a branch with 66 before it goes that is read with a distance of four bytes,
+/// as by Intel's processors.
+pub fn wide_target(code: &[u8], address: u64) -> Option<u64> {
+    let is_prefix = |byte: &&u8| **byte == 0x66 || OTHER_PREFIXES.contains(*byte);
+    let prefixes = code.iter().take_while(is_prefix).count();
+    let opcode = match code.get(prefixes..)? {
+        [0xe8 | 0xe9, ..] => 1,
+        [0x0f, 0x80..=0x8f, ..] => 2,
+        _ => return None,
+    };
+    let at = prefixes + opcode;
+    let distance = i32::from_le_bytes(code.get(at..at + 4)?.try_into().ok()?);
+    Some(address.wrapping_add(at as u64 + 4).wrapping_add_signed(i64::from(distance)))
+}
+
 /// Whether 66 is among the prefixes before the first other byte.
 fn has_operand_prefix(bytes: &str) -> bool {
-    const OTHERS: &[&str] = &["67", "f2", "f3", "2e", "36", "3e", "26", "64", "65", "f0"];
-    let mut prefixes = bytes.split(' ').take_while(|byte| *byte == "66" || OTHERS.contains(byte));
-    prefixes.any(|byte| byte == "66")
+    let bytes = bytes.split(' ').map_while(|byte| u8::from_str_radix(byte, 16).ok());
+    let mut prefixes = bytes.take_while(|byte| *byte == 0x66 || OTHER_PREFIXES.contains(byte));
+    prefixes.any(|byte| byte == 0x66)
 }
 
 /// A return whose address was put on the stack by the code before it is a jump.

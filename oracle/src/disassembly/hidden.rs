@@ -3,7 +3,7 @@
 //! come to, as far as a line of the text; there a block starts. Both readings
 //! stand, and the branches of this one are not judged.
 
-use crate::disassembly::control_flow::{addresses, Outside, LONGEST};
+use crate::disassembly::control_flow::{addresses, is_short_branch, Outside, LONGEST};
 use crate::disassembly::instruction::{listed, Flow};
 use crate::disassembly::operand::parts;
 use crate::disassembly::returns;
@@ -15,13 +15,16 @@ use std::collections::HashSet;
 #[derive(Clone, Debug)]
 pub struct Decoded {
     pub address: u64,
+    pub bytes: String,
     pub text: String,
     pub moved: u64,
 }
 
 impl Decoded {
     fn line(&self) -> Line<'_> {
-        Line { address: self.address, text: &self.text, ..Line::default() }
+        let size = self.bytes.split_whitespace().count() as u64;
+        let Decoded { address, bytes, text, .. } = self;
+        Line { address: *address, text, bytes, size, after_gap: false }
     }
 }
 
@@ -90,9 +93,13 @@ impl Follower<'_> {
     /// Takes the last of these lines; whether control goes on from it.
     fn line(&mut self, lines: &[Decoded]) -> bool {
         let last = &lines[lines.len() - 1];
-        let flow = listed(&last.line()).flow;
-        let addresses = addresses(&parts(&last.text), last.moved);
-        addresses.into_iter().for_each(|address| self.reached(address));
+        let (line, parts) = (last.line(), parts(&last.text));
+        let flow = listed(&line).flow;
+        addresses(&parts, last.moved).into_iter().for_each(|address| self.reached(address));
+        if is_short_branch(&line, &parts) {
+            self.outside.opens.push(last.address);
+            line.end().into_iter().for_each(|end| self.reached(end.wrapping_add(2)));
+        }
         match flow {
             Flow::Branch(target) | Flow::Jump(target) => {
                 self.outside.joins.push((last.address, target.wrapping_sub(last.moved)));

@@ -87,7 +87,8 @@ pub fn runs(file: &File, addresses: &[u64]) -> Result<Vec<Run>, String> {
                 break;
             }
             run.rest = more.then_some(own.wrapping_add(line.size()));
-            run.lines.push(Decoded { address: own, text: line.text.to_string(), moved });
+            let (bytes, text) = (line.bytes.to_string(), line.text.to_string());
+            run.lines.push(Decoded { address: own, bytes, text, moved });
         }
         run
     };

@@ -318,7 +318,10 @@ fn code_that_is_not_shown_is_followed_to_a_line() {
         function(&["31 c0 \txor    eax,eax"]) + "    1002:\t3d 85 ff 90 90 \tcmp    eax,0x1\n";
     let code = code + "    1007:\t74 00 \tje     1009 <f+0x9>\n    1009:\tc3 \tret\n";
     let text = text::read(&code).unwrap();
-    let decoded = |address, text: &str, moved| Decoded { address, text: text.to_string(), moved };
+    let decoded = |address, text: &str, moved| {
+        let text = text.to_string();
+        Decoded { address, bytes: String::new(), text, moved }
+    };
     let followed = |lines: Vec<Decoded>| {
         let mut outside = Outside::default();
         let decode = |places: &[u64]| {
@@ -337,6 +340,7 @@ fn code_that_is_not_shown_is_followed_to_a_line() {
     let outside = followed(vec![decoded(0x1003, "jmp    0x3009", 0x2000)]);
     assert_eq!((outside.possible, outside.joins), (vec![0x1009], vec![(0x1003, 0x1009)]));
     assert_eq!(followed(vec![decoded(0x1003, "jmp    rax", 0)]).opens, [0x1003]);
+    assert_eq!(followed(vec![decoded(0x1003, "data16 je 0x1009", 0)]).opens, [0x1003]);
     let pushed = vec![decoded(0x1003, "push   rax", 0), decoded(0x1004, "ret", 0)];
     assert_eq!(followed(pushed).opens, [0x1004]);
 }
@@ -354,6 +358,12 @@ fn lines_that_processors_read_otherwise_open_their_part() {
     let code = function(&["66 0f 85 00 00 \tjne    1005 <f+0x5>"]);
     let text = text::read(&code).unwrap();
     assert_eq!(control_flow::read(&text, &Outside::default()).unclear, [0x1000]);
+    let code = [0x66, 0x0f, 0x85, 0, 1, 0, 0, 0x90];
+    assert_eq!(control_flow::wide_target(&code, 0x1000), Some(0x1107));
+    assert_eq!(
+        control_flow::wide_target(&[0x66, 0xe9, 0xff, 0xff, 0xff, 0xff], 0x1000),
+        Some(0x1005)
+    );
 }
 
 #[test]
