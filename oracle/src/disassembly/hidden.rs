@@ -39,11 +39,16 @@ pub struct Run {
 /// Decodes from each of some addresses; nothing where there are no bytes.
 pub type Decoder<'a> = dyn Fn(&[u64]) -> Result<Vec<Run>, String> + 'a;
 
+/// A place to decode from, and whether bytes that cannot be decoded lie on the way
+/// to it: they are looked past once, or data would lead to everywhere.
+type Place = (u64, bool);
+
 struct Follower<'a> {
     text: &'a Disassembly<'a>,
     outside: &'a mut Outside,
-    seen: HashSet<u64>,
-    waiting: Vec<u64>,
+    seen: HashSet<Place>,
+    waiting: Vec<Place>,
+    past: bool,
 }
 
 /// Adds to `outside` what runs from the places that are not lines of the text.
@@ -53,14 +58,19 @@ pub fn follow(
     starts: Vec<u64>,
     decode: &Decoder,
 ) -> Result<(), String> {
-    let mut follower = Follower { text, outside, seen: HashSet::new(), waiting: Vec::new() };
+    let (seen, waiting) = (HashSet::new(), Vec::new());
+    let mut follower = Follower { text, outside, seen, waiting, past: false };
     starts.into_iter().for_each(|start| follower.reached(start));
     while !follower.waiting.is_empty() {
         let mut places = std::mem::take(&mut follower.waiting);
         places.sort_unstable();
         places.dedup();
-        let runs = decode(&places)?;
-        runs.iter().for_each(|run| follower.take(run));
+        let addresses: Vec<u64> = places.iter().map(|(address, _)| *address).collect();
+        let runs = decode(&addresses)?;
+        for ((_, past), run) in places.into_iter().zip(&runs) {
+            follower.past = past;
+            follower.take(run);
+        }
     }
     Ok(())
 }
@@ -70,8 +80,8 @@ impl Follower<'_> {
     fn reached(&mut self, address: u64) {
         if self.text.line_at(address).is_ok() {
             self.outside.possible.push(address);
-        } else if !self.seen.contains(&address) {
-            self.waiting.push(address);
+        } else if !self.seen.contains(&(address, self.past)) {
+            self.waiting.push((address, self.past));
         }
     }
 
@@ -81,7 +91,8 @@ impl Follower<'_> {
                 self.outside.possible.push(line.address);
                 return;
             }
-            if !self.seen.insert(line.address) || !self.line(&run.lines[..=number]) {
+            let new = self.seen.insert((line.address, self.past));
+            if !new || !self.line(&run.lines[..=number]) {
                 return;
             }
         }
@@ -108,7 +119,9 @@ impl Follower<'_> {
             Flow::Ends if returns_elsewhere(lines) => self.outside.opens.push(last.address),
             // The processor may run what objdump cannot decode, as an instruction of any
             // length.
+            _ if last.text.contains("(bad)") && self.past => return false,
             _ if last.text.contains("(bad)") => {
+                self.past = true;
                 (1..=LONGEST).for_each(|size| self.reached(last.address.wrapping_add(size)));
                 return false;
             }
