@@ -61,6 +61,6 @@ DIVISION = 14
 abbrev pub NOT_PLAIN : ℕ
 NOT_PLAIN = 15
 
--- A variable's value that is missing or has bits above its type (E5).
+-- No value for a variable, or one that its type cannot hold (E5).
 abbrev pub VALUE : ℕ
 VALUE = 16

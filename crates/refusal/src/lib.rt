@@ -46,5 +46,5 @@ pub const DIVISION: u64 = 14;
 // An effect, a load or a statement that assigns nothing, in a node to be evaluated.
 pub const NOT_PLAIN: u64 = 15;
 
-// A variable's value that is missing or has bits above its type.
+// No value for a variable, or one that its type cannot hold.
 pub const VALUE: u64 = 16;
