@@ -67,6 +67,19 @@ fn add_tables(file: &File, control: &ControlFlow, outside: &mut Outside) {
     outside.possible.extend(targets);
 }
 
+/// The targets of tables, each read no further than to the next address that an
+/// instruction names: what follows belongs to another table, and leads between lines.
+fn bounded_tables(file: &File, control: &ControlFlow) -> Vec<u64> {
+    let code = file.code();
+    let ends = control.named.iter().skip(1).copied().chain([u64::MAX]);
+    let tables = control.named.iter().zip(ends);
+    let targets = tables.flat_map(|(table, end)| {
+        let most = usize::try_from((end - table).div_ceil(4)).unwrap_or(usize::MAX);
+        pointers::offsets(file, &code, *table).into_iter().take(most)
+    });
+    targets.collect()
+}
+
 /// Adds what runs from entries that the text does not show.
 fn add_hidden(
     file: &File,
@@ -82,7 +95,9 @@ fn add_hidden(
         .iter()
         .filter_map(|address| control_flow::wide_target(file.code_at(*address)?, *address));
     let starts = shown.chain(known).copied().chain(functions).chain(wide);
-    let starts = starts.filter(|address| text.line_at(*address).is_err()).collect();
+    let starts = starts.chain(bounded_tables(file, control));
+    let is_hidden = |at: &u64| text.line_at(*at).is_err() && file.code_at(*at).is_some();
+    let starts = starts.filter(is_hidden).collect();
     hidden::follow(text, outside, starts, &|places| objdump::runs(file, places))
 }
 
@@ -122,8 +137,8 @@ fn list_file(job: &Job, path: &str) -> Result<bool, String> {
     let text = disassembly(path, &bytes)?;
     let text = text::read(&text)?;
     let control = control_flow::read(&text, &outside);
-    add_tables(&file, &control, &mut outside);
     add_hidden(&file, &text, &control, &mut outside)?;
+    add_tables(&file, &control, &mut outside);
     assumptions::stated(&text, &control).into_iter().try_for_each(say)?;
     judged(job, &text, &leaders(&text, &control, &outside))
 }
