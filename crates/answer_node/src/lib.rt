@@ -11,7 +11,10 @@ pub fn node_verdict(s: &[u8], number: u64) -> Answer
 {
     let found = sheet::find_node(s, number);
     match found {
-        Place::At(at) => verdict_node::verdict(s, at),
+        Place::At(at) => {
+            let judged = verdict_node::verdict_at(s, at);
+            judged.answer
+        }
         Place::Refused(k, at) => Answer::Refused(k, at),
     }
 }

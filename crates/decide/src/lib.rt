@@ -256,14 +256,14 @@ fn equality(
 }
 
 // A buffer for the terms of the sides of an equality of 128 records.
-pub fn terms_room() -> [u64; 2320]
+fn terms_room() -> [u64; 2320]
     ensures { λ r. ⌜ 2320 ≡ length r ⌝ }
 {
     [0; 2320]
 }
 
 // A buffer for the terms of a product.
-pub fn products_room() -> [u64; 4096]
+fn products_room() -> [u64; 4096]
     ensures { λ r. ⌜ 4096 ≡ length r ⌝ }
 {
     [0; 4096]

@@ -11,10 +11,10 @@ ghost use lib.ListN.{length};
 ghost use Rattle.sheet_field.specs.declared.Place.the-variants.{At};
 ghost use Rattle.sheet_field.specs.Field.{WentOn};
 ghost use Rattle.sheet_expression.specs.Expression.{expressionAt};
-ghost use Rattle.sheet_node.specs.Node.{statementsFrom, nodeAt, nodeOf};
+ghost use Rattle.sheet_node.specs.Node.{statementsFrom, nodeAt};
 ghost use Rattle.substitute_node.specs.Node.{MadeNode};
 ghost use Rattle.exact.specs.Answers.{Buffers};
-ghost use Rattle.verdict_node.specs.NodeVerdict.{onSubstituted, nodeVerdict};
+ghost use Rattle.verdict_node.specs.NodeVerdict.{onSubstituted};
 ghost use Rattle.verdict_node.specs.Contracts.{LentWords, LentNode, onDecision, WholeWords, substitutedOf, JudgedIs};
 
 // The answer for a node; where it is a verdict, also how many addresses the node has, and the offset of the first.
@@ -32,7 +32,7 @@ fn table_room() -> [u64; 8192]
 }
 
 // A buffer for what four variables hold.
-pub fn few_held_room() -> [u64; 1024]
+fn few_held_room() -> [u64; 1024]
     ensures { λ r. ⌜ 1024 ≡ length r ⌝ }
 {
     [0; 1024]
@@ -119,7 +119,7 @@ fn answer_for(
 
 // The answer for the node that starts at a byte, in a sheet where it was read whole; its bytes are read once. All that
 // is borrowed is written over. A node that needs larger buffers makes its own.
-pub fn verdict_at(
+fn verdict_in(
     s: &[u8],
     at: usize,
     table: &mut [u64],
@@ -153,10 +153,10 @@ pub fn verdict_at(
     }
 }
 
-// The answer alone, with buffers of its own.
-pub fn verdict(s: &[u8], at: usize) -> Answer
+// The answer for the node that starts at a byte, in a sheet where it was read whole.
+pub fn verdict_at(s: &[u8], at: usize) -> JudgedNode
     requires { ⌜ WentOn (nodeAt (now s) (At at) .next) ⌝ }
-    ensures { λ r. ⌜ r ≡ nodeVerdict (nodeOf (now (s .entry)) (nodeAt (now (s .entry)) (At at))) at ⌝ }
+    ensures { λ r. ⌜ JudgedIs r (now (s .entry)) (nodeAt (now (s .entry)) (At at)) at ⌝ }
 {
     let mut table = few_held_room();
     let mut lengths = [0usize; 32];
@@ -165,7 +165,7 @@ pub fn verdict(s: &[u8], at: usize) -> Answer
     let mut atoms = [0u64; 64];
     let mut terms = [0u64; 560];
     let mut products = [0u64; 512];
-    let judged = verdict_at(
+    verdict_in(
         s,
         at,
         &mut table,
@@ -175,6 +175,5 @@ pub fn verdict(s: &[u8], at: usize) -> Answer
         &mut atoms,
         &mut terms,
         &mut products,
-    );
-    judged.answer
+    )
 }

@@ -1,6 +1,6 @@
 -- Records in order: blocks, then nodes, up to the first that is refused.
 use Prim.Native.Nat.{ℕ, zero, suc, _+_, _-_, _≤_, _<_}
-use mathlib.Core.Path.{_≡_, refl, sym}
+use mathlib.Core.Path.{_≡_, refl}
 use mathlib.Core.List.{List, [], _++_}
 use mathlib.Core.Bool.{Bool}
 use native.Mathlib.Omega.{arith}
@@ -21,7 +21,6 @@ use Rattle.sheet_node.specs.Node.{nodeAt, nodeOf}
 use Rattle.sheet.specs.Sheet.{sheetAt, readingOf, noNode, nodeNumbered, nodePlace}
 use Rattle.verdict_block.specs.Verdict.{verdictOn}
 use Rattle.verdict_node.specs.NodeVerdict.{nodeVerdict}
-use Rattle.verdict_node.specs.Contracts.{LentNode}
 use Rattle.verdict_sheet.specs.declared.Progress.{Progress}
 use Rattle.verdict_sheet.specs.declared.Progress.the-variants as progress
 use Rattle.verdict_sheet.specs.Sites.{lastBranch, nodeSite, blockSite}
@@ -139,25 +138,3 @@ module _ (s : List ℕ) (blocks : ℕ) where
   pub nodes-whole : (k n : ℕ) (slots : List ℕ) → k ≡ n → Reached (sheetAt s .instructions .list) progress.Through slots (judgedUpTo s blocks k)
       → Reached (sheetAt s .instructions .list) progress.Through slots (judgedUpTo s blocks n)
   nodes-whole k n slots all-of is = rw (← all-of) is
-
--- the lengths of the buffers for nodes' verdicts: some are made, the rest are as long as they were
-pub record Rooms (sums pairs : ℕ) (t l w o a m p : List ℕ) : Type 0 where
-  pub table : 1024 ≡ length t
-  pub lengths : 32 ≡ length l
-  pub words : 256 ≡ length w
-  pub out : 256 ≡ length o
-  pub atoms : 64 ≡ length a
-  pub terms : sums ≡ length m
-  pub products : pairs ≡ length p
-
-pub rooms-lent : {sums pairs : ℕ} {t l w o a m p : List ℕ} → Rooms sums pairs t l w o a m p → 560 ≤ sums → 512 ≤ pairs → LentNode l w o a m p
-rooms-lent r sums pairs = record {
-  lengthsRoom = sym (r .lengths);
-  wordsRoom = sym (r .words);
-  outRoom = sym (r .out);
-  buffers = record {
-    table = omega (arith, r .atoms);
-    space = omega (arith, r .terms);
-    products = record { least = omega (arith, r .products); most = λ more. absurd (omega (arith, more)) };
-  };
-}

@@ -183,7 +183,7 @@ fn keep_node(
     }
 }
 
-// All nodes, in order, up to the first that is refused. The buffers for their verdicts are made once.
+// All nodes, in order, up to the first that is refused.
 fn judge_nodes(
     s: &[u8],
     sheet: Sheet,
@@ -191,34 +191,16 @@ fn judge_nodes(
     branches: &[bool],
     nodes: &[u64],
     slots: &mut [u8],
-    terms: &mut [u64],
-    products: &mut [u64],
 ) -> Progress
     requires { ⌜ readingOf (now s) ≡ Accepted sheet ⌝ }
     requires { ⌜ BranchIndex (now s) (now addresses) (now branches) ⌝ }
     requires { ⌜ now nodes ≡ sheetAt (now s) .nodes .places ⌝ }
     requires { ⌜ now slots ≡ slotsOf (sheetAt (now s) .instructions .list) (blocksSay (now s) (sheet .blocks .count)) ⌝ }
-    requires { ⌜ (560 ≤ length (now terms)) × (512 ≤ length (now products)) ⌝ }
     ensures { λ r. ⌜ Reached (sheetAt (now (s .entry)) .instructions .list) r (now (slots .exit)) (judgedUpTo (now (s .entry)) (sheet .blocks .count) (sheet .nodes .count)) ⌝ }
 {
-    let mut table = verdict_node::few_held_room();
-    let mut lengths = [0usize; 32];
-    let mut words = [0u64; 256];
-    let mut out = [0u64; 256];
-    let mut atoms = [0u64; 64];
     let mut i = 0;
     while i < nodes.len() {
-        let judged = verdict_node::verdict_at(
-            s,
-            nodes[i] as usize,
-            &mut table,
-            &mut lengths,
-            &mut words,
-            &mut out,
-            &mut atoms,
-            terms,
-            products,
-        );
+        let judged = verdict_node::verdict_at(s, nodes[i] as usize);
         let r = keep_node(s, judged, addresses, branches, slots);
         if let Progress::Refused(k, at) = r {
             return Progress::Refused(k, at);
@@ -226,64 +208,6 @@ fn judge_nodes(
         i += 1;
     }
     Progress::Through
-}
-
-// A few nodes, with buffers for small equalities: a larger one makes its own.
-fn judge_few(
-    s: &[u8],
-    sheet: Sheet,
-    addresses: &[u64],
-    branches: &[bool],
-    nodes: &[u64],
-    slots: &mut [u8],
-) -> Progress
-    requires { ⌜ readingOf (now s) ≡ Accepted sheet ⌝ }
-    requires { ⌜ BranchIndex (now s) (now addresses) (now branches) ⌝ }
-    requires { ⌜ now nodes ≡ sheetAt (now s) .nodes .places ⌝ }
-    requires { ⌜ now slots ≡ slotsOf (sheetAt (now s) .instructions .list) (blocksSay (now s) (sheet .blocks .count)) ⌝ }
-    ensures { λ r. ⌜ Reached (sheetAt (now (s .entry)) .instructions .list) r (now (slots .exit)) (judgedUpTo (now (s .entry)) (sheet .blocks .count) (sheet .nodes .count)) ⌝ }
-{
-    let mut terms = [0u64; 560];
-    let mut products = [0u64; 512];
-    judge_nodes(
-        s,
-        sheet,
-        addresses,
-        branches,
-        nodes,
-        slots,
-        &mut terms,
-        &mut products,
-    )
-}
-
-// Any number of nodes, with buffers for all equalities.
-fn judge_many(
-    s: &[u8],
-    sheet: Sheet,
-    addresses: &[u64],
-    branches: &[bool],
-    nodes: &[u64],
-    slots: &mut [u8],
-) -> Progress
-    requires { ⌜ readingOf (now s) ≡ Accepted sheet ⌝ }
-    requires { ⌜ BranchIndex (now s) (now addresses) (now branches) ⌝ }
-    requires { ⌜ now nodes ≡ sheetAt (now s) .nodes .places ⌝ }
-    requires { ⌜ now slots ≡ slotsOf (sheetAt (now s) .instructions .list) (blocksSay (now s) (sheet .blocks .count)) ⌝ }
-    ensures { λ r. ⌜ Reached (sheetAt (now (s .entry)) .instructions .list) r (now (slots .exit)) (judgedUpTo (now (s .entry)) (sheet .blocks .count) (sheet .nodes .count)) ⌝ }
-{
-    let mut terms = decide::terms_room();
-    let mut products = decide::products_room();
-    judge_nodes(
-        s,
-        sheet,
-        addresses,
-        branches,
-        nodes,
-        slots,
-        &mut terms,
-        &mut products,
-    )
 }
 
 // All records of an accepted sheet with its index, on slots that hold nothing.
@@ -303,11 +227,5 @@ pub fn judge(
     ensures { λ r. ⌜ Reached (sheetAt (now (s .entry)) .instructions .list) r (now (slots .exit)) (judgedUpTo (now (s .entry)) (sheet .blocks .count) (sheet .nodes .count)) ⌝ }
 {
     judge_blocks(s, sheet, addresses, places, branches, slots);
-    if nodes.len() == 0 {
-        return Progress::Through;
-    }
-    if nodes.len() <= 4 {
-        return judge_few(s, sheet, addresses, branches, nodes, slots);
-    }
-    judge_many(s, sheet, addresses, branches, nodes, slots)
+    judge_nodes(s, sheet, addresses, branches, nodes, slots)
 }

@@ -10,14 +10,14 @@ find-node-requires c κs = search needs
 enum-known-found : tie.Need-enum-known-found
 enum-known-found c = search needs
 
-verdict-requires : tie.Need-verdict-requires
-verdict-requires c κs = found-whole _ _ (c .before .before .before .find-node .ensures) (c .before .found .given .1) .on
+verdict-at-requires : tie.Need-verdict-at-requires
+verdict-at-requires c κs = found-whole _ _ (c .before .before .before .find-node .ensures) (c .before .found .given .1) .on
 
 enum-known-found-2 : tie.Need-enum-known-found-2
 enum-known-found-2 c = search needs
 
 returns : tie.Need-returns
-returns c = node-judged _ _ (c .before .before .before .before .find-node .ensures) (c .before .before .found .given .1) (c .verdict .ensures)
+returns c = node-judged _ _ (c .before .before .before .before .find-node .ensures) (c .before .before .found .given .1) (c .verdict-at .ensures .answer)
 
 returns-2 : tie.Need-returns-2
 returns-2 c = node-refused _ _ (c .before .before .before .find-node .ensures) (c .before .found2 .given .1)
@@ -28,7 +28,7 @@ node-verdict-spec =
     (tie.spec
     find-node-requires
     enum-known-found
-    verdict-requires
+    verdict-at-requires
     enum-known-found-2
     returns
     returns-2)
