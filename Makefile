@@ -1,7 +1,7 @@
-# make            the library (static and shared) and the listing program, in build/
-# make sample     the same, and the program run on a sample
+# make            the library (static and shared), the listing program and, where cargo is, the command, in build/
+# make sample     the listing program, run on a sample
 # make test       the gate: every proof from nothing, the must-fail edits and the outside checks
-# make install    header, libraries, pkg-config file and program under PREFIX (and DESTDIR)
+# make install    header, libraries, pkg-config file and what is built of program and command under PREFIX (and DESTDIR)
 # make clean      removes build/; what is proved stays in target/
 #
 # rt proves a crate again only where it or something below it has changed. `rt check` proves crates side by side,
@@ -13,9 +13,9 @@ CFLAGS = -O2
 VERSION := $(shell sed -n 's/^.define POMTHIJA_VERSION //p' include/pomthija.h)
 to = $(DESTDIR)$(PREFIX)
 
-.PHONY: all library program sample test install clean
+.PHONY: all library program command sample test install clean
 
-all: library program
+all: library program command
 
 library:
 	rt check pomthija
@@ -28,7 +28,11 @@ program:
 	rt check listing
 	rt staticlib listing
 	mkdir -p build
-	$(CC) $(CFLAGS) -o build/listing programs/listing.c target/staticlib/liblisting.a
+	$(CC) $(CFLAGS) -Iinclude -o build/listing programs/listing.c target/staticlib/liblisting.a
+
+command: library
+	if command -v cargo > build/found; then cd lister && cargo build --release --quiet && cp target/release/pomthija ../build/; \
+	  else echo 'build/pomthija is not built: cargo is absent'; fi
 
 sample: program
 	build/listing < examples/first.sheet
@@ -43,6 +47,7 @@ install: all
 	install -m 755 build/libpomthija.so $(to)/lib/libpomthija.so.$(VERSION)
 	ln -sf libpomthija.so.$(VERSION) $(to)/lib/libpomthija.so
 	install -m 755 build/listing $(to)/bin/pomthija-listing
+	if [ -f build/pomthija ]; then install -m 755 build/pomthija $(to)/bin/; fi
 	printf '%s\n' 'prefix=$(PREFIX)' 'Name: pomthija' 'Description: verdicts on conditional branches of x86-64 code' \
 	  'Version: $(VERSION)' 'Cflags: -I$${prefix}/include' 'Libs: -L$${prefix}/lib -lpomthija' > $(to)/lib/pkgconfig/pomthija.pc
 

@@ -4,7 +4,7 @@
    by hand, and the reason where it is not plain.
 
      cc -O0 -o opaque examples/opaque/opaque.c
-     oracle list opaque --program test_answer
+     pomthija list opaque
 
    The program runs every branch, with several inputs. */
 

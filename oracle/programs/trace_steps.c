@@ -1,12 +1,13 @@
 /* Runs a program one instruction at a time and holds what the processor does
-   against what `oracle list --steps` claims of a file, the program's own or a
+   against what `pomthija list --steps` claims of a file, the program's own or a
    library's that it is loaded with:
 
    - an instruction that is not call-like changes no general register and none of
      CF, PF, ZF, SF, OF but those that it is said to change;
    - control comes to an instruction from the one before it, or a block starts
      there, or the one before it is call-like;
-   - a branch that is always taken is taken, and one that is never taken is not.
+   - a branch that is always taken is taken, and one that is never taken is not;
+   - what is dead by the verdicts is not run.
 
    usage: trace_steps CLAIMS FILE PROGRAM ARGUMENT...
    The status is 1 if a claim did not hold, 2 if the program could not be run. */
@@ -26,7 +27,7 @@ struct claim {
     uint64_t address, next, target;
     unsigned registers, flags;
     char call_like, block;
-    char verdict; /* a, n or - */
+    char verdict; /* a, n, d for dead, or - */
     uint64_t seen;
 };
 
@@ -60,7 +61,7 @@ static void read_claims(const char *path)
         claims[count++] = c;
     }
     if (!feof(file) || count == 0)
-        fail("the claims are not as oracle list --steps writes them");
+        fail("the claims are not as pomthija list --steps writes them");
     fclose(file);
 }
 
@@ -189,6 +190,8 @@ static void check_control(struct claim *last, const struct claim *here, uint64_t
         if (last->verdict == 'n' && address != last->next)
             violation("never taken, and it was", last->address);
     }
+    if (here && here->verdict == 'd')
+        violation("dead, and it is run", address);
     if (!here || here->block == 'b')
         return;
     if (last && (last->next == address || last == here))
@@ -232,7 +235,7 @@ static void report(void)
     unsigned long decided = 0, run = 0, times = 0, instructions = 0;
     for (size_t i = 0; i < count; i++) {
         instructions += claims[i].seen != 0;
-        if (claims[i].verdict == '-')
+        if (claims[i].verdict != 'a' && claims[i].verdict != 'n')
             continue;
         decided++;
         run += claims[i].seen != 0;

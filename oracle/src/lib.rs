@@ -1,12 +1,13 @@
-//! Tools for sheets: writer, dump, independent reader, comparisons, stored
-//! cases, benchmark. README.md has an example of each command.
+//! Tools for sheets: comparisons, stored cases, benchmark. README.md has an example of
+//! each command. The sheets themselves, with their writer, dump and reader, come with
+//! the lister.
 
 pub mod answers;
 pub mod cases;
 pub mod comparisons;
-pub mod disassembly;
 pub mod judges;
-pub mod sheets;
 pub mod stored;
 #[cfg(test)]
 mod tests;
+
+pub use lister::sheets;

@@ -3,20 +3,15 @@
 use oracle::answers::ABSENT;
 use oracle::comparisons::frames::{self, Question};
 use oracle::comparisons::{
-    blocks, evaluations, node_times, nodes, processor, reading, runs, times,
+    blocks, evaluations, listings, node_times, nodes, processor, reading, runs, times,
 };
-use oracle::disassembly::command::{self, Source};
-use oracle::disassembly::judge::Program;
 use oracle::judges::{evaluator, node_verdict, reader};
-use oracle::sheets::{from_text, to_text, words};
+use oracle::sheets::words;
 use oracle::stored;
 use std::io::{self, BufReader, BufWriter, Read, Write};
 use std::process::ExitCode;
 
 const USAGE: &str = "usage:
-  oracle write TEXT SHEET          text to sheet bytes
-  oracle fields TEXT               the start and name of each field
-  oracle dump SHEET                sheet bytes to text, or the refusal
   oracle read SHEET                the reader's answer in one line
   oracle answer                    answers frames, but for those of blocks
   oracle reading --program PATH [--sheets N] [--seed S]
@@ -32,9 +27,8 @@ const USAGE: &str = "usage:
   oracle runs --stub [--runs N] [--seed S]
   oracle runs --given PATH [--runs N] [--seed S]
   oracle processor --program PATH [--runs N] [--seed S]
-  oracle list FILE [--listing PATH | --program PATH] [--given PATH] [--save FOLDER] [--steps FILE]
-  oracle list --text DISASSEMBLY ...
-                                   the decided branches of a program
+  oracle listings FOLDER --given PATH
+                                   sheets and the listings beside them
   oracle evaluations --program PATH [--cases N] [--seed S]
   oracle evaluations --stub [--cases N] [--seed S]
 A file name of - is standard input or output.";
@@ -56,9 +50,6 @@ fn main() -> ExitCode {
 fn command(args: &[String]) -> Outcome {
     let words: Vec<&str> = args.iter().map(String::as_str).collect();
     match words.as_slice() {
-        ["write", text, sheet] => write_sheet(text, sheet),
-        ["fields", text] => fields(text),
-        ["dump", sheet] => dump_sheet(sheet),
         ["read", sheet] => read_sheet(sheet),
         ["answer"] => answer(),
         ["reading", options @ ..] => compare_reading(&Options::parse(options)?),
@@ -68,10 +59,7 @@ fn command(args: &[String]) -> Outcome {
         ["blocks", options @ ..] => compare_blocks(&Options::parse(options)?),
         ["nodes", options @ ..] => compare_nodes(&Options::parse(options)?),
         ["runs", options @ ..] => judge_by_runs(&Options::parse(options)?),
-        ["list", "--text", path, options @ ..] => {
-            list(Source::Text(path), &Options::parse(options)?)
-        }
-        ["list", path, options @ ..] => list(Source::File(path), &Options::parse(options)?),
+        ["listings", folder, options @ ..] => compare_listings(folder, &Options::parse(options)?),
         ["evaluations", options @ ..] => compare_evaluations(&Options::parse(options)?),
         _ => Err(USAGE.to_string()),
     }
@@ -80,7 +68,6 @@ fn command(args: &[String]) -> Outcome {
 #[derive(Default)]
 struct Options {
     program: Option<String>,
-    listing: Option<String>,
     given: Option<String>,
     stub: bool,
     smallest: bool,
@@ -90,7 +77,6 @@ struct Options {
     cases: Option<u64>,
     seed: Option<u64>,
     save: Option<String>,
-    steps: Option<String>,
 }
 
 impl Options {
@@ -111,10 +97,8 @@ impl Options {
             let number = || words::parse_number(value).ok_or(format!("{word} needs a number"));
             match *word {
                 "--program" => options.program = Some(value.to_string()),
-                "--listing" => options.listing = Some(value.to_string()),
                 "--given" => options.given = Some(value.to_string()),
                 "--save" => options.save = Some(value.to_string()),
-                "--steps" => options.steps = Some(value.to_string()),
                 "--sheets" => options.sheets = Some(number()?),
                 "--nodes" => options.nodes = Some(number()?),
                 "--runs" => options.runs = Some(number()?),
@@ -146,41 +130,12 @@ fn input(path: &str) -> Result<Vec<u8>, String> {
     Ok(bytes)
 }
 
-fn input_text(path: &str) -> Result<String, String> {
-    String::from_utf8(input(path)?).map_err(|_| format!("{path}: not text"))
-}
-
 fn output(path: &str, bytes: &[u8]) -> Result<(), String> {
     let outcome = match path {
         "-" => io::stdout().write_all(bytes),
         _ => std::fs::write(path, bytes),
     };
     outcome.map_err(|error| format!("{path}: {error}"))
-}
-
-fn written(path: &str) -> Result<from_text::Written, String> {
-    from_text::write(&input_text(path)?).map_err(|error| format!("{path}, {error}"))
-}
-
-fn write_sheet(text: &str, sheet: &str) -> Outcome {
-    let written = written(text)?;
-    output(sheet, &written.bytes)?;
-    if let Err(refusal) = reader::read(&written.bytes) {
-        eprintln!("note: reading this sheet is {refusal}");
-    }
-    Ok(true)
-}
-
-fn fields(text: &str) -> Outcome {
-    for field in written(text)?.fields {
-        println!("{:8}  {}", field.start, field.name);
-    }
-    Ok(true)
-}
-
-fn dump_sheet(sheet: &str) -> Outcome {
-    output("-", to_text::dump(&input(sheet)?).as_bytes())?;
-    Ok(true)
 }
 
 fn read_sheet(sheet: &str) -> Outcome {
@@ -275,14 +230,11 @@ fn compare_evaluations(options: &Options) -> Outcome {
     compared.map_err(|error| format!("{}: {error}", program[0]))
 }
 
-fn list(source: Source, options: &Options) -> Outcome {
-    let program = match (&options.listing, &options.program) {
-        (Some(path), _) => Some(Program::Listing(path)),
-        (None, path) => path.as_deref().map(Program::Frames),
+fn compare_listings(folder: &str, options: &Options) -> Outcome {
+    let Some(given) = &options.given else {
+        return Err(format!("listings needs --given\n{USAGE}"));
     };
-    let [given, save, steps] =
-        [&options.given, &options.save, &options.steps].map(|option| option.as_deref());
-    command::list(&command::Job { source, program, given, save, steps })
+    listings::compare(folder, given)
 }
 
 fn store(frames: &str, lines: &str, options: &Options) -> Outcome {

@@ -242,7 +242,7 @@ fn sheets() -> Vec<(&'static str, Option<f64>, Vec<u8>)> {
     ]
 }
 
-/// The sheets of a folder, as `oracle list --save` leaves them.
+/// The sheets of a folder, as `pomthija list --save` leaves them.
 fn saved(folder: &str) -> io::Result<Vec<Vec<u8>>> {
     let mut paths: Vec<_> =
         std::fs::read_dir(folder)?.map(|entry| Ok(entry?.path())).collect::<io::Result<_>>()?;

@@ -8,5 +8,6 @@ pub mod node_limits;
 pub mod node_runs;
 pub mod node_verdict;
 pub mod processor;
-pub mod reader;
 pub mod substitution;
+
+pub use lister::sheets::reader;

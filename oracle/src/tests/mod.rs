@@ -1,4 +1,3 @@
-mod disassembly;
 mod evaluation;
 mod listing;
 mod nodes;

@@ -5,28 +5,17 @@ use crate::disassembly::control_flow::{self, Outside};
 use crate::disassembly::elf::{self, File, Section, Segment, Span};
 use crate::disassembly::hidden::{self, Decoded, Run};
 use crate::disassembly::instruction::{listed, Flow, Standing};
-use crate::disassembly::judge::of_listing;
-use crate::disassembly::sheets::{self, Counts, FunctionSheet};
+use crate::disassembly::sheets::{self, Counts};
 use crate::disassembly::steps::{changes, Changes};
 use crate::disassembly::text::{self, Disassembly, Line};
 use crate::disassembly::{pointers, table, unwinding};
-use crate::judges::reader;
 use crate::sheets::encode::encode;
 use crate::sheets::names::mnemonic;
+use crate::sheets::reader;
 use crate::sheets::syntax::Sheet;
 use crate::sheets::to_text;
+use crate::tests::{function, HEAD};
 use std::collections::BTreeSet;
-
-const HEAD: &str = "\na.out:     file format elf64-x86-64\n\n\nDisassembly of section .text:\n";
-
-/// The disassembly of one function at 0x1000 whose instructions have a byte each.
-fn function(instructions: &[&str]) -> String {
-    let mut text = format!("{HEAD}\n0000000000001000 <f>:\n");
-    for (number, instruction) in instructions.iter().enumerate() {
-        text += &format!("    {:x}:\t{instruction}\n", 0x1000 + number);
-    }
-    text
-}
 
 /// The text of an instruction's line in a sheet, without its address.
 fn in_sheet(instruction: &str) -> String {
@@ -448,15 +437,12 @@ fn jumps_of_stubs_and_through_slots_go_to_functions() {
     assert_eq!(leaders(&text, &control, &Outside::default()).open, [false; 2]);
 }
 
-fn all_parts(text: &Disassembly, counts: &mut Counts) -> Vec<FunctionSheet> {
-    let control = control_flow::read(text, &Outside::default());
-    let leaders = leaders(text, &control, &Outside::default());
-    let functions = sheets::functions(text).into_iter().enumerate();
-    functions
-        .flat_map(|(number, (_, lines))| {
-            sheets::of_function(text, &leaders, (number, lines), counts)
-        })
-        .collect()
+fn all_sheets(text: &Disassembly, counts: &mut Counts) -> Vec<Sheet> {
+    let outside = Outside::default();
+    let control = control_flow::read(text, &outside);
+    let leaders = leaders(text, &control, &outside);
+    let functions = sheets::functions(text, &outside).into_iter();
+    functions.flat_map(|lines| sheets::of_function(text, &leaders, lines, counts)).collect()
 }
 
 #[test]
@@ -467,17 +453,17 @@ fn long_functions_become_several_sheets() {
         let code = function(&instructions);
         let text = text::read(&code).unwrap();
         let mut counts = Counts::default();
-        let parts = all_parts(&text, &mut counts);
+        let sheets = all_sheets(&text, &mut counts);
         assert_eq!((counts.instructions, counts.branches), (8_000, 3_000));
         assert!(counts.cut > 0);
         let mut listed = Vec::new();
-        for part in &parts {
-            let bytes = encode(&part.sheet).bytes;
+        for sheet in &sheets {
+            let bytes = encode(sheet).bytes;
             assert!(bytes.len() <= 65_536);
             assert!(reader::read(&bytes).is_ok());
-            listed.extend(part.sheet.instructions.iter().map(|insn| insn.address));
-            let inside = part.sheet.blocks.iter().map(|block| block.to - block.from).sum::<u64>();
-            assert_eq!(inside, part.sheet.instructions.len() as u64, "each in one block");
+            listed.extend(sheet.instructions.iter().map(|insn| insn.address));
+            let inside = sheet.blocks.iter().map(|block| block.to - block.from).sum::<u64>();
+            assert_eq!(inside, sheet.instructions.len() as u64, "each in one block");
         }
         assert_eq!(listed, (0x1000..0x1000 + 8_000).collect::<Vec<u64>>());
     }
@@ -489,12 +475,12 @@ fn a_sheet_has_the_blocks_of_its_function() {
     let code = function(&["xor    eax,eax", "je     1003 <f+0x3>", "ret", "frobnicate", jump]);
     let text = text::read(&code).unwrap();
     let mut counts = Counts::default();
-    let parts = all_parts(&text, &mut counts);
-    assert_eq!(parts.len(), 1);
+    let sheets = all_sheets(&text, &mut counts);
+    assert_eq!(sheets.len(), 1);
     let due = "insn 0x1000 xor eax eax\ninsn 0x1001 je target 0x1003\ninsn 0x1002 other call\n\
                insn 0x1003 other call\ninsn 0x1004 other\n\
                block 0x1000 0x1002\nblock 0x1002 0x1003\nblock 0x1003 0x1005\n";
-    assert_eq!(to_text::text(&parts[0].sheet), due);
+    assert_eq!(to_text::text(&sheets[0]), due);
     assert_eq!(counts.functions, 1);
     assert_eq!(counts.calls, [("ret".to_string(), 1)].into());
     assert_eq!(counts.unknown, [("frobnicate".to_string(), 1)].into());
@@ -562,16 +548,4 @@ fn the_claims_are_what_the_rules_of_the_sheet_say() {
     assert_eq!(changed("cmc"), (0, 1));
     assert_eq!(changed("pop    rbx"), (0x18, 0));
     assert_eq!(changed("je     10 <f>"), (0, 0));
-}
-
-#[test]
-fn the_listing_is_read_back() {
-    let text = "branches 1\n0000000000000012 0000000000000020 always 1\n";
-    let list = of_listing(text).unwrap();
-    assert_eq!(
-        (list[0].site, list[0].target, list[0].always, list[0].reason),
-        (0x12, 0x20, true, 1)
-    );
-    assert!(of_listing("branches 2\n0000000000000012 0000000000000020 always 1\n").is_none());
-    assert!(of_listing("refused 1 at 0\n").is_none());
 }

@@ -5,6 +5,23 @@ use crate::disassembly::control_flow::{ControlFlow, Step};
 use crate::disassembly::instruction::Flow;
 use crate::disassembly::operand::{parts, Operand};
 use crate::disassembly::text::Disassembly;
+use std::fmt;
+
+#[derive(Clone, Debug, PartialEq, Eq)]
+pub struct Assumption {
+    pub what: &'static str,
+    /// How often there is occasion to it; nothing where that is not counted.
+    pub times: Option<usize>,
+}
+
+impl fmt::Display for Assumption {
+    fn fmt(&self, out: &mut fmt::Formatter) -> fmt::Result {
+        match self.times {
+            Some(times) => write!(out, "{}: {times}", self.what),
+            None => write!(out, "{}", self.what),
+        }
+    }
+}
 
 #[derive(Default)]
 struct Occasions {
@@ -14,27 +31,21 @@ struct Occasions {
     returns: usize,
 }
 
-/// The lines of the report's head.
-pub fn stated(text: &Disassembly, control: &ControlFlow) -> Vec<String> {
+pub fn stated(text: &Disassembly, control: &ControlFlow) -> Vec<Assumption> {
     let mut seen = Occasions::default();
     for (line, step) in text.lines.iter().zip(&control.steps) {
         seen.take(line.text, *step);
     }
     let always = "code is not changed, and nothing but the program changes its registers";
-    let mut lines = vec!["assumed:".to_string(), format!("  {always}")];
-    let mut state = |count: usize, what: &str| {
-        if count > 0 {
-            lines.push(format!("  {what}: {count}"));
-        }
-    };
-    state(seen.jumps, "indirect jumps stay in their functions or go to known entries");
-    state(seen.through_slots, "jumps through slots that the loader fills go to functions");
-    state(seen.calls, "indirect calls go to known entries");
-    state(seen.returns, "returns go behind their calls");
-    if control.returns > 0 {
-        lines.push(format!("returns that are taken for indirect jumps: {}", control.returns));
-    }
-    lines
+    let counted = [
+        (seen.jumps, "indirect jumps stay in their functions or go to known entries"),
+        (seen.through_slots, "jumps through slots that the loader fills go to functions"),
+        (seen.calls, "indirect calls go to known entries"),
+        (seen.returns, "returns go behind their calls"),
+    ];
+    let counted = counted.into_iter().filter(|(times, _)| *times > 0);
+    let counted = counted.map(|(times, what)| Assumption { what, times: Some(times) });
+    [Assumption { what: always, times: None }].into_iter().chain(counted).collect()
 }
 
 impl Occasions {

@@ -1,8 +1,8 @@
 //! The dump: from bytes to text, or for a refused sheet the refusal with the
 //! bytes around its place.
 
-use crate::judges::reader::{read, Refusal};
 use crate::sheets::names::{flag, mnemonic, operator, refusal, value_type};
+use crate::sheets::reader::{read, Refusal};
 use crate::sheets::syntax::*;
 use std::fmt::Write;
 

@@ -58,6 +58,8 @@ pub mod mnemonic {
     pub const UNARY: [u8; 4] = [NOT, INC, DEC, NEG];
     /// With two operands, mov apart.
     pub const BINARY: [u8; 7] = [ADD, SUB, CMP, AND, OR, XOR, TEST];
+    /// Those whose effect is worked out.
+    pub const MODELLED: std::ops::RangeInclusive<u8> = STC..=NEG;
     /// Jumps on register 1.
     pub const COUNT_JUMPS: std::ops::RangeInclusive<u8> = JRCXZ..=JCXZ;
 }

@@ -41,7 +41,7 @@ pub struct Copy {
 
 impl Copy {
     pub fn new(name: &str, bytes: &[u8]) -> Result<Copy, String> {
-        let path = std::env::temp_dir().join(format!("oracle-list-{}-{name}", process::id()));
+        let path = std::env::temp_dir().join(format!("pomthija-{}-{name}", process::id()));
         let written = fs::write(&path, bytes);
         written.map_err(|error| format!("{}: {error}", path.display()))?;
         Ok(Copy { path })

@@ -1,13 +1,13 @@
 //! What the lister claims of each line, for a program that watches the
 //! processor run the file: what the instruction may change, whether a block
-//! starts there, and the verdict. `programs/trace_steps.c` reads it.
+//! starts there, and the verdict. `oracle/programs/trace_steps.c` reads it.
 
-use crate::disassembly::blocks::Leaders;
 use crate::disassembly::instruction::listed;
-use crate::disassembly::text::Disassembly;
+use crate::disassembly::judge::verdict;
+use crate::disassembly::listing::Listing;
+use crate::disassembly::program::Program;
 use crate::sheets::names::{flag, mnemonic};
 use crate::sheets::syntax::{Instruction, Operand, Register, GENERAL_CLASS};
-use std::collections::BTreeMap;
 use std::fmt::Write;
 
 /// Registers by index, a bit each, and flags.
@@ -54,16 +54,18 @@ pub fn changes(instruction: &Instruction) -> Changes {
 
 /// A line for each instruction: its address and that of the one behind it (0 if
 /// none), `c` if it is call-like, the registers and flags that it may change,
-/// `b` if a block starts there, its target (0 if none), its verdict.
-pub fn written(text: &Disassembly, leaders: &Leaders, verdicts: &BTreeMap<u64, bool>) -> String {
+/// `b` if a block starts there, its target (0 if none), its verdict, or `dead` if it is
+/// not run because of the verdicts.
+pub fn written(program: &Program, listing: &Listing) -> String {
+    let Program { text, leaders, .. } = program;
     let mut out = String::new();
     for (number, line) in text.lines.iter().enumerate() {
         let instruction = listed(line).instruction;
         let next = text.lines.get(number + 1).filter(|next| !next.after_gap);
         let Changes { registers, flags } = changes(&instruction);
-        let verdict = match verdicts.get(&line.address) {
-            Some(true) => "always",
-            Some(false) => "never",
+        let verdict = match listing.branches.get(&line.address) {
+            _ if listing.is_dead(number) => "dead",
+            Some(branch) => verdict(branch.always),
             None => "-",
         };
         let letter = |yes: bool, letter: char| if yes { letter } else { '-' };

@@ -1,8 +1,9 @@
 //! Functions as sheets: one for each, or several where it is too long.
 
 use crate::disassembly::blocks::{blocks, Leaders};
+use crate::disassembly::control_flow::Outside;
 use crate::disassembly::instruction::{listed, Standing};
-use crate::disassembly::text::{Disassembly, Label};
+use crate::disassembly::text::Disassembly;
 use crate::sheets::encode::encode;
 use crate::sheets::syntax::{Block, Instruction, Sheet};
 use std::collections::BTreeMap;
@@ -18,17 +19,10 @@ const MOST_BYTES: usize = 65_536;
 const EMPTY: usize = 6;
 const BLOCK: usize = 16;
 
-/// A sheet with the number of its function's label.
-#[derive(Debug)]
-pub struct FunctionSheet {
-    pub function: usize,
-    pub sheet: Sheet,
-}
-
 #[derive(Debug, Default, PartialEq, Eq)]
 pub struct Counts {
     pub functions: usize,
-    /// Labels with no instruction of their own.
+    /// Starts of functions with no instruction of their own.
     pub empty: usize,
     /// Functions in which any instruction may be entered.
     pub open: usize,
@@ -44,26 +38,33 @@ pub struct Counts {
     pub unknown: BTreeMap<String, usize>,
 }
 
-/// The line numbers of each label's function: from it to the next label.
-pub fn functions<'a>(text: &Disassembly<'a>) -> Vec<(Label<'a>, Range<usize>)> {
-    let at = |address: u64| text.lines.partition_point(|line| line.address < address);
-    let ends = text.labels.iter().skip(1).map(|label| at(label.address)).chain([text.lines.len()]);
-    text.labels.iter().zip(ends).map(|(label, end)| (*label, at(label.address)..end)).collect()
+/// The line numbers of each function: from a label, or from where a function starts by
+/// the file, to the next.
+pub fn functions(text: &Disassembly, outside: &Outside) -> Vec<Range<usize>> {
+    let labels = text.labels.iter().map(|label| label.address);
+    let known = outside.functions.iter().map(|span| span.start);
+    let first = text.lines.first().map(|line| line.address);
+    let mut starts: Vec<u64> = labels.chain(known).chain(first).collect();
+    starts.sort_unstable();
+    starts.dedup();
+    let at = |address: &u64| text.lines.partition_point(|line| line.address < *address);
+    let ends = starts.iter().skip(1).map(at).chain([text.lines.len()]);
+    starts.iter().map(at).zip(ends).map(|(start, end)| start..end).collect()
 }
 
 /// The sheets of one function, being filled.
-struct Cutter<'a> {
-    function: usize,
-    filled: &'a mut Vec<FunctionSheet>,
+#[derive(Default)]
+struct Cutter {
+    filled: Vec<Sheet>,
     sheet: Sheet,
     bytes: usize,
 }
 
-impl Cutter<'_> {
+impl Cutter {
     fn finish(&mut self) {
         let sheet = std::mem::take(&mut self.sheet);
         if !sheet.instructions.is_empty() {
-            self.filled.push(FunctionSheet { function: self.function, sheet });
+            self.filled.push(sheet);
         }
         self.bytes = EMPTY;
     }
@@ -109,15 +110,13 @@ fn pieces(instructions: Vec<Instruction>) -> Vec<(Vec<Instruction>, usize)> {
 pub fn of_function(
     text: &Disassembly,
     leaders: &Leaders,
-    (function, lines): (usize, Range<usize>),
+    lines: Range<usize>,
     counts: &mut Counts,
-) -> Vec<FunctionSheet> {
+) -> Vec<Sheet> {
     counts.functions += 1;
     counts.empty += usize::from(lines.is_empty());
     counts.open += usize::from(leaders.open[lines.clone()].contains(&true));
-    let mut filled = Vec::new();
-    let mut cutter =
-        Cutter { function, filled: &mut filled, sheet: Sheet::default(), bytes: EMPTY };
+    let mut cutter = Cutter { bytes: EMPTY, ..Cutter::default() };
     for block in blocks(&leaders.leads, lines) {
         let open = leaders.open[block.start];
         let instructions: Vec<Instruction> =
@@ -130,7 +129,7 @@ pub fn of_function(
         }
     }
     cutter.finish();
-    filled
+    cutter.filled
 }
 
 fn counted(text: &Disassembly, number: usize, open: bool, counts: &mut Counts) -> Instruction {

@@ -3,6 +3,7 @@
 pub mod encode;
 pub mod from_text;
 pub mod names;
+pub mod reader;
 pub mod syntax;
 pub mod to_text;
 pub mod types;

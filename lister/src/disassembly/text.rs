@@ -206,6 +206,18 @@ impl Disassembly<'_> {
         ends[0] <= Some(address) && Some(address) <= ends[1]
     }
 
+    /// An address with the name before it, as objdump shows the target of a jump.
+    pub fn shown(&self, address: u64) -> String {
+        let after = self.labels.partition_point(|label| label.address <= address);
+        let Some(label) = after.checked_sub(1).map(|number| self.labels[number]) else {
+            return format!("{address:x}");
+        };
+        match address - label.address {
+            0 => format!("{address:x} <{}>", label.name),
+            offset => format!("{address:x} <{}+{offset:#x}>", label.name),
+        }
+    }
+
     /// The number of the line at this address, or of the one before it.
     pub fn line_at(&self, address: u64) -> Result<usize, usize> {
         self.lines.binary_search_by_key(&address, |line| line.address)

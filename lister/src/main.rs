@@ -1,0 +1,177 @@
+//! The command `pomthija`. docs/LISTER.md describes `list`, docs/TEXT.md the others.
+
+mod engine;
+mod progress;
+
+use lister::disassembly::listing::{self, Job};
+use lister::disassembly::program::{content, Input, Source};
+use lister::disassembly::{annotated, json, report, steps};
+use lister::options::{Options, Shape};
+use lister::sheets::{from_text, reader, to_text};
+use progress::Progress;
+use std::io::{self, ErrorKind, Write};
+use std::process::ExitCode;
+use std::thread;
+
+const HELP: &str = "\
+pomthija: which conditional branches of an x86-64 program are always or never taken
+
+  pomthija list FILE               the decided branches of a linked program or library
+    --text                         FILE is the output of objdump -d -M intel
+    --json                         as JSON
+    --annotate                     the disassembly with the verdicts and what is dead by them
+    --save FOLDER                  stores the sheets and their listings
+    --steps FILE                   stores what is claimed of each instruction
+  pomthija write TEXT SHEET        writes a sheet from its text
+  pomthija show SHEET              shows a sheet as text, or why it is refused
+  pomthija fields TEXT             lists the fields of a text's sheet
+  pomthija --help, --version
+
+Options stand anywhere. A file name of - is standard input or output.
+Status: 0 done, 1 refused, 2 wrong usage.";
+
+const LIST: Shape = Shape {
+    flags: &["--text", "--json", "--annotate"],
+    values: &["--save", "--steps"],
+    words: &["the file to list"],
+};
+const WRITE: Shape = Shape { flags: &[], values: &[], words: &["the text", "the sheet"] };
+const SHOW: Shape = Shape { flags: &[], values: &[], words: &["the sheet"] };
+const FIELDS: Shape = Shape { flags: &[], values: &[], words: &["the text"] };
+
+enum Failure {
+    Usage(String),
+    Refused(String),
+}
+
+type Outcome = Result<(), Failure>;
+
+fn main() -> ExitCode {
+    let words: Vec<String> = std::env::args().skip(1).collect();
+    let work = thread::Builder::new().stack_size(engine::STACK).spawn(move || command(&words));
+    let outcome = match work.map(|thread| thread.join()) {
+        Ok(Ok(outcome)) => outcome,
+        Ok(Err(_)) => return ExitCode::from(1),
+        Err(error) => Err(Failure::Refused(error.to_string())),
+    };
+    match outcome {
+        Ok(()) => ExitCode::SUCCESS,
+        Err(Failure::Refused(message)) => {
+            eprintln!("pomthija: {message}");
+            ExitCode::from(1)
+        }
+        Err(Failure::Usage(message)) => {
+            eprintln!("pomthija: {message}; pomthija --help says more");
+            ExitCode::from(2)
+        }
+    }
+}
+
+fn command(words: &[String]) -> Outcome {
+    let before_others = words.iter().take_while(|word| *word != "--");
+    for word in before_others {
+        match word.as_str() {
+            "--help" => return say(&format!("{HELP}\n")),
+            "--version" => {
+                let (package, interface) = (env!("CARGO_PKG_VERSION"), engine::version());
+                return say(&format!("pomthija {package}, interface {interface}\n"));
+            }
+            _ => {}
+        }
+    }
+    let Some(at) = words.iter().position(|word| !word.starts_with('-')) else {
+        return Err(Failure::Usage("no command is named".to_string()));
+    };
+    let rest: Vec<String> = [&words[..at], &words[at + 1..]].concat();
+    let options = |shape| Options::parse(&rest, shape).map_err(Failure::Usage);
+    match words[at].as_str() {
+        "list" => list(&options(&LIST)?),
+        "write" => write_sheet(&options(&WRITE)?),
+        "show" => show(&options(&SHOW)?),
+        "fields" => fields(&options(&FIELDS)?),
+        other => Err(Failure::Usage(format!("'{other}' is no command"))),
+    }
+}
+
+fn refused(path: &str) -> impl Fn(String) -> Failure + '_ {
+    move |message| Failure::Refused(format!("{path}: {message}"))
+}
+
+/// Writes to standard output. A reader that has seen enough is no failure.
+fn say(text: &str) -> Outcome {
+    let mut out = io::stdout().lock();
+    match out.write_all(text.as_bytes()).and_then(|()| out.flush()) {
+        Err(error) if error.kind() != ErrorKind::BrokenPipe => {
+            Err(Failure::Refused(format!("standard output: {error}")))
+        }
+        _ => Ok(()),
+    }
+}
+
+fn store(path: &str, bytes: &[u8]) -> Outcome {
+    let stored = match path {
+        "-" => io::stdout().write_all(bytes),
+        _ => std::fs::write(path, bytes),
+    };
+    stored.map_err(|error| refused(path)(error.to_string()))
+}
+
+fn list(options: &Options) -> Outcome {
+    if options.has("--json") && options.has("--annotate") {
+        return Err(Failure::Usage("--json and --annotate exclude each other".to_string()));
+    }
+    let path = &options.words[0];
+    let source = if options.has("--text") { Source::Text(path) } else { Source::File(path) };
+    let progress = Progress::start();
+    progress.say(|| "the disassembly is read".to_string());
+    let input = Input::read(&source).map_err(refused(path))?;
+    progress.say(|| "entries are looked for".to_string());
+    let program = input.program().map_err(refused(path))?;
+    let job = Job {
+        judge: &engine::listed,
+        save: options.value("--save"),
+        progress: &|done, all| progress.say(|| format!("{done} of {all} functions are judged")),
+    };
+    let listing = listing::list(&program, &job).map_err(refused(path))?;
+    drop(progress);
+    if let Some(path) = options.value("--steps") {
+        store(path, steps::written(&program, &listing).as_bytes())?;
+    }
+    let lines = match (options.has("--json"), options.has("--annotate")) {
+        (true, _) => json::lines(&program, &listing),
+        (_, true) => annotated::lines(&program, &listing),
+        _ => report::lines(&program, &listing),
+    };
+    say(&lines.iter().map(|line| format!("{line}\n")).collect::<String>())
+}
+
+fn written(path: &str) -> Result<from_text::Written, Failure> {
+    let bytes = content(path).map_err(refused(path))?;
+    let text = String::from_utf8(bytes).map_err(|_| refused(path)("not text".to_string()))?;
+    from_text::write(&text).map_err(|error| Failure::Refused(format!("{path}, {error}")))
+}
+
+fn write_sheet(options: &Options) -> Outcome {
+    let written = written(&options.words[0])?;
+    store(&options.words[1], &written.bytes)?;
+    if let Err(refusal) = reader::read(&written.bytes) {
+        eprintln!("note: reading this sheet is {refusal}");
+    }
+    Ok(())
+}
+
+fn fields(options: &Options) -> Outcome {
+    let fields = written(&options.words[0])?.fields;
+    let lines = fields.iter().map(|field| format!("{:8}  {}\n", field.start, field.name));
+    say(&lines.collect::<String>())
+}
+
+fn show(options: &Options) -> Outcome {
+    let path = &options.words[0];
+    let bytes = content(path).map_err(refused(path))?;
+    say(&to_text::dump(&bytes))?;
+    match reader::read(&bytes) {
+        Ok(_) => Ok(()),
+        Err(_) => Err(Failure::Refused(format!("{path}: the sheet is refused"))),
+    }
+}
