@@ -4,7 +4,7 @@ use mathlib.Core.Path.{_≡_, refl, sym, ap, _∙_}
 use mathlib.Core.List.{List, [], _∷_}
 use mathlib.Core.Logic.{_⊎_, inl, inr}
 use native.Mathlib.Omega.{arith}
-use lib.ListN.{length, take, replicate, length-replicate}
+use lib.ListN.{length, take, replicate, length-replicate, length-map}
 use lib.Seq.{length-take-le}
 use borrow.Author.Tests.{le-leb, lt-leb}
 use Rattle.isa.specs.declared.Instruction.{Instruction}
@@ -13,6 +13,7 @@ use Rattle.sheet.specs.declared.Reading.{Reading}
 use Rattle.sheet.specs.declared.Reading.the-variants as reading
 use Rattle.sheet.specs.Sheet.{sheetAt, readingOf}
 use Rattle.sheet.specs.Index.{over, addressesOf, targetsOf}
+use Rattle.sheet.proofs.ByNumber.{instructions-count}
 use Rattle.sheet_bytes.specs.Write.{records}
 use Rattle.verdict_lines.specs.Lines.{lineBytes}
 use Rattle.verdict_lines.specs.Slots.{decidedIn, linesIn}
@@ -74,6 +75,11 @@ module _ {n : ℕ} {slots : List ℕ} (empty : Empty n slots) where
 
   pub slots-front : (code : List Instruction) → length code ≡ n → take n slots ≡ slotsOf code []
   slots-front code long = rw (empty .nothing, take-nothing n (length slots) (empty .enough), ← long) (slots-empty code)
+
+-- as many targets as slots
+pub targets-count : (s : List ℕ) (sheet : Sheet) → readingOf s ≡ reading.Accepted sheet → length (targetsOf (sheetAt s .instructions .list)) ≡ sheet .instructions .count
+unfolding targetsOf
+targets-count s sheet read = rw length-map (instructions-count s sheet read)
 
 -- reading first
 module _ (s list : List ℕ) {r : Reading} (read : r ≡ readingOf s) where

@@ -6,7 +6,7 @@ ghost use mathlib.Core.Path.{_≡_};
 ghost use lib.ListN.{length, replicate};
 ghost use Rattle.sheet.specs.declared.Reading.the-variants.{Accepted};
 ghost use Rattle.sheet.specs.Sheet.{sheetAt, readingOf};
-ghost use Rattle.sheet.specs.Index.{addressesOf, targetsOf, branchesOf, InFront};
+ghost use Rattle.sheet.specs.Index.{addressesOf, targetsOf, InFront};
 ghost use Rattle.verdict_lines.specs.Slots.{linesIn};
 ghost use Rattle.verdict_sheet.specs.Said.{judgedUpTo};
 ghost use Rattle.answer_listing.specs.Listing.{Gives, written, onJudged, listingOf};
@@ -19,16 +19,24 @@ pub enum Listed {
 }
 
 // The lines that slots hold, written where the list can hold them.
-fn write_lines(s: &[u8], sites: &[u64], targets: &[u64], slots: &[u8], list: &mut [u8]) -> Listed
-    requires { ⌜ length (now sites) ≡ length (now slots) ⌝ }
-    requires { ⌜ length (now targets) ≡ length (now slots) ⌝ }
-    ensures { λ r. ⌜ Gives r (now (list .exit)) (written (now (s .entry)) (linesIn (now (sites .entry)) (now (targets .entry)) (now (slots .entry))) (now (list .entry))) ⌝ }
+fn write_lines(
+    s: &[u8],
+    sheet: Sheet,
+    sites: &[u64],
+    places: &[u64],
+    slots: &[u8],
+    list: &mut [u8],
+) -> Listed
+    requires { ⌜ readingOf (now s) ≡ Accepted sheet ⌝ }
+    requires { ⌜ now places ≡ sheetAt (now s) .instructions .places ⌝ }
+    requires { ⌜ (length (now sites) ≡ length (now slots)) × (length (targetsOf (sheetAt (now s) .instructions .list)) ≡ length (now slots)) ⌝ }
+    ensures { λ r. ⌜ Gives r (now (list .exit)) (written (now (s .entry)) (linesIn (now (sites .entry)) (targetsOf (sheetAt (now (s .entry)) .instructions .list)) (now (slots .entry))) (now (list .entry))) ⌝ }
 {
     let n = verdict_lines::count(slots);
     if ((list.len() / 18) as u64) < n {
         return Listed::Refused(refusal::ROOM, s.len());
     }
-    verdict_lines::write(sites, targets, slots, list);
+    verdict_lines::write(s, sheet, sites, places, slots, list);
     Listed::Lines(n)
 }
 
@@ -38,21 +46,18 @@ enum Attempt {
     TooShort,
 }
 
-// The listing of an accepted sheet with its index at the start of five lists, on slots that hold nothing.
+// The listing of an accepted sheet with its index at the start of three lists, on slots that hold nothing.
 fn list_sheet(
     s: &[u8],
     sheet: Sheet,
     addresses: &[u64],
     places: &[u64],
-    targets: &[u64],
-    branches: &[bool],
     nodes: &[u64],
     room: &mut [u8],
     list: &mut [u8],
 ) -> Listed
     requires { ⌜ readingOf (now s) ≡ Accepted sheet ⌝ }
     requires { ⌜ InFront (sheet .instructions .count) (now addresses) (addressesOf (sheetAt (now s) .instructions .list)) × InFront (sheet .instructions .count) (now places) (sheetAt (now s) .instructions .places) ⌝ }
-    requires { ⌜ InFront (sheet .instructions .count) (now targets) (targetsOf (sheetAt (now s) .instructions .list)) × InFront (sheet .instructions .count) (now branches) (branchesOf (sheetAt (now s) .instructions .list)) ⌝ }
     requires { ⌜ InFront (sheet .nodes .count) (now nodes) (sheetAt (now s) .nodes .places) ⌝ }
     requires { ⌜ Empty (sheet .instructions .count) (now room) ⌝ }
     ensures { λ r. ⌜ Gives r (now (list .exit)) (onJudged (judgedUpTo (now (s .entry)) (sheet .blocks .count) (sheet .nodes .count)) (now (s .entry)) (now (list .entry))) ⌝ }
@@ -62,18 +67,11 @@ fn list_sheet(
     let node_section = sheet.nodes;
     let m = node_section.count as usize;
     let sites = &addresses[..n];
+    let offsets = &places[..n];
     let slots = &mut room[..n];
-    let reached = verdict_sheet::judge(
-        s,
-        sheet,
-        sites,
-        &places[..n],
-        &branches[..n],
-        &nodes[..m],
-        slots,
-    );
+    let reached = verdict_sheet::judge(s, sheet, sites, offsets, &nodes[..m], slots);
     match reached {
-        Progress::Through => write_lines(s, sites, &targets[..n], slots, list),
+        Progress::Through => write_lines(s, sheet, sites, offsets, slots, list),
         Progress::Refused(k, at) => Listed::Refused(k, at),
     }
 }
@@ -83,18 +81,15 @@ fn list_in(
     s: &[u8],
     addresses: &mut [u64],
     places: &mut [u64],
-    targets: &mut [u64],
-    branches: &mut [bool],
     nodes: &mut [u64],
     slots: &mut [u8],
     list: &mut [u8],
 ) -> Attempt
     requires { ⌜ (length (now addresses) ≡ length (now slots)) × (length (now places) ≡ length (now slots)) ⌝ }
-    requires { ⌜ (length (now targets) ≡ length (now slots)) × (length (now branches) ≡ length (now slots)) ⌝ }
     requires { ⌜ now slots ≡ replicate (length (now slots)) 0 ⌝ }
     ensures { λ r. ⌜ Attempted r (length (now (slots .entry))) (length (now (nodes .entry))) (now (s .entry)) (now (list .entry)) (now (list .exit)) ⌝ }
 {
-    let reading = sheet::read_index(s, addresses, places, targets, branches, nodes);
+    let reading = sheet::read_index(s, addresses, places, nodes);
     match reading {
         Reading::Refused(k, at) => Attempt::Done(Listed::Refused(k, at)),
         Reading::Accepted(sheet) => {
@@ -106,42 +101,20 @@ fn list_in(
             if (nodes.len() as u64) < node_section.count {
                 return Attempt::TooShort;
             }
-            let r = list_sheet(
-                s,
-                sheet,
-                addresses,
-                places,
-                targets,
-                branches,
-                nodes,
-                slots,
-                list,
-            );
-            Attempt::Done(r)
+            Attempt::Done(list_sheet(s, sheet, addresses, places, nodes, slots, list))
         }
     }
 }
 
-// The listing of any sheet.
+// The listing with an index for the largest sheet.
 fn list_long(s: &[u8], list: &mut [u8]) -> Listed
     ensures { λ r. ⌜ Gives r (now (list .exit)) (listingOf (now (s .entry)) (now (list .entry))) ⌝ }
 {
     let mut addresses = [0u64; 2048];
     let mut places = [0u64; 2048];
-    let mut targets = [0u64; 2048];
-    let mut branches = [false; 2048];
     let mut nodes = [0u64; 1024];
     let mut slots = verdict_lines::empty_slots();
-    let attempt = list_in(
-        s,
-        &mut addresses,
-        &mut places,
-        &mut targets,
-        &mut branches,
-        &mut nodes,
-        &mut slots,
-        list,
-    );
+    let attempt = list_in(s, &mut addresses, &mut places, &mut nodes, &mut slots, list);
     match attempt {
         Attempt::Done(r) => r,
         // no sheet has more than 2,048 instructions or 1,024 nodes
@@ -149,38 +122,52 @@ fn list_long(s: &[u8], list: &mut [u8]) -> Listed
     }
 }
 
-// The listing of a short sheet, with less to clear.
-fn list_short(s: &[u8], list: &mut [u8]) -> Listed
+// The listing with an index of 256 entries, with less to clear.
+fn list_medium(s: &[u8], list: &mut [u8]) -> Listed
     ensures { λ r. ⌜ Gives r (now (list .exit)) (listingOf (now (s .entry)) (now (list .entry))) ⌝ }
 {
-    let mut addresses = [0u64; 64];
-    let mut places = [0u64; 64];
-    let mut targets = [0u64; 64];
-    let mut branches = [false; 64];
-    let mut nodes = [0u64; 64];
-    let mut slots = [0u8; 64];
-    let attempt = list_in(
-        s,
-        &mut addresses,
-        &mut places,
-        &mut targets,
-        &mut branches,
-        &mut nodes,
-        &mut slots,
-        list,
-    );
+    let mut addresses = [0u64; 256];
+    let mut places = [0u64; 256];
+    let mut nodes = [0u64; 256];
+    let mut slots = [0u8; 256];
+    let attempt = list_in(s, &mut addresses, &mut places, &mut nodes, &mut slots, list);
     match attempt {
         Attempt::Done(r) => r,
         Attempt::TooShort => list_long(s, list),
     }
 }
 
-// The lines of a sheet, written over the start of a borrowed list.
+// The listing of a sheet that is not very short.
+fn list_longer(s: &[u8], list: &mut [u8]) -> Listed
+    ensures { λ r. ⌜ Gives r (now (list .exit)) (listingOf (now (s .entry)) (now (list .entry))) ⌝ }
+{
+    if s.len() <= 4096 {
+        return list_medium(s, list);
+    }
+    list_long(s, list)
+}
+
+// The listing with an index of 16 entries.
+fn list_short(s: &[u8], list: &mut [u8]) -> Listed
+    ensures { λ r. ⌜ Gives r (now (list .exit)) (listingOf (now (s .entry)) (now (list .entry))) ⌝ }
+{
+    let mut addresses = [0u64; 16];
+    let mut places = [0u64; 16];
+    let mut nodes = [0u64; 16];
+    let mut slots = [0u8; 16];
+    let attempt = list_in(s, &mut addresses, &mut places, &mut nodes, &mut slots, list);
+    match attempt {
+        Attempt::Done(r) => r,
+        Attempt::TooShort => list_longer(s, list),
+    }
+}
+
+// The lines of a sheet, written over the start of a borrowed list. The index is as long as a sheet of that length is likely to need.
 pub fn listing(s: &[u8], list: &mut [u8]) -> Listed
     ensures { λ r. ⌜ Gives r (now (list .exit)) (listingOf (now (s .entry)) (now (list .entry))) ⌝ }
 {
-    if s.len() <= 640 {
+    if s.len() <= 166 {
         return list_short(s, list);
     }
-    list_long(s, list)
+    list_longer(s, list)
 }

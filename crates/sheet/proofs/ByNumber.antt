@@ -1,8 +1,8 @@
 -- A block, an instruction and a node of an accepted sheet, found by number.
 use Prim.Native.Nat.{ℕ, _+_, _*_, _≤_, _<_}
-use mathlib.Core.Path.{_≡_, sym, ap, _∙_}
-use mathlib.Core.List.{List}
-use mathlib.Core.Bool.{Bool, true}
+use mathlib.Core.Path.{_≡_, refl, sym, ap, _∙_}
+use mathlib.Core.List.{List, map}
+use mathlib.Core.Bool.{Bool, true, false}
 use native.Mathlib.Omega.{arith}
 use lib.ListN.{length, getD, length-map}
 use Rattle.sheet_field.specs.declared.Place.{Place}
@@ -20,7 +20,7 @@ use Rattle.sheet.specs.declared.Reading.the-variants as reading
 use Rattle.sheet.specs.Sheet.{noBlock, blockAt, instructionsFrom, nodesFrom, sheetAt, readingOf}
 use Rattle.sheet.specs.Index.{over, addressesOf, targetsOf, branchesOf, Indexed, InFront}
 use Rattle.sheet.proofs.Accepted.{accepted, blockOf, block-at, nodes-back, nodes-next, nodes-nth, node-places-nth, node-places-length}
-use Rattle.sheet.proofs.Fronts.{instructions-length, places-length, over-length, over-front}
+use Rattle.sheet.proofs.Fronts.{one, map-at, instructions-length, places-length, over-length, over-front}
 use Rattle.sheet.proofs.Rising.{rising}
 use Rattle.sheet.proofs.Again.{again-on, again-is}
 
@@ -70,6 +70,24 @@ module _ (s : List ℕ) (sheet : Sheet) (read : readingOf s ≡ reading.Accepted
     nth-instruction-is i-is d =
         rw (i-is, places-are, ← accepted s sheet read .instructions) (again-is s code (sheet .instructions .count) number code-on numbered d)
 
+    -- a field of it
+    nth-field : {A : Type 0} (f : Instruction → A) (e : A) → f (instructionAt true 0 s (At (getD places number 0)) .instruction) ≡ getD (map f (sheetAt s .instructions .list)) number e
+    nth-field f e =
+        let l = sheetAt s .instructions .list in
+        let there : number < length l = rw instructions-count numbered in
+        let d = one l number there in
+        ap f (nth-instruction-is refl d) ∙ sym (map-at f l number d e there)
+
+    pub nth-branch-is : {b : Bool} → b ≡ instructionAt true 0 s (At (getD places number 0)) .instruction .branch
+        → b ≡ getD (branchesOf (sheetAt s .instructions .list)) number false
+    unfolding branchesOf
+    nth-branch-is is = is ∙ nth-field (λ (i : Instruction). i .branch) false
+
+    pub nth-target-is : {t : ℕ} → t ≡ instructionAt true 0 s (At (getD places number 0)) .instruction .target
+        → t ≡ getD (targetsOf (sheetAt s .instructions .list)) number 0
+    unfolding targetsOf
+    nth-target-is is = is ∙ nth-field (λ (i : Instruction). i .target) 0
+
   module _ (number : ℕ) {places : List ℕ} {r : NodeReading} (places-are : places ≡ sheetAt s .nodes .places) (below : number < length places)
       (r-is : r ≡ nodeAt s (At (getD places number 0))) where
     counted : number < sheet .nodes .count
@@ -107,7 +125,7 @@ module _ (s : List ℕ) (sheet : Sheet) (read : readingOf s ≡ reading.Accepted
   front n before entries is long fits =
       record { room = rw (is, over-length entries before) fits; are = rw (is, ← long) (over-front entries before (rw long fits)) }
 
-  module _ {a₀ a p₀ p t₀ t : List ℕ} {b₀ b : List Bool} {n₀ n : List ℕ} (index : Indexed a₀ a p₀ p t₀ t b₀ b n₀ n (sheetAt s)) where
+  module _ {a₀ a p₀ p n₀ n : List ℕ} (index : Indexed a₀ a p₀ p n₀ n (sheetAt s)) where
     pub front-addresses : sheet .instructions .count ≤ length a₀ → InFront (sheet .instructions .count) a (addressesOf (sheetAt s .instructions .list))
     unfolding addressesOf
     front-addresses room =
@@ -115,16 +133,6 @@ module _ (s : List ℕ) (sheet : Sheet) (read : readingOf s ≡ reading.Accepted
 
     pub front-places : sheet .instructions .count ≤ length p₀ → InFront (sheet .instructions .count) p (sheetAt s .instructions .places)
     front-places room = front _ _ _ (index .instructions .places) places-count room
-
-    pub front-targets : sheet .instructions .count ≤ length t₀ → InFront (sheet .instructions .count) t (targetsOf (sheetAt s .instructions .list))
-    unfolding targetsOf
-    front-targets room =
-        front _ _ _ (index .instructions .targets) (rw length-map instructions-count) room
-
-    pub front-branches : sheet .instructions .count ≤ length b₀ → InFront (sheet .instructions .count) b (branchesOf (sheetAt s .instructions .list))
-    unfolding branchesOf
-    front-branches room =
-        front _ _ _ (index .instructions .branches) (rw length-map instructions-count) room
 
     pub front-nodes : sheet .nodes .count ≤ length n₀ → InFront (sheet .nodes .count) n (sheetAt s .nodes .places)
     front-nodes room = front _ _ _ (index .nodes) node-places-count room

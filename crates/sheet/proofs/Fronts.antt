@@ -1,7 +1,6 @@
 -- Entries at the start of a borrowed list, and the index that the loops keep.
 use Prim.Native.Nat.{ℕ, zero, suc, _+_, _≤_, _<_}
 use mathlib.Core.Path.{_≡_, refl, sym, ap, _∙_}
-use mathlib.Core.Bool.{Bool}
 use mathlib.Core.List.{List, [], _∷_, _++_, map}
 use native.Mathlib.Omega.{arith}
 use native.Mathlib.Numerals.{add-one}
@@ -18,7 +17,7 @@ use Rattle.sheet_instruction.specs.Instruction.{instructionAt}
 use Rattle.sheet.specs.Sheet.{InstructionsRead, NodesRead, instructionsFrom, blocksFrom, nodesFrom, sheetAt, readingOf}
 use Rattle.sheet.specs.declared.Sheet.{Sheet}
 use Rattle.sheet.specs.declared.Reading.the-variants as reading
-use Rattle.sheet.specs.Index.{over, addressesOf, targetsOf, branchesOf, Noted, Indexed}
+use Rattle.sheet.specs.Index.{over, addressesOf, Noted, Indexed}
 use Rattle.sheet.proofs.Accepted.{accepted, node-places-length}
 
 module _ {A : Type 0} where
@@ -52,6 +51,17 @@ module _ {A : Type 0} where
   pub map-more : (f : Instruction → A) (l : List Instruction) (x : Instruction) → map f (l ++ (x ∷ [])) ≡ map f l ++ (f x ∷ [])
   map-more f [] x = refl
   map-more f (i ∷ l) x = ap (λ (t : List A). f i ∷ t) (map-more f l x)
+
+-- some instruction of a list that has one
+pub one : (l : List Instruction) (k : ℕ) → k < length l → Instruction
+one [] k there = absurd (omega arith)
+one (x ∷ l) k there = x
+
+-- what a list of instructions' fields has at an index
+pub map-at : {A : Type 0} (f : Instruction → A) (l : List Instruction) (k : ℕ) (d : Instruction) (e : A) → k < length l → getD (map f l) k e ≡ f (getD l k d)
+map-at f [] k d e there = absurd (omega arith)
+map-at f (x ∷ l) zero d e there = refl
+map-at f (x ∷ l) (suc k) d e there = map-at f l k d e (omega arith)
 
 -- as many entries as instructions
 module _ (s : List ℕ) (p : Place) where
@@ -98,22 +108,21 @@ entry : {A : Type 0} {list : List A} (before entries : List A) (x : A) (k : ℕ)
 entry before entries x k is long = rw (is, ← long) (over-more entries before x)
 
 -- what the loop over instructions keeps
-pub record Noting (k : ℕ) (a₀ a p₀ p t₀ t : List ℕ) (b₀ b : List Bool) (last : ℕ) (next : Place) (r : InstructionsRead) : Type 0 where
+pub record Noting (k : ℕ) (a₀ a p₀ p : List ℕ) (last : ℕ) (next : Place) (r : InstructionsRead) : Type 0 where
   pub before : last ≡ r .last
   pub place : next ≡ r .next
-  pub noted : Noted a₀ a p₀ p t₀ t b₀ b r
+  pub noted : Noted a₀ a p₀ p r
 
-pub noting-none : (s : List ℕ) (from : Place) (a p t : List ℕ) (b : List Bool) → Noting 0 a a p p t t b b 0 from (instructionsFrom s from 0)
-unfolding instructionsFrom over addressesOf targetsOf branchesOf
-noting-none s from a p t b =
-    record { before = refl; place = refl; noted = record { addresses = refl; places = refl; targets = refl; branches = refl } }
+pub noting-none : (s : List ℕ) (from : Place) (a p : List ℕ) → Noting 0 a a p p 0 from (instructionsFrom s from 0)
+unfolding instructionsFrom over addressesOf
+noting-none s from a p =
+    record { before = refl; place = refl; noted = record { addresses = refl; places = refl } }
 
-module _ (s : List ℕ) (from : Place) (k : ℕ) {a₀ a a′ p₀ p p′ t₀ t t′ : List ℕ} {b₀ b b′ : List Bool} {last start : ℕ} {next : Place} {r : InstructionReading}
-    (f : Noting k a₀ a p₀ p t₀ t b₀ b last next (instructionsFrom s from k)) (r-is : r ≡ instructionAt (eqb k 0) last s next)
-    (a-is : a′ ≡ set a k (r .instruction .address)) (start-is : start ≡ startOf next) (p-is : p′ ≡ set p k start)
-    (t-is : t′ ≡ set t k (r .instruction .target)) (b-is : b′ ≡ set b k (r .instruction .branch)) where
-  pub noting-more : Noting (k + 1) a₀ a′ p₀ p′ t₀ t′ b₀ b′ (r .instruction .address) (r .next) (instructionsFrom s from (k + 1))
-  unfolding instructionsFrom addressesOf targetsOf branchesOf
+module _ (s : List ℕ) (from : Place) (k : ℕ) {a₀ a a′ p₀ p p′ : List ℕ} {last start : ℕ} {next : Place} {r : InstructionReading}
+    (f : Noting k a₀ a p₀ p last next (instructionsFrom s from k)) (r-is : r ≡ instructionAt (eqb k 0) last s next)
+    (a-is : a′ ≡ set a k (r .instruction .address)) (start-is : start ≡ startOf next) (p-is : p′ ≡ set p k start) where
+  pub noting-more : Noting (k + 1) a₀ a′ p₀ p′ (r .instruction .address) (r .next) (instructionsFrom s from (k + 1))
+  unfolding instructionsFrom addressesOf
   noting-more =
       let u = instructionsFrom s from k in
       let now : r ≡ instructionAt (eqb k 0) (u .last) s (u .next) = rw (← f .before, ← f .place) r-is in
@@ -125,8 +134,6 @@ module _ (s : List ℕ) (from : Place) (k : ℕ) {a₀ a a′ p₀ p p′ t₀ t
         noted = record {
           addresses = rw (a-is, map-more) (entry _ _ _ k (f .noted .addresses) (rw length-map long));
           places = rw (p-is, begin) (entry _ _ _ k (f .noted .places) (places-length s from k));
-          targets = rw (t-is, map-more) (entry _ _ _ k (f .noted .targets) (rw length-map long));
-          branches = rw (b-is, map-more) (entry _ _ _ k (f .noted .branches) (rw length-map long));
         };
       }
 
@@ -142,13 +149,13 @@ places-more s from k n₀ before place-is start-is n-is =
     rw (add-one k, n-is, start-is, place-is) (entry _ _ _ k before (node-places-length s from k))
 
 -- the index of an accepted sheet, from what the loops left
-pub indexed : (s : List ℕ) {i b n : Field} {code ranges graph : Place} {a₀ a p₀ p t₀ t : List ℕ} {b₀ b′ : List Bool} {n₀ n′ : List ℕ}
+pub indexed : (s : List ℕ) {i b n : Field} {code ranges graph : Place} {a₀ a p₀ p n₀ n′ : List ℕ}
     → i ≡ countAt 0 2048 s (At 0) → code ≡ instructionsFrom s (i .next) (i .value) .next
     → b ≡ countAt 0 1024 s code → ranges ≡ blocksFrom s (b .next) (b .value) .next
     → n ≡ countAt 0 1024 s ranges → graph ≡ nodesFrom s (n .next) (n .value) .next
-    → (WentOn code → Noted a₀ a p₀ p t₀ t b₀ b′ (instructionsFrom s (i .next) (i .value)))
+    → (WentOn code → Noted a₀ a p₀ p (instructionsFrom s (i .next) (i .value)))
     → (WentOn graph → n′ ≡ over (nodesFrom s (n .next) (n .value) .places) n₀)
-    → (sheet : Sheet) → readingOf s ≡ reading.Accepted sheet → Indexed a₀ a p₀ p t₀ t b₀ b′ n₀ n′ (sheetAt s)
+    → (sheet : Sheet) → readingOf s ≡ reading.Accepted sheet → Indexed a₀ a p₀ p n₀ n′ (sheetAt s)
 unfolding sheetAt
 indexed s {i} {n = n} i-is code-is b-is ranges-is n-is graph-is noted places sheet read =
     let acc = accepted s sheet read in

@@ -16,6 +16,7 @@ over (x ∷ entries) (b ∷ before) = x ∷ over entries before
 unfoldable pub addressesOf : List Instruction → List ℕ
 addressesOf l = map (λ (i : Instruction). i .address) l
 
+-- where they lead, 0 for one that is no conditional branch
 unfoldable pub targetsOf : List Instruction → List ℕ
 targetsOf l = map (λ (i : Instruction). i .target) l
 
@@ -24,15 +25,13 @@ unfoldable pub branchesOf : List Instruction → List Bool
 branchesOf l = map (λ (i : Instruction). i .branch) l
 
 -- what the index holds of instructions: each borrowed list, as it was and as it is
-pub record Noted (a₀ a p₀ p t₀ t : List ℕ) (b₀ b : List Bool) (r : InstructionsRead) : Type 0 where
+pub record Noted (a₀ a p₀ p : List ℕ) (r : InstructionsRead) : Type 0 where
   pub addresses : a ≡ over (addressesOf (r .list)) a₀
   pub places : p ≡ over (r .places) p₀
-  pub targets : t ≡ over (targetsOf (r .list)) t₀
-  pub branches : b ≡ over (branchesOf (r .list)) b₀
 
 -- the index of a sheet
-pub record Indexed (a₀ a p₀ p t₀ t : List ℕ) (b₀ b : List Bool) (n₀ n : List ℕ) (r : SheetRead) : Type 0 where
-  pub instructions : Noted a₀ a p₀ p t₀ t b₀ b (r .instructions)
+pub record Indexed (a₀ a p₀ p n₀ n : List ℕ) (r : SheetRead) : Type 0 where
+  pub instructions : Noted a₀ a p₀ p (r .instructions)
   pub nodes : n ≡ over (r .nodes .places) n₀
 
 -- the first n elements of a list are these

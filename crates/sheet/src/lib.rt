@@ -4,14 +4,14 @@ use isa::Instruction;
 use sheet_field::Place;
 use sheet_field::Width;
 ghost use mathlib.Core.Path.{_≡_};
-ghost use mathlib.Core.Bool.{true};
+ghost use mathlib.Core.Bool.{false};
 ghost use Prim.Native.Nat.{_≤_, _<_};
 ghost use lib.ListN.{length, getD, set};
 ghost use Rattle.isa.specs.declared.Instruction.{Instruction};
 ghost use Rattle.sheet_field.specs.Field.{WentOn};
 ghost use Rattle.sheet.specs.declared.Reading.the-variants.{Accepted};
 ghost use Rattle.sheet.specs.Sheet.{noBlock, instructionsFrom, blockAt, blocksFrom, nodesFrom, ended, answerOf, sheetAt, readingOf};
-ghost use Rattle.sheet.specs.Index.{over, addressesOf, Noted, Indexed, InFront};
+ghost use Rattle.sheet.specs.Index.{over, addressesOf, targetsOf, branchesOf, Noted, Indexed, InFront};
 ghost use Rattle.sheet.specs.Contracts.{foundOn};
 
 // How many records a section has, and the offset of the first.
@@ -54,26 +54,10 @@ fn note(list: &mut [u64], i: usize, x: u64)
     }
 }
 
-fn mark(list: &mut [bool], i: usize, x: bool)
-    ensures { λ _. ⌜ now (list .exit) ≡ set (now (list .entry)) i x ⌝ }
-{
-    if i < list.len() {
-        list[i] = x;
-    }
-}
-
-// The offset after n instructions, with the address, the offset, the target and the mark of a conditional branch of each at
-// the start of the borrowed lists, as far as these reach.
-fn read_instructions(
-    s: &[u8],
-    p: Place,
-    n: u64,
-    addresses: &mut [u64],
-    places: &mut [u64],
-    targets: &mut [u64],
-    branches: &mut [bool],
-) -> Place
-    ensures { λ r. ⌜ (r ≡ instructionsFrom (now (s .entry)) p n .next) × (WentOn r → Noted (now (addresses .entry)) (now (addresses .exit)) (now (places .entry)) (now (places .exit)) (now (targets .entry)) (now (targets .exit)) (now (branches .entry)) (now (branches .exit)) (instructionsFrom (now (s .entry)) p n)) ⌝ }
+// The offset after n instructions, with the address and the offset of each at the start of the borrowed lists, as far as these
+// reach.
+fn read_instructions(s: &[u8], p: Place, n: u64, addresses: &mut [u64], places: &mut [u64]) -> Place
+    ensures { λ r. ⌜ (r ≡ instructionsFrom (now (s .entry)) p n .next) × (WentOn r → Noted (now (addresses .entry)) (now (addresses .exit)) (now (places .entry)) (now (places .exit)) (instructionsFrom (now (s .entry)) p n)) ⌝ }
 {
     let mut last: u64 = 0;
     let mut next = p;
@@ -86,8 +70,6 @@ fn read_instructions(
         let it = r.instruction;
         note(addresses, i as usize, it.address);
         note(places, i as usize, sheet_field::start(next) as u64);
-        note(targets, i as usize, it.target);
-        mark(branches, i as usize, it.branch);
         last = it.address;
         next = r.next;
         i += 1;
@@ -164,29 +146,14 @@ fn answer(p: Place, sheet: Sheet) -> Reading
 }
 
 // Any bytes: accepted, or the first refusal. Of an accepted sheet the index stands at the start of the borrowed lists, as far
-// as these reach: address, offset, target and the mark of a conditional branch for each instruction, the offset of each node.
-pub fn read_index(
-    s: &[u8],
-    addresses: &mut [u64],
-    places: &mut [u64],
-    targets: &mut [u64],
-    branches: &mut [bool],
-    nodes: &mut [u64],
-) -> Reading
-    ensures { λ r. ⌜ (r ≡ readingOf (now (s .entry))) × ((sheet : Sheet) → r ≡ Accepted sheet → Indexed (now (addresses .entry)) (now (addresses .exit)) (now (places .entry)) (now (places .exit)) (now (targets .entry)) (now (targets .exit)) (now (branches .entry)) (now (branches .exit)) (now (nodes .entry)) (now (nodes .exit)) (sheetAt (now (s .entry)))) ⌝ }
+// as these reach: address and offset of each instruction, the offset of each node.
+pub fn read_index(s: &[u8], addresses: &mut [u64], places: &mut [u64], nodes: &mut [u64]) -> Reading
+    ensures { λ r. ⌜ (r ≡ readingOf (now (s .entry))) × ((sheet : Sheet) → r ≡ Accepted sheet → Indexed (now (addresses .entry)) (now (addresses .exit)) (now (places .entry)) (now (places .exit)) (now (nodes .entry)) (now (nodes .exit)) (sheetAt (now (s .entry)))) ⌝ }
 {
     let mut words = [0u64; 256];
     let i = sheet_field::count(s, Place::At(0), 0, 2048);
     let first_instruction = i.next;
-    let after_instructions = read_instructions(
-        s,
-        first_instruction,
-        i.value,
-        addresses,
-        places,
-        targets,
-        branches,
-    );
+    let after_instructions = read_instructions(s, first_instruction, i.value, addresses, places);
     let b = sheet_field::count(s, after_instructions, 0, 1024);
     let first_block = b.next;
     let after_blocks = check_blocks(s, first_block, b.value);
@@ -215,17 +182,8 @@ pub fn read_index(
 pub fn index_instructions(s: &[u8], addresses: &mut [u64], places: &mut [u64]) -> Reading
     ensures { λ r. ⌜ (r ≡ readingOf (now (s .entry))) × ((sheet : Sheet) → r ≡ Accepted sheet → (sheet .instructions .count ≤ length (now (addresses .entry)) → InFront (sheet .instructions .count) (now (addresses .exit)) (addressesOf (sheetAt (now (s .entry)) .instructions .list))) × (sheet .instructions .count ≤ length (now (places .entry)) → InFront (sheet .instructions .count) (now (places .exit)) (sheetAt (now (s .entry)) .instructions .places))) ⌝ }
 {
-    let mut targets = [0u64; 1];
-    let mut branches = [false; 1];
     let mut nodes = [0u64; 1];
-    read_index(
-        s,
-        addresses,
-        places,
-        &mut targets,
-        &mut branches,
-        &mut nodes,
-    )
+    read_index(s, addresses, places, &mut nodes)
 }
 
 // Any bytes: accepted, or the first refusal. Of an accepted sheet the offset of each node stands at the start of the borrowed
@@ -235,16 +193,7 @@ fn index_nodes(s: &[u8], nodes: &mut [u64]) -> Reading
 {
     let mut addresses = [0u64; 1];
     let mut places = [0u64; 1];
-    let mut targets = [0u64; 1];
-    let mut branches = [false; 1];
-    read_index(
-        s,
-        &mut addresses,
-        &mut places,
-        &mut targets,
-        &mut branches,
-        nodes,
-    )
+    read_index(s, &mut addresses, &mut places, nodes)
 }
 
 // Where the node of that number, from 0, starts; or the refusal.
@@ -297,4 +246,26 @@ pub fn nth_instruction(s: &[u8], sheet: Sheet, places: &[u64], number: usize) ->
 {
     let at = places[number];
     sheet_accepted::instruction_at(s, at as usize)
+}
+
+// Whether the instruction of that number is a conditional branch.
+pub fn is_branch(s: &[u8], sheet: Sheet, places: &[u64], number: usize) -> bool
+    requires { ⌜ readingOf (now s) ≡ Accepted sheet ⌝ }
+    requires { ⌜ now places ≡ sheetAt (now s) .instructions .places ⌝ }
+    requires { ⌜ number < length (now places) ⌝ }
+    ensures { λ r. ⌜ r ≡ getD (branchesOf (sheetAt (now (s .entry)) .instructions .list)) number false ⌝ }
+{
+    let at = places[number];
+    sheet_accepted::is_branch_at(s, at as usize)
+}
+
+// The target of the instruction of that number, 0 where it is no conditional branch.
+pub fn nth_target(s: &[u8], sheet: Sheet, places: &[u64], number: usize) -> u64
+    requires { ⌜ readingOf (now s) ≡ Accepted sheet ⌝ }
+    requires { ⌜ now places ≡ sheetAt (now s) .instructions .places ⌝ }
+    requires { ⌜ number < length (now places) ⌝ }
+    ensures { λ r. ⌜ r ≡ getD (targetsOf (sheetAt (now (s .entry)) .instructions .list)) number 0 ⌝ }
+{
+    let at = places[number];
+    sheet_accepted::target_at(s, at as usize)
 }

@@ -154,6 +154,21 @@ module _ (s : List ℕ) (at : ℕ) (on : WentOn (instructionAt true 0 s (At at) 
   unfolding headAt
   target-is = optional-field-is (bitOf (little s at 1) 1) s (at + 10) (rw (number-is .2, map-is) at (behind-head .1))
 
+  -- its mark and its target
+  pub branch-here : {map : ℕ} → map ≡ little s at 1 → bitOf map 1 ≡ instructionAt true 0 s (At at) .instruction .branch
+  unfolding instructionAt headAt
+  branch-here map-read = rw (map-read, map-is)
+
+  pub target-room : {branch : Bool} → branch ≡ instructionAt true 0 s (At at) .instruction .branch → branch ≡ true → at + 10 + 8 ≤ length s
+  target-room branch-is e = target-is .0 (branch-here refl ∙ sym branch-is ∙ e)
+
+  pub target-here : {branch : Bool} {target : Number} → branch ≡ instructionAt true 0 s (At at) .instruction .branch → target ≡ numberIf branch 8 s (at + 10)
+      → target .value ≡ instructionAt true 0 s (At at) .instruction .target
+  unfolding instructionAt headAt
+  target-here {branch} branch-is target-read =
+      let marked : branch ≡ bitOf (little s at 1) 1 = branch-is ∙ sym (branch-here refl) in
+      rw (target-read, marked, number-is .2, map-is, target-is .1)
+
   module _ {map : ℕ} (map-read : map ≡ little s at 1) {branch : Bool} (branch-is : branch ≡ bitOf map 1) where
     pub target-inside : branch ≡ true → at + 10 + 8 ≤ length s
     target-inside e = target-is .0 (rw (← map-read, ← branch-is) e)

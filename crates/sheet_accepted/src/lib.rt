@@ -140,6 +140,24 @@ fn content_at(s: &[u8], at: usize, map: u64) -> Content
     }
 }
 
+// Whether the instruction that was read at that offset is a conditional branch.
+pub fn is_branch_at(s: &[u8], at: usize) -> bool
+    requires { ⌜ WentOn (instructionAt true 0 (now s) (At at) .next) ⌝ }
+    ensures { λ r. ⌜ r ≡ instructionAt true 0 (now (s .entry)) (At at) .instruction .branch ⌝ }
+{
+    sheet_instruction::bit(sheet_field::number(s, at, Width::One), 1)
+}
+
+// The target of the instruction that was read at that offset, 0 where it has none.
+pub fn target_at(s: &[u8], at: usize) -> u64
+    requires { ⌜ WentOn (instructionAt true 0 (now s) (At at) .next) ⌝ }
+    ensures { λ r. ⌜ r ≡ instructionAt true 0 (now (s .entry)) (At at) .instruction .target ⌝ }
+{
+    let branch = is_branch_at(s, at);
+    let target = number_if(branch, s, at + 10, Width::Eight);
+    target.value
+}
+
 // The instruction that was read at that offset.
 pub fn instruction_at(s: &[u8], at: usize) -> Instruction
     requires { ⌜ WentOn (instructionAt true 0 (now s) (At at) .next) ⌝ }

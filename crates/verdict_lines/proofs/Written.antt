@@ -4,14 +4,27 @@ use mathlib.Core.Path.{_≡_, refl, sym, ap, _∙_}
 use mathlib.Core.List.{List, [], _∷_, _++_, append-nil, append-assoc}
 use native.Mathlib.Omega.{arith}
 use native.Mathlib.Numerals.{add-one}
-use lib.ListN.{length, getD, set, drop, length-append, drop-of-length-le}
+use lib.ListN.{length, getD, set, drop, length-append, length-map, drop-of-length-le}
 use lib.Seq.{drop-cons}
+use Rattle.sheet.specs.declared.Sheet.{Sheet}
+use Rattle.sheet.specs.declared.Reading.the-variants.{Accepted}
+use Rattle.sheet.specs.Sheet.{sheetAt, readingOf}
+use Rattle.sheet.specs.Index.{targetsOf}
+use Rattle.sheet.proofs.ByNumber.{instructions-count, places-count}
 use Rattle.sheet_bytes.specs.Write.{bytes, records}
 use Rattle.sheet_bytes.proofs.Spans.{bytes-length}
 use Rattle.verdict_lines.specs.Lines.{Line, lineBytes}
 use Rattle.verdict_lines.specs.Slots.{decidedOf, slotLine, linesIn, putAt}
 use Rattle.verdict_lines.proofs.Decided.{slot-line}
 use Rattle.verdict_lines.proofs.Puts.{put-none, put-step, put-join}
+
+-- the instruction of a slot has an offset in the index
+pub offset-there : (s : List ℕ) (sheet : Sheet) → readingOf s ≡ Accepted sheet → {places : List ℕ} (slots : List ℕ) (i : ℕ) → places ≡ sheetAt s .instructions .places
+    → length (targetsOf (sheetAt s .instructions .list)) ≡ length slots → i < length slots → i < length places
+unfolding targetsOf
+offset-there s sheet read slots i places-are each below =
+    let many : length slots ≡ length (sheetAt s .instructions .list) = sym each ∙ rw length-map in
+    omega (arith, below, many, instructions-count s sheet read, ap length places-are, places-count s sheet read)
 
 -- no line
 pub slot-none : (at site target : ℕ) {slot : ℕ} (list : List ℕ) → slot ≡ 0 → list ≡ putAt at (records lineBytes (slotLine site target slot)) list

@@ -1,10 +1,13 @@
 // The lines of a listing: one slot for each instruction keeps the first decided verdict on it; from the slots the lines are
 // counted and written.
+use sheet::Sheet;
 use verdict::Verdict;
 ghost use mathlib.Core.Path.{_≡_};
 ghost use Prim.Native.Nat.{_+_, _*_, _≤_, _<_};
 ghost use lib.ListN.{length, replicate};
-ghost use Rattle.sheet.specs.Index.{over};
+ghost use Rattle.sheet.specs.declared.Reading.the-variants.{Accepted};
+ghost use Rattle.sheet.specs.Sheet.{sheetAt, readingOf};
+ghost use Rattle.sheet.specs.Index.{over, targetsOf};
 ghost use Rattle.sheet_bytes.specs.Write.{bytes, records};
 ghost use Rattle.verdict_lines.specs.Lines.{lineBytes};
 ghost use Rattle.verdict_lines.specs.Slots.{slotOf, kept, decidedOf, decidedIn, slotLine, linesIn, putAt, RoomFor};
@@ -89,15 +92,18 @@ fn put_line(list: &mut [u8], at: usize, site: u64, target: u64, slot: u8) -> usi
     at + 18
 }
 
-// Writes the lines over the start of a list that can hold them.
-pub fn write(sites: &[u64], targets: &[u64], slots: &[u8], list: &mut [u8])
-    requires { ⌜ RoomFor (now sites) (now targets) (now slots) (now list) ⌝ }
-    ensures { λ _. ⌜ now (list .exit) ≡ over (records lineBytes (linesIn (now (sites .entry)) (now (targets .entry)) (now (slots .entry)))) (now (list .entry)) ⌝ }
+// Writes the lines over the start of a list that can hold them: sites and offsets are those of an accepted sheet's instructions.
+pub fn write(s: &[u8], sheet: Sheet, sites: &[u64], places: &[u64], slots: &[u8], list: &mut [u8])
+    requires { ⌜ readingOf (now s) ≡ Accepted sheet ⌝ }
+    requires { ⌜ now places ≡ sheetAt (now s) .instructions .places ⌝ }
+    requires { ⌜ RoomFor (now sites) (targetsOf (sheetAt (now s) .instructions .list)) (now slots) (now list) ⌝ }
+    ensures { λ _. ⌜ now (list .exit) ≡ over (records lineBytes (linesIn (now (sites .entry)) (targetsOf (sheetAt (now (s .entry)) .instructions .list)) (now (slots .entry)))) (now (list .entry)) ⌝ }
 {
     let mut at = 0;
     let mut i = 0;
     while i < slots.len() {
-        at = put_line(list, at, sites[i], targets[i], slots[i]);
+        let target = sheet::nth_target(s, sheet, places, i);
+        at = put_line(list, at, sites[i], target, slots[i]);
         i += 1;
     }
 }

@@ -1,7 +1,7 @@
 -- A record's branch, found by the index.
-use Prim.Native.Nat.{ℕ, zero, suc, _+_, _-_, _≤_, _<_}
+use Prim.Native.Nat.{ℕ, _+_, _-_, _≤_, _<_}
 use mathlib.Core.Path.{_≡_, refl, sym, ap, _∙_}
-use mathlib.Core.List.{List, [], _∷_, _++_, map}
+use mathlib.Core.List.{List, [], _∷_, _++_}
 use mathlib.Core.Bool.{Bool, true, false, cond}
 use mathlib.Core.Option.{none, some}
 use native.Mathlib.Decide.{decLt}
@@ -21,14 +21,18 @@ use Rattle.sheet_field.specs.declared.Field.{Field}
 use Rattle.sheet_field.specs.Field.{fieldAt}
 use Rattle.sheet_node.specs.declared.NodeReading.{NodeReading}
 use Rattle.sheet_node.specs.Node.{nodeOf, addressesFrom}
-use Rattle.sheet.specs.Sheet.{sheetAt}
+use Rattle.sheet.specs.declared.Sheet.{Sheet}
+use Rattle.sheet.specs.declared.Reading.the-variants.{Accepted}
+use Rattle.sheet.specs.Sheet.{sheetAt, readingOf}
 use Rattle.sheet.specs.Index.{addressesOf, branchesOf}
+use Rattle.sheet.proofs.Fronts.{one, map-at}
+use Rattle.sheet.proofs.ByNumber.{instructions-count, places-count}
 use Rattle.verdict_block.specs.declared.Range.{Range}
 use Rattle.verdict_block.specs.Verdict.{codeOf}
 use Rattle.verdict_block.specs.Contracts.{RangeOf}
 use Rattle.verdict_block.proofs.Between.{apart-none, apart-between}
 use Rattle.verdict_sheet.specs.Sites.{branchAt, unlessLater, lastBranch, blockSite}
-use Rattle.verdict_sheet.specs.Kept.{BranchIndex, ifBranch, branchEnding, SiteIs}
+use Rattle.verdict_sheet.specs.Kept.{CodeIndex, ifBranch, branchEnding, SiteIs}
 
 -- the mark at an index that was found
 marked : List Bool → Found → Bool
@@ -66,12 +70,8 @@ pub addresses-length : (code : List Instruction) → length (addressesOf code) �
 unfolding addressesOf
 addresses-length code = rw length-map
 
-pub branches-length : (code : List Instruction) → length (branchesOf code) ≡ length code
-unfolding branchesOf
-branches-length code = rw length-map
-
 module _ (code : List Instruction) (l : List ℕ) (a : ℕ) (jump : Found) (before : SiteIs code jump (lastBranch code l)) where
-  by-place : (p : Found) → p ≡ placeOf (addressesOf code) a → SiteIs code (ifBranch (branchesOf code) p jump) (lastBranch code (l ++ (a ∷ [])))
+  by-place : (p : Found) → p ≡ placeOf (addressesOf code) a → SiteIs code (ifBranch code p jump) (lastBranch code (l ++ (a ∷ [])))
   unfolding marked
   by-place Nothing is = rw (last-more code l a, branch-marked code a, ← is) before
   by-place (At k) is = rw (last-more code l a, branch-marked code a, ← is) (go (getD (branchesOf code) k false))
@@ -84,27 +84,27 @@ module _ (code : List Instruction) (l : List ℕ) (a : ℕ) (jump : Found) (befo
       go false = before
 
   -- one address more
-  pub jump-more : {r : Found} → r ≡ ifBranch (branchesOf code) (placeOf (addressesOf code) a) jump → SiteIs code r (lastBranch code (l ++ (a ∷ [])))
+  pub jump-more : {r : Found} → r ≡ ifBranch code (placeOf (addressesOf code) a) jump → SiteIs code r (lastBranch code (l ++ (a ∷ [])))
   jump-more is = rw is (by-place (placeOf (addressesOf code) a) refl)
 
 -- the cases of looking an address up
-module _ (addresses : List ℕ) (branches : List Bool) (address : ℕ) (otherwise : Found) {p : Found} (p-is : p ≡ placeOf addresses address) where
-  pub branch-here : {k : ℕ} → p ≡ At k → getD branches k false ≡ true → At k ≡ ifBranch branches (placeOf addresses address) otherwise
+module _ (addresses : List ℕ) (code : List Instruction) (address : ℕ) (otherwise : Found) {p : Found} (p-is : p ≡ placeOf addresses address) where
+  pub branch-here : {k : ℕ} → p ≡ At k → getD (branchesOf code) k false ≡ true → At k ≡ ifBranch code (placeOf addresses address) otherwise
   branch-here at mark = rw (← p-is, at, mark)
 
-  pub other-here : {k : ℕ} → p ≡ At k → getD branches k false ≡ false → otherwise ≡ ifBranch branches (placeOf addresses address) otherwise
+  pub other-here : {k : ℕ} → p ≡ At k → getD (branchesOf code) k false ≡ false → otherwise ≡ ifBranch code (placeOf addresses address) otherwise
   other-here at mark = rw (← p-is, at, mark)
 
-  pub nothing-here : p ≡ Nothing → otherwise ≡ ifBranch branches (placeOf addresses address) otherwise
+  pub nothing-here : p ≡ Nothing → otherwise ≡ ifBranch code (placeOf addresses address) otherwise
   nothing-here nowhere = rw (← p-is, nowhere)
 
 -- the index has as many entries as there are instructions
-module _ {s a : List ℕ} {b : List Bool} (index : BranchIndex s a b) where
+module _ {s a p : List ℕ} (index : CodeIndex s a p) where
   pub index-addresses : length a ≡ length (sheetAt s .instructions .list)
   index-addresses = rw (index .addresses) (addresses-length (sheetAt s .instructions .list))
 
-  pub index-branches : length b ≡ length (sheetAt s .instructions .list)
-  index-branches = rw (index .branches) (branches-length (sheetAt s .instructions .list))
+  pub index-places : (sheet : Sheet) → readingOf s ≡ Accepted sheet → length p ≡ length (sheetAt s .instructions .list)
+  index-places sheet read = rw (index .places) (places-count s sheet read ∙ sym (instructions-count s sheet read))
 
 -- the loop over a node's addresses
 pub jump-none : (s : List ℕ) (sites : Place) (code : List Instruction)
@@ -112,16 +112,16 @@ pub jump-none : (s : List ℕ) (sites : Place) (code : List Instruction)
 unfolding addressesFrom lastBranch
 jump-none s sites code = (refl, refl)
 
-pub jump-again : (s : List ℕ) (sites : Place) (k : ℕ) (code : List Instruction) {addresses : List ℕ} {branches : List Bool} {next : Place} {f : Field} (jump : Found) {r : Found}
-    → addresses ≡ addressesOf code → branches ≡ branchesOf code
+pub jump-again : (s : List ℕ) (sites : Place) (k : ℕ) (code : List Instruction) {addresses : List ℕ} {next : Place} {f : Field} (jump : Found) {r : Found}
+    → addresses ≡ addressesOf code
     → (next ≡ addressesFrom s sites k .next) × SiteIs code jump (lastBranch code (addressesFrom s sites k .list))
-    → f ≡ fieldAt 8 s next → r ≡ ifBranch branches (placeOf addresses (f .value)) jump
+    → f ≡ fieldAt 8 s next → r ≡ ifBranch code (placeOf addresses (f .value)) jump
     → (f .next ≡ addressesFrom s sites (k + 1) .next) × SiteIs code r (lastBranch code (addressesFrom s sites (k + 1) .list))
 unfolding addressesFrom
-jump-again s sites k code {f = f} jump {r} addresses-are branches-are before f-is r-is =
+jump-again s sites k code {f = f} jump {r} addresses-are before f-is r-is =
     let now : f ≡ fieldAt 8 s (addressesFrom s sites k .next) = rw (← before .0) f-is in
     rw (add-one k, ← now)
-    (refl, jump-more code (addressesFrom s sites k .list) (f .value) jump (before .1) {r = r} (rw (← addresses-are, ← branches-are) r-is))
+    (refl, jump-more code (addressesFrom s sites k .list) (f .value) jump (before .1) {r = r} (rw (← addresses-are) r-is))
 
 pub jump-done : (s : List ℕ) (sites : Place) (code : List Instruction) (jump : Found) {k n : ℕ} → k ≡ n
     → SiteIs code jump (lastBranch code (addressesFrom s sites k .list)) → SiteIs code jump (lastBranch code (addressesFrom s sites n .list))
@@ -132,16 +132,6 @@ pub jump-of : (s : List ℕ) (node : NodeReading) (code : List Instruction) (jum
     → SiteIs code jump (lastBranch code (addressesFrom s sites n .list)) → SiteIs code jump (lastBranch code (nodeOf s node .addresses))
 unfolding nodeOf
 jump-of s node code jump sites-are n-is is = rw (← sites-are, ← n-is) is
-
--- some instruction of a list that has one
-one : (l : List Instruction) (k : ℕ) → k < length l → Instruction
-one [] k there = absurd (omega arith)
-one (x ∷ l) k there = x
-
-map-at : {A : Type 0} (f : Instruction → A) (l : List Instruction) (k : ℕ) (d : Instruction) (e : A) → k < length l → getD (map f l) k e ≡ f (getD l k d)
-map-at f [] k d e there = absurd (omega arith)
-map-at f (x ∷ l) zero d e there = refl
-map-at f (x ∷ l) (suc k) d e there = map-at f l k d e (omega arith)
 
 -- a block's branch
 module _ (s : List ℕ) (number first end : ℕ) (code-is : codeOf s number ≡ slice first end (sheetAt s .instructions .list)) where
@@ -176,14 +166,14 @@ module _ (s : List ℕ) (number first end : ℕ) (code-is : codeOf s number ≡ 
     at-end below true is = branch-last (end - 1) below (omega arith) fits is
     at-end below false is = other-last (end - 1) below (omega arith) fits is
 
-    by-order : Dec (first < end) → SiteIs (sheetAt s .instructions .list) (branchEnding (branchesOf (sheetAt s .instructions .list)) first end) (blockSite s number)
+    by-order : Dec (first < end) → SiteIs (sheetAt s .instructions .list) (branchEnding (sheetAt s .instructions .list) first end) (blockSite s number)
     by-order (yes below) = rw (lt-ltb first end below) (at-end below _ refl)
     by-order (no out) = rw (le-ltb first end (omega arith)) (empty-block (omega arith))
 
-    ending-site : SiteIs (sheetAt s .instructions .list) (branchEnding (branchesOf (sheetAt s .instructions .list)) first end) (blockSite s number)
+    ending-site : SiteIs (sheetAt s .instructions .list) (branchEnding (sheetAt s .instructions .list) first end) (blockSite s number)
     ending-site = by-order (decLt first end)
 
-pub block-site : (s : List ℕ) (number : ℕ) (range : Range) → RangeOf s number range → {branches : List Bool} {r : Found}
-    → branches ≡ branchesOf (sheetAt s .instructions .list) → r ≡ branchEnding branches (range .first) (range .end)
+pub block-site : (s : List ℕ) (number : ℕ) (range : Range) → RangeOf s number range → {r : Found}
+    → r ≡ branchEnding (sheetAt s .instructions .list) (range .first) (range .end)
     → SiteIs (sheetAt s .instructions .list) r (blockSite s number)
-block-site s number range of branches-are r-is = rw (r-is, branches-are) (ending-site s number (range .first) (range .end) (of .code) (of .within))
+block-site s number range of r-is = rw r-is (ending-site s number (range .first) (range .end) (of .code) (of .within))

@@ -2,7 +2,6 @@
 use Prim.Native.Nat.{ℕ, zero, suc, _+_, _-_, _≤_, _<_}
 use mathlib.Core.Path.{_≡_, refl}
 use mathlib.Core.List.{List, [], _++_}
-use mathlib.Core.Bool.{Bool}
 use native.Mathlib.Omega.{arith}
 use native.Mathlib.Numerals.{add-one}
 use lib.ListN.{length, getD}
@@ -26,7 +25,7 @@ use Rattle.verdict_sheet.specs.declared.Progress.the-variants as progres
 use Rattle.verdict_sheet.specs.Sites.{lastBranch, nodeSite, blockSite}
 use Rattle.verdict_sheet.specs.Said.{Said, saying, blocksSay, Judged, nodeToo, judgedUpTo}
 use Rattle.verdict_sheet.specs.Said.Judged.{all, refused}
-use Rattle.verdict_sheet.specs.Kept.{BranchIndex, SiteIs, keptAt, slotsOf, Reached}
+use Rattle.verdict_sheet.specs.Kept.{CodeIndex, SiteIs, keptAt, slotsOf, Reached}
 use Rattle.verdict_sheet.proofs.Keeping.{keep-saying}
 
 -- the loop over blocks
@@ -62,7 +61,7 @@ module _ (s : List ℕ) (sheet : Sheet) (read : readingOf s ≡ reading.Accepted
   node-numbered r after said is = rw (← stands, ← places) is
 
 -- the answer for one node
-module _ (s : List ℕ) {a : List ℕ} {b : List Bool} (index : BranchIndex s a b) (node : NodeReading) (place : ℕ) {given : Answer}
+module _ (s : List ℕ) {a p : List ℕ} (index : CodeIndex s a p) (node : NodeReading) (place : ℕ) {given : Answer}
     (given-is : given ≡ nodeVerdict (nodeOf s node) place) (said : List Said) where
   pub node-through : (at : Found) {v : Verdict} {slots after : List ℕ}
       → SiteIs (sheetAt s .instructions .list) at (lastBranch (sheetAt s .instructions .list) (nodeOf s node .addresses))

@@ -2,7 +2,7 @@
 use Prim.Native.Nat.{ℕ, _-_, _<_}
 use mathlib.Core.Path.{_≡_}
 use mathlib.Core.List.{List, map}
-use mathlib.Core.Bool.{Bool, false, cond}
+use mathlib.Core.Bool.{false, cond}
 use mathlib.Core.Option.{Option, none, some}
 use lib.Dec.{ltb}
 use lib.ListN.{length, getD}
@@ -19,20 +19,20 @@ use Rattle.verdict_sheet.specs.declared.Progress.the-variants as progres
 use Rattle.verdict_sheet.specs.Said.{Said, firstDecided, Judged}
 use Rattle.verdict_sheet.specs.Said.Judged.{all, refused}
 
--- addresses and marks of conditional branches are those of a sheet's instructions, and the addresses rise
-pub record BranchIndex (s a : List ℕ) (b : List Bool) : Type 0 where
+-- addresses and offsets are those of a sheet's instructions, and the addresses rise
+pub record CodeIndex (s a p : List ℕ) : Type 0 where
   pub addresses : a ≡ addressesOf (sheetAt s .instructions .list)
-  pub branches : b ≡ branchesOf (sheetAt s .instructions .list)
+  pub places : p ≡ sheetAt s .instructions .places
   pub rising : Ascending a
 
 -- an index, where a conditional branch is there, or else another
-abbrev pub ifBranch : List Bool → Found → Found → Found
-ifBranch branches (At k) otherwise = cond (getD branches k false) (At k) otherwise
-ifBranch branches Nothing otherwise = otherwise
+abbrev pub ifBranch : List Instruction → Found → Found → Found
+ifBranch code (At k) otherwise = cond (getD (branchesOf code) k false) (At k) otherwise
+ifBranch code Nothing otherwise = otherwise
 
 -- the number of the last instruction from number `first` up to `end`, where it is a conditional branch
-abbrev pub branchEnding : List Bool → ℕ → ℕ → Found
-branchEnding branches first end = cond (ltb first end) (ifBranch branches (At (end - 1)) Nothing) Nothing
+abbrev pub branchEnding : List Instruction → ℕ → ℕ → Found
+branchEnding code first end = cond (ltb first end) (ifBranch code (At (end - 1)) Nothing) Nothing
 
 -- the instruction of that number is the one at that address
 abbrev pub SiteIs : List Instruction → Found → Option ℕ → Type 0

@@ -14,7 +14,7 @@ ghost use Prim.Native.Nat.{ℕ, _≤_, _<_};
 ghost use lib.ListN.{length};
 ghost use lib.Seq.{slice};
 ghost use Rattle.machine.specs.Registers.{nothingKnown};
-ghost use Rattle.search.specs.Ascending.{Ascending, placeOf};
+ghost use Rattle.search.specs.Ascending.{placeOf};
 ghost use Rattle.sheet.specs.declared.Reading.the-variants.{Accepted};
 ghost use Rattle.sheet.specs.Sheet.{sheetAt, readingOf};
 ghost use Rattle.sheet_node.specs.declared.NodeReading.{NodeReading};
@@ -26,7 +26,7 @@ ghost use Rattle.verdict_node.specs.Contracts.{JudgedIs};
 ghost use Rattle.verdict_sheet.specs.Sites.{lastBranch, blockSite};
 ghost use Rattle.verdict_sheet.specs.Said.{Said, saying, blocksSay, nodeToo, judgedUpTo};
 ghost use Rattle.verdict_sheet.specs.Said.Judged.{all};
-ghost use Rattle.verdict_sheet.specs.Kept.{BranchIndex, ifBranch, branchEnding, SiteIs, keptAt, HasSlot, slotsOf, Reached};
+ghost use Rattle.verdict_sheet.specs.Kept.{CodeIndex, ifBranch, branchEnding, SiteIs, keptAt, HasSlot, slotsOf, Reached};
 
 // How far judging came: through all records, or to a node that is refused, with a number and an offset.
 pub enum Progress {
@@ -35,21 +35,42 @@ pub enum Progress {
 }
 
 // The number of the conditional branch at an address, or else another.
-fn branch_or(addresses: &[u64], branches: &[bool], address: u64, otherwise: Found) -> Found
-    requires { ⌜ Ascending (now addresses) ⌝ }
-    requires { ⌜ length (now branches) ≡ length (now addresses) ⌝ }
-    ensures { λ r. ⌜ r ≡ ifBranch (now (branches .entry)) (placeOf (now (addresses .entry)) address) otherwise ⌝ }
+fn branch_or(
+    s: &[u8],
+    sheet: Sheet,
+    addresses: &[u64],
+    places: &[u64],
+    address: u64,
+    otherwise: Found,
+) -> Found
+    requires { ⌜ readingOf (now s) ≡ Accepted sheet ⌝ }
+    requires { ⌜ CodeIndex (now s) (now addresses) (now places) ⌝ }
+    ensures { λ r. ⌜ r ≡ ifBranch (sheetAt (now (s .entry)) .instructions .list) (placeOf (now (addresses .entry)) address) otherwise ⌝ }
 {
     let found = search::find(addresses, address);
     match found {
-        Found::At(k) => { if branches[k] { found } else { otherwise } }
+        Found::At(k) => {
+            if sheet::is_branch(s, sheet, places, k) {
+                found
+            } else {
+                otherwise
+            }
+        }
         Found::Nothing => otherwise,
     }
 }
 
 // The number of a node's jump, from its n addresses, which start at an offset.
-fn node_jump(s: &[u8], sites: Place, n: u64, addresses: &[u64], branches: &[bool]) -> Found
-    requires { ⌜ BranchIndex (now s) (now addresses) (now branches) ⌝ }
+fn node_jump(
+    s: &[u8],
+    sheet: Sheet,
+    sites: Place,
+    n: u64,
+    addresses: &[u64],
+    places: &[u64],
+) -> Found
+    requires { ⌜ readingOf (now s) ≡ Accepted sheet ⌝ }
+    requires { ⌜ CodeIndex (now s) (now addresses) (now places) ⌝ }
     ensures { λ r. ⌜ SiteIs (sheetAt (now (s .entry)) .instructions .list) r (lastBranch (sheetAt (now (s .entry)) .instructions .list) (addressesFrom (now (s .entry)) sites n .list)) ⌝ }
 {
     let mut next = sites;
@@ -57,7 +78,7 @@ fn node_jump(s: &[u8], sites: Place, n: u64, addresses: &[u64], branches: &[bool
     let mut i: u64 = 0;
     while i < n {
         let f = sheet_field::take_field(s, next, Width::Eight);
-        jump = branch_or(addresses, branches, f.value, jump);
+        jump = branch_or(s, sheet, addresses, places, f.value, jump);
         next = f.next;
         i += 1;
     }
@@ -65,16 +86,18 @@ fn node_jump(s: &[u8], sites: Place, n: u64, addresses: &[u64], branches: &[bool
 }
 
 // The number of the conditional branch that ends a range of instructions.
-fn last_branch(branches: &[bool], range: Range) -> Found
-    requires { ⌜ range .end ≤ length (now branches) ⌝ }
-    ensures { λ r. ⌜ r ≡ branchEnding (now (branches .entry)) (range .first) (range .end) ⌝ }
+fn last_branch(s: &[u8], sheet: Sheet, places: &[u64], range: Range) -> Found
+    requires { ⌜ readingOf (now s) ≡ Accepted sheet ⌝ }
+    requires { ⌜ now places ≡ sheetAt (now s) .instructions .places ⌝ }
+    requires { ⌜ range .end ≤ length (now places) ⌝ }
+    ensures { λ r. ⌜ r ≡ branchEnding (sheetAt (now (s .entry)) .instructions .list) (range .first) (range .end) ⌝ }
 {
     let end = range.end;
     if end <= range.first {
         return Found::Nothing;
     }
     let last = end - 1;
-    if branches[last] {
+    if sheet::is_branch(s, sheet, places, last) {
         return Found::At(last);
     }
     Found::Nothing
@@ -110,20 +133,18 @@ fn judge_block(
     sheet: Sheet,
     addresses: &[u64],
     places: &[u64],
-    branches: &[bool],
     number: u64,
     guess: usize,
     slots: &mut [u8],
 ) -> usize
     requires { ⌜ readingOf (now s) ≡ Accepted sheet ⌝ }
     requires { ⌜ number < sheet .blocks .count ⌝ }
-    requires { ⌜ BranchIndex (now s) (now addresses) (now branches) ⌝ }
-    requires { ⌜ now places ≡ sheetAt (now s) .instructions .places ⌝ }
+    requires { ⌜ CodeIndex (now s) (now addresses) (now places) ⌝ }
     requires { ⌜ length (now slots) ≡ length (now addresses) ⌝ }
     ensures { λ _. ⌜ ((said : List Said) → now (slots .entry) ≡ slotsOf (sheetAt (now (s .entry)) .instructions .list) said → now (slots .exit) ≡ slotsOf (sheetAt (now (s .entry)) .instructions .list) (said ++ saying (blockSite (now (s .entry)) number) (verdictOn (now (s .entry)) number))) ⌝ }
 {
     let range = verdict_block::range_of(s, sheet, addresses, number, guess);
-    let at = last_branch(branches, range);
+    let at = last_branch(s, sheet, places, range);
     match at {
         Found::At(k) => keep_end(s, sheet, places, range, slots, k),
         Found::Nothing => {}
@@ -132,17 +153,9 @@ fn judge_block(
 }
 
 // All blocks, in order.
-fn judge_blocks(
-    s: &[u8],
-    sheet: Sheet,
-    addresses: &[u64],
-    places: &[u64],
-    branches: &[bool],
-    slots: &mut [u8],
-)
+fn judge_blocks(s: &[u8], sheet: Sheet, addresses: &[u64], places: &[u64], slots: &mut [u8])
     requires { ⌜ readingOf (now s) ≡ Accepted sheet ⌝ }
-    requires { ⌜ BranchIndex (now s) (now addresses) (now branches) ⌝ }
-    requires { ⌜ now places ≡ sheetAt (now s) .instructions .places ⌝ }
+    requires { ⌜ CodeIndex (now s) (now addresses) (now places) ⌝ }
     requires { ⌜ now slots ≡ slotsOf (sheetAt (now s) .instructions .list) [] ⌝ }
     ensures { λ _. ⌜ now (slots .exit) ≡ slotsOf (sheetAt (now (s .entry)) .instructions .list) (blocksSay (now (s .entry)) (sheet .blocks .count)) ⌝ }
 {
@@ -151,7 +164,7 @@ fn judge_blocks(
     let mut guess: usize = 0;
     let mut i: u64 = 0;
     while i < n {
-        guess = judge_block(s, sheet, addresses, places, branches, i, guess, slots);
+        guess = judge_block(s, sheet, addresses, places, i, guess, slots);
         i += 1;
     }
 }
@@ -159,12 +172,14 @@ fn judge_blocks(
 // Keeps a node's verdict at its jump, if it has one; or the refusal.
 fn keep_node(
     s: &[u8],
+    sheet: Sheet,
     judged: JudgedNode,
     addresses: &[u64],
-    branches: &[bool],
+    places: &[u64],
     slots: &mut [u8],
 ) -> Progress
-    requires { ⌜ BranchIndex (now s) (now addresses) (now branches) ⌝ }
+    requires { ⌜ readingOf (now s) ≡ Accepted sheet ⌝ }
+    requires { ⌜ CodeIndex (now s) (now addresses) (now places) ⌝ }
     requires { ⌜ length (now slots) ≡ length (now addresses) ⌝ }
     ensures { λ r. ⌜ ((node : NodeReading) (place : ℕ) (said : List Said) → JudgedIs judged (now (s .entry)) node place → now (slots .entry) ≡ slotsOf (sheetAt (now (s .entry)) .instructions .list) said → Reached (sheetAt (now (s .entry)) .instructions .list) r (now (slots .exit)) (nodeToo (all said) (lastBranch (sheetAt (now (s .entry)) .instructions .list) (nodeOf (now (s .entry)) node .addresses)) (nodeVerdict (nodeOf (now (s .entry)) node) place))) ⌝ }
 {
@@ -174,7 +189,7 @@ fn keep_node(
         Answer::Given(v) => {
             keep_at(
                 slots,
-                node_jump(s, sites, judged.addresses, addresses, branches),
+                node_jump(s, sheet, sites, judged.addresses, addresses, places),
                 v,
             );
             Progress::Through
@@ -188,12 +203,12 @@ fn judge_nodes(
     s: &[u8],
     sheet: Sheet,
     addresses: &[u64],
-    branches: &[bool],
+    places: &[u64],
     nodes: &[u64],
     slots: &mut [u8],
 ) -> Progress
     requires { ⌜ readingOf (now s) ≡ Accepted sheet ⌝ }
-    requires { ⌜ BranchIndex (now s) (now addresses) (now branches) ⌝ }
+    requires { ⌜ CodeIndex (now s) (now addresses) (now places) ⌝ }
     requires { ⌜ now nodes ≡ sheetAt (now s) .nodes .places ⌝ }
     requires { ⌜ now slots ≡ slotsOf (sheetAt (now s) .instructions .list) (blocksSay (now s) (sheet .blocks .count)) ⌝ }
     ensures { λ r. ⌜ Reached (sheetAt (now (s .entry)) .instructions .list) r (now (slots .exit)) (judgedUpTo (now (s .entry)) (sheet .blocks .count) (sheet .nodes .count)) ⌝ }
@@ -201,7 +216,7 @@ fn judge_nodes(
     let mut i = 0;
     while i < nodes.len() {
         let judged = verdict_node::verdict_at(s, nodes[i] as usize);
-        let r = keep_node(s, judged, addresses, branches, slots);
+        let r = keep_node(s, sheet, judged, addresses, places, slots);
         if let Progress::Refused(k, at) = r {
             return Progress::Refused(k, at);
         }
@@ -216,16 +231,15 @@ pub fn judge(
     sheet: Sheet,
     addresses: &[u64],
     places: &[u64],
-    branches: &[bool],
     nodes: &[u64],
     slots: &mut [u8],
 ) -> Progress
     requires { ⌜ readingOf (now s) ≡ Accepted sheet ⌝ }
-    requires { ⌜ BranchIndex (now s) (now addresses) (now branches) ⌝ }
-    requires { ⌜ (now places ≡ sheetAt (now s) .instructions .places) × (now nodes ≡ sheetAt (now s) .nodes .places) ⌝ }
+    requires { ⌜ CodeIndex (now s) (now addresses) (now places) ⌝ }
+    requires { ⌜ now nodes ≡ sheetAt (now s) .nodes .places ⌝ }
     requires { ⌜ now slots ≡ slotsOf (sheetAt (now s) .instructions .list) [] ⌝ }
     ensures { λ r. ⌜ Reached (sheetAt (now (s .entry)) .instructions .list) r (now (slots .exit)) (judgedUpTo (now (s .entry)) (sheet .blocks .count) (sheet .nodes .count)) ⌝ }
 {
-    judge_blocks(s, sheet, addresses, places, branches, slots);
-    judge_nodes(s, sheet, addresses, branches, nodes, slots)
+    judge_blocks(s, sheet, addresses, places, slots);
+    judge_nodes(s, sheet, addresses, places, nodes, slots)
 }

@@ -1,9 +1,9 @@
-use Rattle.answer_listing.proofs.Listings.{listing-refused, listing-accepted}
-use Rattle.sheet.proofs.ByNumber.{front-addresses, front-places, front-targets, front-branches, front-nodes}
-use Rattle.sheet.proofs.Accepted.{accepted}
 use native.Mathlib.Omega.{arith}
-use mathlib.Core.Logic.{inl, inr}
 use mathlib.Core.Path.{refl, sym, _∙_}
+use mathlib.Core.Logic.{inl, inr}
+use Rattle.sheet.proofs.Accepted.{accepted}
+use Rattle.sheet.proofs.ByNumber.{front-addresses, front-places, front-nodes}
+use Rattle.answer_listing.proofs.Listings.{listing-refused, listing-accepted}
 use borrow.Author.Needs.{needs}
 use Rattle.answer_listing.proofs.list_in.Statement.{statement}
 use Rattle.answer_listing.proofs.list_in.Tie as tie
@@ -26,20 +26,31 @@ same-length-2 c = search needs
 same-length-3 : tie.Need-same-length-3
 same-length-3 c = search needs
 
+returns : tie.Need-returns
+returns c =
+    let at-read-index = c .before .before .before .before .before .before .before .before .before .before .before .before .before in
+    (refl, inl (omega (arith, c .if1 .taken, accepted _ _ (sym (at-read-index .read-index .ensures .0) ∙ c .before .before .before .before .before .reading2 .given .1) .few)))
+
 same-length-4 : tie.Need-same-length-4
 same-length-4 c = search needs
 
 same-length-5 : tie.Need-same-length-5
 same-length-5 c = search needs
 
-returns : tie.Need-returns
-returns c =
-    let at-reading2 = c .before .before .before .before .before in
-    let at-read-index = at-reading2 .before .before .before .before .before .before .before .before .before .before .before .before in
-    (refl, inl (omega (arith, c .if1 .taken, accepted _ _ (sym (at-read-index .read-index .ensures .0) ∙ at-reading2 .reading2 .given .1) .few)))
-
 same-length-6 : tie.Need-same-length-6
 same-length-6 c = search needs
+
+returns-2 : tie.Need-returns-2
+returns-2 c =
+    let at-read-index = c .before .before .before .before .before .before .before .before .before .before .before .before .before .before .before in
+    (refl, inr (omega (arith, c .if2 .taken, accepted _ _ (sym (at-read-index .read-index .ensures .0) ∙ c .before .before .before .before .before .before .before .reading2 .given .1) .fewNodes, at-read-index .read-index .kept .1 .1 .1 .0)))
+
+list-sheet-requires : tie.Need-list-sheet-requires
+list-sheet-requires c κs =
+    let at-reading2 = c .before .before .before .before .before .before .before .before .before .before .before .before in
+    let at-read-index = at-reading2 .before .before .before .before .before .before .before .before in
+    let at-start = at-read-index .before .before .before .before .before .before .before .before .before .before in
+    let read = sym (at-read-index .read-index .ensures .0) ∙ at-reading2 .reading2 .given .1 in let index = at-read-index .read-index .ensures .1 _ (at-reading2 .reading2 .given .1) in (read, ((front-addresses _ _ read index (omega (arith, c .before .before .before .before .before .before .before .if1 .left, at-start .pre .0 .0)), front-places _ _ read index (omega (arith, c .before .before .before .before .before .before .before .if1 .left, at-start .pre .0 .1))), (front-nodes _ _ read index (omega (arith, c .before .before .before .before .before .if2 .left, at-read-index .read-index .kept .1 .1 .1 .0)), record { enough = omega (arith, c .before .before .before .before .before .before .before .if1 .left); nothing = at-start .pre .1 })))
 
 same-length-7 : tie.Need-same-length-7
 same-length-7 c = search needs
@@ -50,23 +61,14 @@ same-length-8 c = search needs
 same-length-9 : tie.Need-same-length-9
 same-length-9 c = search needs
 
+returns-3 : tie.Need-returns-3
+returns-3 c =
+    let at-read-index = c .before .before .before .before .before .before .before .before .before in
+    let at-start = at-read-index .before .before .before .before .before .before .before .before .before .before in
+    listing-refused (at-start .args .s .now) (at-start .args .list .now) (at-read-index .read-index .ensures .0) (c .before .reading .given .1)
+
 same-length-10 : tie.Need-same-length-10
 same-length-10 c = search needs
-
-returns-2 : tie.Need-returns-2
-returns-2 c =
-    let at-reading2 = c .before .before .before .before .before .before .before in
-    let at-read-index = at-reading2 .before .before .before .before .before .before .before .before .before .before .before .before in
-    (refl, inr (omega (arith, c .if2 .taken, accepted _ _ (sym (at-read-index .read-index .ensures .0) ∙ at-reading2 .reading2 .given .1) .fewNodes, at-read-index .read-index .kept .1 .1 .1 .1 .1 .0)))
-
-list-sheet-requires : tie.Need-list-sheet-requires
-list-sheet-requires c κs =
-    let at-if2 = c .before .before .before .before .before .before .before in
-    let at-if1 = at-if2 .before .before in
-    let at-reading2 = at-if1 .before .before .before .before .before in
-    let at-read-index = at-reading2 .before .before .before .before .before .before .before .before .before .before .before .before in
-    let at-start = at-read-index .before .before .before .before .before .before .before .before .before .before .before .before .before .before in
-    let read = (sym (at-read-index .read-index .ensures .0) ∙ at-reading2 .reading2 .given .1) in let index = (at-read-index .read-index .ensures .1 _ (at-reading2 .reading2 .given .1)) in (read, ((front-addresses _ _ read index (omega (arith, at-if1 .if1 .left, at-start .pre .0 .0)), front-places _ _ read index (omega (arith, at-if1 .if1 .left, at-start .pre .0 .1))), ((front-targets _ _ read index (omega (arith, at-if1 .if1 .left, at-start .pre .1 .0 .0)), front-branches _ _ read index (omega (arith, at-if1 .if1 .left, at-start .pre .1 .0 .1))), (front-nodes _ _ read index (omega (arith, at-if2 .if2 .left, at-read-index .read-index .kept .1 .1 .1 .1 .1 .0)), record { enough = omega (arith, at-if1 .if1 .left); nothing = at-start .pre .1 .1 }))))
 
 same-length-11 : tie.Need-same-length-11
 same-length-11 c = search needs
@@ -80,48 +82,12 @@ same-length-13 c = search needs
 same-length-14 : tie.Need-same-length-14
 same-length-14 c = search needs
 
-same-length-15 : tie.Need-same-length-15
-same-length-15 c = search needs
-
-returns-3 : tie.Need-returns-3
-returns-3 c =
-    let at-reading = c .before in
-    let at-read-index = at-reading .before .before .before .before .before .before .before .before .before .before .before .before in
-    let at-start = at-read-index .before .before .before .before .before .before .before .before .before .before .before .before .before .before in
-    listing-refused (at-start .args .s .now) (at-start .args .list .now) (at-read-index .read-index .ensures .0) (at-reading .reading .given .1)
-
-same-length-16 : tie.Need-same-length-16
-same-length-16 c =
-    let at-read-index = c .before .before .before .before .before .before .before .before .before .before .before .before .before .before .before .before .before .before .before .before .before .before .before .before .before .before .before .before .before .before .before in
-    at-read-index .read-index .kept .1 .0
-
-same-length-17 : tie.Need-same-length-17
-same-length-17 c =
-    let at-read-index = c .before .before .before .before .before .before .before .before .before .before .before .before .before .before .before .before .before .before .before .before .before .before .before .before .before .before .before .before .before .before .before in
-    at-read-index .read-index .kept .1 .1 .0
-
-same-length-18 : tie.Need-same-length-18
-same-length-18 c = search needs
-
-same-length-19 : tie.Need-same-length-19
-same-length-19 c = search needs
-
-same-length-20 : tie.Need-same-length-20
-same-length-20 c = search needs
-
-same-length-21 : tie.Need-same-length-21
-same-length-21 c = search needs
-
-same-length-22 : tie.Need-same-length-22
-same-length-22 c = search needs
-
 returns-4 : tie.Need-returns-4
 returns-4 c =
-    let at-list-sheet = c .before .before .before .before in
-    let at-reading2 = at-list-sheet .before .before .before .before .before .before .before .before .before .before .before .before .before .before .before in
-    let at-read-index = at-reading2 .before .before .before .before .before .before .before .before .before .before .before .before in
-    let at-start = at-read-index .before .before .before .before .before .before .before .before .before .before .before .before .before .before in
-    listing-accepted (at-start .args .s .now) (at-start .args .list .now) (at-read-index .read-index .ensures .0) (at-list-sheet .list-sheet .result) (at-list-sheet .list-sheet .last .1 .1 .1 .1 .1 .1 .1 .1 .0) (at-reading2 .reading2 .given .1) (at-list-sheet .list-sheet .ensures)
+    let at-reading2 = c .before .before .before .before .before .before .before .before .before .before .before .before .before .before .before .before .before in
+    let at-read-index = at-reading2 .before .before .before .before .before .before .before .before in
+    let at-start = at-read-index .before .before .before .before .before .before .before .before .before .before in
+    listing-accepted (at-start .args .s .now) (at-start .args .list .now) (at-read-index .read-index .ensures .0) (c .before .before .before .before .list-sheet .result) (c .before .before .before .before .list-sheet .last .1 .1 .1 .1 .1 .1 .0) (at-reading2 .reading2 .given .1) (c .before .before .before .before .list-sheet .ensures)
 
 pub list-in-spec : {M : Type 1} → statement M
 list-in-spec =
@@ -133,27 +99,19 @@ list-in-spec =
     same-length
     same-length-2
     same-length-3
+    returns
     same-length-4
     same-length-5
-    returns
     same-length-6
+    returns-2
+    list-sheet-requires
     same-length-7
     same-length-8
     same-length-9
+    returns-3
     same-length-10
-    returns-2
-    list-sheet-requires
     same-length-11
     same-length-12
     same-length-13
     same-length-14
-    same-length-15
-    returns-3
-    same-length-16
-    same-length-17
-    same-length-18
-    same-length-19
-    same-length-20
-    same-length-21
-    same-length-22
     returns-4)

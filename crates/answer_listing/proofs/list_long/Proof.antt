@@ -18,14 +18,8 @@ slice-aggregate-list-in-3 c = search needs
 slice-aggregate-list-in-4 : tie.Need-slice-aggregate-list-in-4
 slice-aggregate-list-in-4 c = search needs
 
-slice-aggregate-list-in-5 : tie.Need-slice-aggregate-list-in-5
-slice-aggregate-list-in-5 c = search needs
-
-slice-aggregate-list-in-6 : tie.Need-slice-aggregate-list-in-6
-slice-aggregate-list-in-6 c = search needs
-
 list-in-requires : tie.Need-list-in-requires
-list-in-requires c κs = ((search needs, search needs), ((search needs, search needs), made-empty 2048 _ (c .before .before .before .before .before .before .before .empty-slots .ensures)))
+list-in-requires c κs = ((search needs, search needs), made-empty 2048 _ (c .before .before .before .before .before .empty-slots .ensures))
 
 enum-known-attempt : tie.Need-enum-known-attempt
 enum-known-attempt c = search needs
@@ -38,16 +32,17 @@ same-length c = search needs
 
 returns : tie.Need-returns
 returns c =
-    let at-attempt = c .before in
-    let at-list-in = at-attempt .before .before .before .before .before .before .before .before .before .before in
-    let at-start = at-list-in .before .before .before .before .before .before .before .before .before .before .before in
-    attempt-done (at-list-in .list-in .result) _ _ _ (at-start .args .list .now) _ (at-list-in .list-in .ensures) (at-attempt .attempt .given .1)
+    let at-list-in = c .before .before .before .before .before .before .before .before .before in
+    let at-start = at-list-in .before .before .before .before .before .before .before .before .before in
+    attempt-done (at-list-in .list-in .result) _ _ _ (at-start .args .list .now) _ (at-list-in .list-in .ensures) (c .before .attempt .given .1)
 
 same-length-2 : tie.Need-same-length-2
 same-length-2 c = search needs
 
 returns-2 : tie.Need-returns-2
-returns-2 c = attempt-never (c .before .before .before .before .before .before .before .before .before .before .list-in .result) _ _ _ _ _ (c .before .before .before .before .before .before .before .before .before .before .list-in .ensures) (c .enum-told .given .1) (search needs) (search needs)
+returns-2 c =
+    let at-list-in = c .before .before .before .before .before .before .before .before in
+    attempt-never (at-list-in .list-in .result) _ _ _ _ _ (at-list-in .list-in .ensures) (c .enum-told .given .1) (search needs) (search needs)
 
 pub list-long-spec : {M : Type 1} → statement M
 list-long-spec =
@@ -58,8 +53,6 @@ list-long-spec =
     slice-aggregate-list-in-2
     slice-aggregate-list-in-3
     slice-aggregate-list-in-4
-    slice-aggregate-list-in-5
-    slice-aggregate-list-in-6
     list-in-requires
     enum-known-attempt
     enum-told

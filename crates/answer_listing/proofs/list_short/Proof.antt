@@ -16,14 +16,8 @@ slice-aggregate-list-in-3 c = search needs
 slice-aggregate-list-in-4 : tie.Need-slice-aggregate-list-in-4
 slice-aggregate-list-in-4 c = search needs
 
-slice-aggregate-list-in-5 : tie.Need-slice-aggregate-list-in-5
-slice-aggregate-list-in-5 c = search needs
-
-slice-aggregate-list-in-6 : tie.Need-slice-aggregate-list-in-6
-slice-aggregate-list-in-6 c = search needs
-
 list-in-requires : tie.Need-list-in-requires
-list-in-requires c κs = ((search needs, search needs), ((search needs, search needs), made-empty 64 _ refl))
+list-in-requires c κs = ((search needs, search needs), made-empty 16 _ refl)
 
 enum-known-attempt : tie.Need-enum-known-attempt
 enum-known-attempt c = search needs
@@ -31,29 +25,26 @@ enum-known-attempt c = search needs
 enum-told : tie.Need-enum-told
 enum-told c = search needs
 
-list-long-requires : tie.Need-list-long-requires
-list-long-requires c κs = search needs
+list-longer-requires : tie.Need-list-longer-requires
+list-longer-requires c κs = search needs
 
 same-length : tie.Need-same-length
 same-length c = search needs
 
 returns : tie.Need-returns
 returns c =
-    let at-attempt = c .before in
-    let at-list-in = at-attempt .before .before .before .before .before .before .before .before .before .before in
-    let at-start = at-list-in .before .before .before .before .before .before .before .before .before .before in
-    attempt-done (at-list-in .list-in .result) _ _ _ (at-start .args .list .now) _ (at-list-in .list-in .ensures) (at-attempt .attempt .given .1)
+    let at-list-in = c .before .before .before .before .before .before .before .before .before in
+    let at-start = at-list-in .before .before .before .before .before .before .before .before in
+    attempt-done (at-list-in .list-in .result) _ _ _ (at-start .args .list .now) _ (at-list-in .list-in .ensures) (c .before .attempt .given .1)
 
 same-length-2 : tie.Need-same-length-2
 same-length-2 c = search needs
 
 returns-2 : tie.Need-returns-2
 returns-2 c =
-    let at-list-long = c .before .before in
-    let at-enum-told = at-list-long .before .before in
-    let at-list-in = at-enum-told .before .before .before .before .before .before .before .before .before .before in
-    let at-start = at-list-in .before .before .before .before .before .before .before .before .before .before in
-    attempt-again (at-list-in .list-in .result) _ _ _ (at-start .args .list .now) _ (at-list-in .list-in .ensures) (at-list-long .list-long .result) (at-list-long .list-long .last .1 .0) (at-enum-told .enum-told .given .1) (at-list-long .list-long .ensures)
+    let at-list-in = c .before .before .before .before .before .before .before .before .before .before .before .before in
+    let at-start = at-list-in .before .before .before .before .before .before .before .before in
+    attempt-again (at-list-in .list-in .result) _ _ _ (at-start .args .list .now) _ (at-list-in .list-in .ensures) (c .before .before .list-longer .result) (c .before .before .list-longer .last .1 .0) (c .before .before .before .before .enum-told .given .1) (c .before .before .list-longer .ensures)
 
 pub list-short-spec : {M : Type 1} → statement M
 list-short-spec =
@@ -63,12 +54,10 @@ list-short-spec =
     slice-aggregate-list-in-2
     slice-aggregate-list-in-3
     slice-aggregate-list-in-4
-    slice-aggregate-list-in-5
-    slice-aggregate-list-in-6
     list-in-requires
     enum-known-attempt
     enum-told
-    list-long-requires
+    list-longer-requires
     same-length
     returns
     same-length-2

@@ -7,12 +7,6 @@ use Rattle.sheet.proofs.index_instructions.Tie as tie
 slice-aggregate-read-index : tie.Need-slice-aggregate-read-index
 slice-aggregate-read-index c = search needs
 
-slice-aggregate-read-index-2 : tie.Need-slice-aggregate-read-index-2
-slice-aggregate-read-index-2 c = search needs
-
-slice-aggregate-read-index-3 : tie.Need-slice-aggregate-read-index-3
-slice-aggregate-read-index-3 c = search needs
-
 read-index-requires : tie.Need-read-index-requires
 read-index-requires c κs = search needs
 
@@ -23,15 +17,13 @@ same-length-2 : tie.Need-same-length-2
 same-length-2 c = search needs
 
 returns : tie.Need-returns
-returns c = (c .before .before .before .before .before .before .before .read-index .ensures .0, λ sheet e. let read = sym (c .before .before .before .before .before .before .before .read-index .ensures .0) ∙ e in (front-addresses _ sheet read (c .before .before .before .before .before .before .before .read-index .ensures .1 sheet e), front-places _ sheet read (c .before .before .before .before .before .before .before .read-index .ensures .1 sheet e)))
+returns c = (c .before .before .before .before .before .read-index .ensures .0, λ sheet e. let read = sym (c .before .before .before .before .before .read-index .ensures .0) ∙ e in (front-addresses _ sheet read (c .before .before .before .before .before .read-index .ensures .1 sheet e), front-places _ sheet read (c .before .before .before .before .before .read-index .ensures .1 sheet e)))
 
 pub index-instructions-spec : {M : Type 1} → statement M
 index-instructions-spec =
     tie.close
     (tie.spec
     slice-aggregate-read-index
-    slice-aggregate-read-index-2
-    slice-aggregate-read-index-3
     read-index-requires
     same-length
     same-length-2

@@ -10,12 +10,6 @@ slice-aggregate-read-index c = search needs
 slice-aggregate-read-index-2 : tie.Need-slice-aggregate-read-index-2
 slice-aggregate-read-index-2 c = search needs
 
-slice-aggregate-read-index-3 : tie.Need-slice-aggregate-read-index-3
-slice-aggregate-read-index-3 c = search needs
-
-slice-aggregate-read-index-4 : tie.Need-slice-aggregate-read-index-4
-slice-aggregate-read-index-4 c = search needs
-
 read-index-requires : tie.Need-read-index-requires
 read-index-requires c κs = search needs
 
@@ -23,7 +17,7 @@ same-length : tie.Need-same-length
 same-length c = search needs
 
 returns : tie.Need-returns
-returns c = (c .before .before .before .before .before .before .read-index .ensures .0, λ sheet e. front-nodes _ sheet (sym (c .before .before .before .before .before .before .read-index .ensures .0) ∙ e) (c .before .before .before .before .before .before .read-index .ensures .1 sheet e))
+returns c = (c .before .before .before .before .read-index .ensures .0, λ sheet e. front-nodes _ sheet (sym (c .before .before .before .before .read-index .ensures .0) ∙ e) (c .before .before .before .before .read-index .ensures .1 sheet e))
 
 pub index-nodes-spec : {M : Type 1} → statement M
 index-nodes-spec =
@@ -31,8 +25,6 @@ index-nodes-spec =
     (tie.spec
     slice-aggregate-read-index
     slice-aggregate-read-index-2
-    slice-aggregate-read-index-3
-    slice-aggregate-read-index-4
     read-index-requires
     same-length
     returns)

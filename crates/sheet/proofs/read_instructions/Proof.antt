@@ -11,15 +11,15 @@ use Rattle.sheet.proofs.read_instructions.Statement.{statement}
 use Rattle.sheet.proofs.read_instructions.Tie as tie
 
 abbrev Inv-loop : tie.InvT-loop
-Inv-loop s n addresses₀ places₀ targets₀ branches₀ last₀ next₀ i₀ addresses places targets branches last next i =
+Inv-loop s n addresses₀ places₀ last₀ next₀ i₀ addresses places last next i =
     (i ≤ n)
-    × Noting i addresses₀ addresses places₀ places targets₀ targets branches₀ branches last next (instructionsFrom s next₀ i)
+    × Noting i addresses₀ addresses places₀ places last next (instructionsFrom s next₀ i)
 
 abbrev μ-loop : tie.MeasureT-loop
-μ-loop s n addresses₀ places₀ targets₀ branches₀ last₀ next₀ i₀ addresses places targets branches last next i = n - i
+μ-loop s n addresses₀ places₀ last₀ next₀ i₀ addresses places last next i = n - i
 
 loop-holds : tie.Need-loop-holds Inv-loop μ-loop
-loop-holds c = (search needs, noting-none _ _ _ _ _ _)
+loop-holds c = (search needs, noting-none _ _ _ _)
 
 is-refused-requires : tie.Need-is-refused-requires Inv-loop μ-loop
 is-refused-requires c κs = search needs
@@ -29,12 +29,6 @@ same-length c = ap length (c .before .before .before .loop .inv .1 .noted .addre
 
 same-length-2 : tie.Need-same-length-2 Inv-loop μ-loop
 same-length-2 c = ap length (c .before .before .before .loop .inv .1 .noted .places) ∙ over-length _ _
-
-same-length-3 : tie.Need-same-length-3 Inv-loop μ-loop
-same-length-3 c = ap length (c .before .before .before .loop .inv .1 .noted .targets) ∙ over-length _ _
-
-same-length-4 : tie.Need-same-length-4 Inv-loop μ-loop
-same-length-4 c = ap length (c .before .before .before .loop .inv .1 .noted .branches) ∙ over-length _ _
 
 returns : tie.Need-returns Inv-loop μ-loop
 returns c = (instructions-stopped _ _ _ _ _ (c .before .before .before .loop .inv .1 .place) (sym (c .before .is-refused .ensures) ∙ c .if1 .taken) (omega arith), λ on. not-on (sym (c .before .is-refused .ensures) ∙ c .if1 .taken) on)
@@ -51,35 +45,23 @@ start-requires c κs = search needs
 note-requires-2 : tie.Need-note-requires-2 Inv-loop μ-loop
 note-requires-2 c κs = search needs
 
-note-requires-3 : tie.Need-note-requires-3 Inv-loop μ-loop
-note-requires-3 c κs = search needs
-
-mark-requires : tie.Need-mark-requires Inv-loop μ-loop
-mark-requires c κs = search needs
-
 add-i : tie.Need-add-i Inv-loop μ-loop
-add-i c = omega (arith, c .before .before .before .before .before .before .before .before .before .before .before .before .before .before .before .before .before .before .before .before .before .loop-test, c .before .before .before .before .before .before .before .before .before .before .before .before .before .before .before .before .before .before .before .before .before .before .loop .inv .0, c .before .before .before .before .before .before .before .before .before .before .before .before .before .before .before .before .before .before .before .before .before .before .before .before .before .before .before .before .good)
+add-i c = omega (arith, c .before .before .before .before .before .before .before .before .before .before .before .before .before .loop-test, c .before .before .before .before .before .before .before .before .before .before .before .before .before .before .loop .inv .0, c .before .before .before .before .before .before .before .before .before .before .before .before .before .before .before .before .before .before .good)
 
 loop-less : tie.Need-loop-less Inv-loop μ-loop
 loop-less c = search needs
 
 loop-again : tie.Need-loop-again Inv-loop μ-loop
-loop-again c = (search needs, noting-more _ _ _ (c .before .before .before .before .before .before .before .before .before .before .before .before .before .before .before .before .before .before .before .before .before .before .loop .inv .1) (c .before .before .before .before .before .before .before .before .before .before .before .before .before .before .before .before .before .before .take-instruction .ensures) (c .before .before .before .before .before .before .before .before .before .before .before .before .before .before .before .note .ensures) (c .before .before .before .before .before .before .before .before .before .before .before .start .ensures) (c .before .before .before .before .before .before .before .before .before .before .note2 .ensures) (c .before .before .before .before .before .before .note3 .ensures) (c .before .before .mark .ensures))
+loop-again c = (search needs, noting-more _ _ _ (c .before .before .before .before .before .before .before .before .before .before .before .before .before .before .loop .inv .1) (c .before .before .before .before .before .before .before .before .before .before .take-instruction .ensures) (c .before .before .before .before .before .before .before .note .ensures) (c .before .before .before .start .ensures) (c .before .before .note2 .ensures))
 
-same-length-5 : tie.Need-same-length-5 Inv-loop μ-loop
-same-length-5 c = ap length (c .before .loop .inv .1 .noted .addresses) ∙ over-length _ _
+same-length-3 : tie.Need-same-length-3 Inv-loop μ-loop
+same-length-3 c = ap length (c .before .loop .inv .1 .noted .addresses) ∙ over-length _ _
 
-same-length-6 : tie.Need-same-length-6 Inv-loop μ-loop
-same-length-6 c = ap length (c .before .loop .inv .1 .noted .places) ∙ over-length _ _
-
-same-length-7 : tie.Need-same-length-7 Inv-loop μ-loop
-same-length-7 c = ap length (c .before .loop .inv .1 .noted .targets) ∙ over-length _ _
-
-same-length-8 : tie.Need-same-length-8 Inv-loop μ-loop
-same-length-8 c = ap length (c .before .loop .inv .1 .noted .branches) ∙ over-length _ _
+same-length-4 : tie.Need-same-length-4 Inv-loop μ-loop
+same-length-4 c = ap length (c .before .loop .inv .1 .noted .places) ∙ over-length _ _
 
 returns-2 : tie.Need-returns-2 Inv-loop μ-loop
-returns-2 c = let e : c .before .before .before .before .before .before .before .args .n ≡ c .before .loop .i = omega arith in (rw e (c .before .loop .inv .1 .place), λ on. rw e (c .before .loop .inv .1 .noted))
+returns-2 c = let e : c .before .before .before .before .before .args .n ≡ c .before .loop .i = omega arith in (rw e (c .before .loop .inv .1 .place), λ on. rw e (c .before .loop .inv .1 .noted))
 
 pub read-instructions-spec : {M : Type 1} → statement M
 read-instructions-spec =
@@ -91,20 +73,14 @@ read-instructions-spec =
     is-refused-requires
     same-length
     same-length-2
-    same-length-3
-    same-length-4
     returns
     take-instruction-requires
     note-requires
     start-requires
     note-requires-2
-    note-requires-3
-    mark-requires
     add-i
     loop-less
     loop-again
-    same-length-5
-    same-length-6
-    same-length-7
-    same-length-8
+    same-length-3
+    same-length-4
     returns-2)

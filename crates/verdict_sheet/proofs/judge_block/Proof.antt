@@ -1,5 +1,5 @@
 use Rattle.verdict_sheet.proofs.Keeping.{slot-there, block-kept, block-silent}
-use Rattle.verdict_sheet.proofs.Branches.{block-site, index-addresses, index-branches}
+use Rattle.verdict_sheet.proofs.Branches.{block-site, index-addresses}
 use Rattle.verdict_sheet.specs.Sites.{blockSite}
 use Rattle.verdict_block.proofs.OnSheet.{end-inside, verdict-is}
 use Rattle.verdict_block.specs.Verdict.{verdictOn}
@@ -14,13 +14,13 @@ range-of-requires : tie.Need-range-of-requires
 range-of-requires c κs = search needs
 
 last-branch-requires : tie.Need-last-branch-requires
-last-branch-requires c κs = omega (arith, index-branches (c .before .before .before .before .before .before .pre .1 .1 .0), c .range-of .ensures .within)
+last-branch-requires c κs = (c .before .before .before .before .before .pre .0, (c .before .before .before .before .before .pre .1 .1 .0 .places, end-inside (c .before .before .before .before .before .args .s .now) (c .before .before .before .before .before .args .sheet) (c .before .before .before .before .before .pre .0) (c .before .before .before .before .before .pre .1 .1 .0 .places) (c .range-of .ensures .within)))
 
 enum-known-at : tie.Need-enum-known-at
 enum-known-at c = search needs
 
 keep-end-requires : tie.Need-keep-end-requires
-keep-end-requires c κs = (c .before .before .before .before .before .before .before .before .before .before .before .pre .0, (c .before .before .before .before .before .before .before .before .before .before .before .pre .1 .1 .1 .0, (end-inside (c .before .before .before .before .before .before .before .before .before .before .before .args .s .now) (c .before .before .before .before .before .before .before .before .before .before .before .args .sheet) (c .before .before .before .before .before .before .before .before .before .before .before .pre .0) (c .before .before .before .before .before .before .before .before .before .before .before .pre .1 .1 .1 .0) (c .before .before .before .before .before .range-of .ensures .within), omega (arith, c .before .before .before .before .before .before .before .before .before .before .before .pre .1 .1 .1 .1, index-addresses (c .before .before .before .before .before .before .before .before .before .before .before .pre .1 .1 .0), slot-there (sheetAt (c .before .before .before .before .before .before .before .before .before .before .before .args .s .now) .instructions .list) (blockSite (c .before .before .before .before .before .before .before .before .before .before .before .args .s .now) (c .before .before .before .before .before .before .before .before .before .before .before .args .number)) (c .before .before .before .before .last-branch .result) (block-site (c .before .before .before .before .before .before .before .before .before .before .before .args .s .now) (c .before .before .before .before .before .before .before .before .before .before .before .args .number) (c .before .before .before .before .before .range-of .result) (c .before .before .before .before .before .range-of .ensures) (c .before .before .before .before .before .before .before .before .before .before .before .pre .1 .1 .0 .branches) (c .before .before .before .before .last-branch .ensures)) (c .before .before .at .given .1)))))
+keep-end-requires c κs = (c .before .before .before .before .before .before .before .before .before .before .pre .0, (c .before .before .before .before .before .before .before .before .before .before .pre .1 .1 .0 .places, (end-inside (c .before .before .before .before .before .before .before .before .before .before .args .s .now) (c .before .before .before .before .before .before .before .before .before .before .args .sheet) (c .before .before .before .before .before .before .before .before .before .before .pre .0) (c .before .before .before .before .before .before .before .before .before .before .pre .1 .1 .0 .places) (c .before .before .before .before .before .range-of .ensures .within), omega (arith, c .before .before .before .before .before .before .before .before .before .before .pre .1 .1 .1, index-addresses (c .before .before .before .before .before .before .before .before .before .before .pre .1 .1 .0), slot-there (sheetAt (c .before .before .before .before .before .before .before .before .before .before .args .s .now) .instructions .list) (blockSite (c .before .before .before .before .before .before .before .before .before .before .args .s .now) (c .before .before .before .before .before .before .before .before .before .before .args .number)) (c .before .before .before .before .last-branch .result) (block-site (c .before .before .before .before .before .before .before .before .before .before .args .s .now) (c .before .before .before .before .before .before .before .before .before .before .args .number) (c .before .before .before .before .before .range-of .result) (c .before .before .before .before .before .range-of .ensures) (c .before .before .before .before .last-branch .ensures)) (c .before .before .at .given .1)))))
 
 enum-told : tie.Need-enum-told
 enum-told c = search needs
@@ -29,10 +29,10 @@ same-length : tie.Need-same-length
 same-length c = search needs
 
 returns : tie.Need-returns
-returns c = λ said is. block-kept (sheetAt (c .before .before .before .before .before .before .before .before .before .before .before .before .before .before .args .s .now) .instructions .list) (c .before .before .before .before .before .before .before .before .before .before .before .before .before .before .pre .1 .1 .0 .rising) (c .before .before .before .before .before .before .before .before .before .before .before .before .before .before .pre .1 .1 .0 .addresses) said (blockSite (c .before .before .before .before .before .before .before .before .before .before .before .before .before .before .args .s .now) (c .before .before .before .before .before .before .before .before .before .before .before .before .before .before .args .number)) (verdictOn (c .before .before .before .before .before .before .before .before .before .before .before .before .before .before .args .s .now) (c .before .before .before .before .before .before .before .before .before .before .before .before .before .before .args .number)) (c .before .before .before .before .before .before .before .last-branch .result) (block-site (c .before .before .before .before .before .before .before .before .before .before .before .before .before .before .args .s .now) (c .before .before .before .before .before .before .before .before .before .before .before .before .before .before .args .number) (c .before .before .before .before .before .before .before .before .range-of .result) (c .before .before .before .before .before .before .before .before .range-of .ensures) (c .before .before .before .before .before .before .before .before .before .before .before .before .before .before .pre .1 .1 .0 .branches) (c .before .before .before .before .before .before .before .last-branch .ensures)) is (c .before .before .before .before .before .at .given .1) (verdict-is (c .before .before .before .before .before .before .before .before .before .before .before .before .before .before .args .s .now) (c .before .before .before .before .before .before .before .before .before .before .before .before .before .before .args .sheet) (c .before .before .before .before .before .before .before .before .before .before .before .before .before .before .pre .0) (c .before .before .before .before .before .before .before .before .before .before .before .before .before .before .args .number) (c .before .before .before .before .before .before .before .before .range-of .ensures) refl) (c .before .before .keep-end .ensures)
+returns c = λ said is. block-kept (sheetAt (c .before .before .before .before .before .before .before .before .before .before .before .before .before .args .s .now) .instructions .list) (c .before .before .before .before .before .before .before .before .before .before .before .before .before .pre .1 .1 .0 .rising) (c .before .before .before .before .before .before .before .before .before .before .before .before .before .pre .1 .1 .0 .addresses) said (blockSite (c .before .before .before .before .before .before .before .before .before .before .before .before .before .args .s .now) (c .before .before .before .before .before .before .before .before .before .before .before .before .before .args .number)) (verdictOn (c .before .before .before .before .before .before .before .before .before .before .before .before .before .args .s .now) (c .before .before .before .before .before .before .before .before .before .before .before .before .before .args .number)) (c .before .before .before .before .before .before .before .last-branch .result) (block-site (c .before .before .before .before .before .before .before .before .before .before .before .before .before .args .s .now) (c .before .before .before .before .before .before .before .before .before .before .before .before .before .args .number) (c .before .before .before .before .before .before .before .before .range-of .result) (c .before .before .before .before .before .before .before .before .range-of .ensures) (c .before .before .before .before .before .before .before .last-branch .ensures)) is (c .before .before .before .before .before .at .given .1) (verdict-is (c .before .before .before .before .before .before .before .before .before .before .before .before .before .args .s .now) (c .before .before .before .before .before .before .before .before .before .before .before .before .before .args .sheet) (c .before .before .before .before .before .before .before .before .before .before .before .before .before .pre .0) (c .before .before .before .before .before .before .before .before .before .before .before .before .before .args .number) (c .before .before .before .before .before .before .before .before .range-of .ensures) refl) (c .before .before .keep-end .ensures)
 
 returns-2 : tie.Need-returns-2
-returns-2 c = λ said is. block-silent (sheetAt (c .before .before .before .before .before .before .before .before .before .args .s .now) .instructions .list) (c .before .before .before .before .before .before .before .before .before .pre .1 .1 .0 .rising) (c .before .before .before .before .before .before .before .before .before .pre .1 .1 .0 .addresses) said (blockSite (c .before .before .before .before .before .before .before .before .before .args .s .now) (c .before .before .before .before .before .before .before .before .before .args .number)) (verdictOn (c .before .before .before .before .before .before .before .before .before .args .s .now) (c .before .before .before .before .before .before .before .before .before .args .number)) (c .before .before .last-branch .result) (block-site (c .before .before .before .before .before .before .before .before .before .args .s .now) (c .before .before .before .before .before .before .before .before .before .args .number) (c .before .before .before .range-of .result) (c .before .before .before .range-of .ensures) (c .before .before .before .before .before .before .before .before .before .pre .1 .1 .0 .branches) (c .before .before .last-branch .ensures)) is (c .enum-told .given .1) refl
+returns-2 c = λ said is. block-silent (sheetAt (c .before .before .before .before .before .before .before .before .args .s .now) .instructions .list) (c .before .before .before .before .before .before .before .before .pre .1 .1 .0 .rising) (c .before .before .before .before .before .before .before .before .pre .1 .1 .0 .addresses) said (blockSite (c .before .before .before .before .before .before .before .before .args .s .now) (c .before .before .before .before .before .before .before .before .args .number)) (verdictOn (c .before .before .before .before .before .before .before .before .args .s .now) (c .before .before .before .before .before .before .before .before .args .number)) (c .before .before .last-branch .result) (block-site (c .before .before .before .before .before .before .before .before .args .s .now) (c .before .before .before .before .before .before .before .before .args .number) (c .before .before .before .range-of .result) (c .before .before .before .range-of .ensures) (c .before .before .last-branch .ensures)) is (c .enum-told .given .1) refl
 
 pub judge-block-spec : {M : Type 1} → statement M
 judge-block-spec =

@@ -17,13 +17,13 @@ use Rattle.verdict_sheet.proofs.judge_nodes.Statement.{statement}
 use Rattle.verdict_sheet.proofs.judge_nodes.Tie as tie
 
 abbrev Inv-loop : tie.InvT-loop
-Inv-loop s addresses branches nodes slots₀ i₀ slots i =
+Inv-loop s sheet addresses places nodes slots₀ i₀ slots i =
     (i ≤ length nodes) × ((length slots ≡ length slots₀)
     × ((blocks : ℕ) → slots₀ ≡ slotsOf (sheetAt s .instructions .list) (blocksSay s blocks)
     → Reached (sheetAt s .instructions .list) progress.Through slots (judgedUpTo s blocks i)))
 
 abbrev μ-loop : tie.MeasureT-loop
-μ-loop s addresses branches nodes slots₀ i₀ slots i = length nodes - i
+μ-loop s sheet addresses places nodes slots₀ i₀ slots i = length nodes - i
 
 loop-holds : tie.Need-loop-holds Inv-loop μ-loop
 loop-holds c = (omega arith, (refl, λ blocks is. nodes-none (c .before .before .before .before .before .args .s .now) blocks is))
@@ -38,16 +38,16 @@ verdict-at-requires : tie.Need-verdict-at-requires Inv-loop μ-loop
 verdict-at-requires c κs = let e = c .before .before .before .before .before .before .before .before in stands-whole _ _ (e .pre .0) _ (e .pre .1 .1 .0) (c .before .loop-test .taken)
 
 keep-node-requires : tie.Need-keep-node-requires Inv-loop μ-loop
-keep-node-requires c κs = let e = c .before .before .before .before .before .before .before .before .before .before in (e .pre .1 .0, c .before .before .before .before .loop .inv .1 .0 ∙ ap length (e .pre .1 .1 .1) ∙ slots-length (sheetAt (e .args .s .now) .instructions .list) (blocksSay (e .args .s .now) (e .args .sheet .blocks .count)) ∙ sym (index-addresses (e .pre .1 .0)))
+keep-node-requires c κs = let e = c .before .before .before .before .before .before .before .before .before .before in (e .pre .0, (e .pre .1 .0, c .before .before .before .before .loop .inv .1 .0 ∙ ap length (e .pre .1 .1 .1) ∙ slots-length (sheetAt (e .args .s .now) .instructions .list) (blocksSay (e .args .s .now) (e .args .sheet .blocks .count)) ∙ sym (index-addresses (e .pre .1 .0))))
 
 enum-known-r : tie.Need-enum-known-r Inv-loop μ-loop
 enum-known-r c = search needs
 
 same-length : tie.Need-same-length Inv-loop μ-loop
-same-length c = c .before .before .before .before .before .keep-node .kept .1 .1 .1 .1 .0 ∙ c .before .before .before .before .before .before .before .before .before .before .loop .inv .1 .0
+same-length c = c .before .before .before .before .before .keep-node .kept .1 .1 .1 .1 .1 .0 ∙ c .before .before .before .before .before .before .before .before .before .before .loop .inv .1 .0
 
 returns : tie.Need-returns Inv-loop μ-loop
-returns c = let e = c .before .before .before .before .before .before .before .before .before .before .before .before .before .before .before .before in let l = c .before .before .before .before .before .before .before .before .before .before in let k = c .before .before .before .before .before .keep-node in let v = c .before .before .before .before .before .before .before .verdict-at in nodes-ended (e .args .s .now) (e .args .sheet .blocks .count) (l .loop .i) (k .result) (l .loop .slots) (k .last .1 .1 .1 .1 .0) (l .loop .inv .1 .1 (e .args .sheet .blocks .count) (e .pre .1 .1 .1)) (λ said is. node-numbered (e .args .s .now) (e .args .sheet) (e .pre .0) (l .loop .i) (e .pre .1 .1 .0) (c .before .before .before .before .before .before .before .before .before .loop-test .taken) (k .result) (k .last .1 .1 .1 .1 .0) said (k .ensures (nodeAt (e .args .s .now) (At (getD (e .args .nodes .now) (l .loop .i) 0))) (getD (e .args .nodes .now) (l .loop .i) 0) said (v .ensures) is)) (e .args .sheet .nodes .count) (c .before .r .given .0 .0) (c .before .r .given .0 .1 .0) (c .before .r .given .1) (omega (arith, c .before .before .before .before .before .before .before .before .before .loop-test .taken, (ap length (e .pre .1 .1 .0) ∙ node-places-count (e .args .s .now) (e .args .sheet) (e .pre .0))))
+returns c = let e = c .before .before .before .before .before .before .before .before .before .before .before .before .before .before .before .before in let l = c .before .before .before .before .before .before .before .before .before .before in let k = c .before .before .before .before .before .keep-node in let v = c .before .before .before .before .before .before .before .verdict-at in nodes-ended (e .args .s .now) (e .args .sheet .blocks .count) (l .loop .i) (k .result) (l .loop .slots) (k .last .1 .1 .1 .1 .1 .0) (l .loop .inv .1 .1 (e .args .sheet .blocks .count) (e .pre .1 .1 .1)) (λ said is. node-numbered (e .args .s .now) (e .args .sheet) (e .pre .0) (l .loop .i) (e .pre .1 .1 .0) (c .before .before .before .before .before .before .before .before .before .loop-test .taken) (k .result) (k .last .1 .1 .1 .1 .1 .0) said (k .ensures (nodeAt (e .args .s .now) (At (getD (e .args .nodes .now) (l .loop .i) 0))) (getD (e .args .nodes .now) (l .loop .i) 0) said (v .ensures) is)) (e .args .sheet .nodes .count) (c .before .r .given .0 .0) (c .before .r .given .0 .1 .0) (c .before .r .given .1) (omega (arith, c .before .before .before .before .before .before .before .before .before .loop-test .taken, (ap length (e .pre .1 .1 .0) ∙ node-places-count (e .args .s .now) (e .args .sheet) (e .pre .0))))
 
 enum-told : tie.Need-enum-told Inv-loop μ-loop
 enum-told c = search needs
@@ -59,7 +59,7 @@ loop-less : tie.Need-loop-less Inv-loop μ-loop
 loop-less c = omega (arith, c .before .before .before .before .before .before .before .before .loop-test .taken)
 
 loop-again : tie.Need-loop-again Inv-loop μ-loop
-loop-again c = let e = c .before .before .before .before .before .before .before .before .before .before .before .before .before .before .before in let l = c .before .before .before .before .before .before .before .before .before in let k = c .before .before .before .before .keep-node in let v = c .before .before .before .before .before .before .verdict-at in (omega (arith, c .before .before .before .before .before .before .before .before .loop-test .taken), (k .kept .1 .1 .1 .1 .0 ∙ l .loop .inv .1 .0, λ blocks given. nodes-on (e .args .s .now) blocks (l .loop .i) (k .result) (l .loop .slots) (k .last .1 .1 .1 .1 .0) (l .loop .inv .1 .1 blocks given) (λ said is. node-numbered (e .args .s .now) (e .args .sheet) (e .pre .0) (l .loop .i) (e .pre .1 .1 .0) (c .before .before .before .before .before .before .before .before .loop-test .taken) (k .result) (k .last .1 .1 .1 .1 .0) said (k .ensures (nodeAt (e .args .s .now) (At (getD (e .args .nodes .now) (l .loop .i) 0))) (getD (e .args .nodes .now) (l .loop .i) 0) said (v .ensures) is)) (c .enum-told .given .1)))
+loop-again c = let e = c .before .before .before .before .before .before .before .before .before .before .before .before .before .before .before in let l = c .before .before .before .before .before .before .before .before .before in let k = c .before .before .before .before .keep-node in let v = c .before .before .before .before .before .before .verdict-at in (omega (arith, c .before .before .before .before .before .before .before .before .loop-test .taken), (k .kept .1 .1 .1 .1 .1 .0 ∙ l .loop .inv .1 .0, λ blocks given. nodes-on (e .args .s .now) blocks (l .loop .i) (k .result) (l .loop .slots) (k .last .1 .1 .1 .1 .1 .0) (l .loop .inv .1 .1 blocks given) (λ said is. node-numbered (e .args .s .now) (e .args .sheet) (e .pre .0) (l .loop .i) (e .pre .1 .1 .0) (c .before .before .before .before .before .before .before .before .loop-test .taken) (k .result) (k .last .1 .1 .1 .1 .1 .0) said (k .ensures (nodeAt (e .args .s .now) (At (getD (e .args .nodes .now) (l .loop .i) 0))) (getD (e .args .nodes .now) (l .loop .i) 0) said (v .ensures) is)) (c .enum-told .given .1)))
 
 same-length-2 : tie.Need-same-length-2 Inv-loop μ-loop
 same-length-2 c = c .before .loop .inv .1 .0
