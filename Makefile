@@ -42,7 +42,7 @@ test:
 
 install: all
 	install -d $(to)/include $(to)/lib/pkgconfig $(to)/bin
-	install -m 644 include/pomthija.h $(to)/include/
+	install -m 644 include/pomthija.h include/pomthija_sheet.h $(to)/include/
 	install -m 644 build/libpomthija.a $(to)/lib/
 	install -m 755 build/libpomthija.so $(to)/lib/libpomthija.so.$(VERSION)
 	ln -sf libpomthija.so.$(VERSION) $(to)/lib/libpomthija.so

@@ -16,10 +16,18 @@ static uint64_t address(const uint8_t *bytes)
 
 int main(int argc, char **argv)
 {
-    FILE *file = argc == 2 ? fopen(argv[1], "rb") : NULL;
+    if (argc != 2) {
+        fprintf(stderr, "usage: list SHEET\n");
+        return 2;
+    }
+    FILE *file = fopen(argv[1], "rb");
     size_t length = file ? fread(sheet, 1, sizeof sheet, file) : 0;
-    if (!file || ferror(file) || length == sizeof sheet) {
-        fprintf(stderr, "usage: list SHEET, the sheet below 1 MiB\n");
+    if (!file || ferror(file)) {
+        perror(argv[1]);
+        return 2;
+    }
+    if (length == sizeof sheet) {
+        fprintf(stderr, "%s: 1 MiB or more\n", argv[1]);
         return 2;
     }
     uint64_t out, refusal = pomthija_listing(sheet, length, list, sizeof list, &out);
