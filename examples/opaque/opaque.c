@@ -6,7 +6,26 @@
      cc -O0 -o opaque examples/opaque/opaque.c
      pomthija list opaque
 
-   The program runs every branch, with several inputs. */
+   The program runs every branch, with several inputs. It can also be compiled as
+   32-bit code (-m32); there jecxz takes the place of jrcxz, and jcxz that of jecxz. */
+
+/* The widest registers and the suffix of instructions on them; a count whose low half,
+   but not the whole, is 0; the jumps on the whole and on the low half; the own address. */
+#ifdef __x86_64__
+#define R "%%r"
+#define W "q"
+#define HIGH "movabsq $0x100000000, %%rcx"
+#define IF_ZERO "jrcxz"
+#define IF_LOW_ZERO "jecxz"
+#define OWN_ADDRESS(place) "leaq " place "(%%rip), %%rax\n\t"
+#else
+#define R "%%e"
+#define W "l"
+#define HIGH "movl $0x10000, %%ecx"
+#define IF_ZERO "jecxz"
+#define IF_LOW_ZERO "jcxz"
+#define OWN_ADDRESS(place) "call 4f\n4:\tpopl %%eax\n\taddl $" place "-4b, %%eax\n\t"
+#endif
 
 /* A function that executes `before` and `jump`, and tells whether it jumped. */
 #define BRANCH(name, before, jump)                                      \
@@ -17,24 +36,24 @@
                          "1:\tmovl $1, %0\n2:"                          \
                          : "+m"(taken)                                  \
                          : "r"(input)                                   \
-                         : "rax", "rcx", "rdx", "cc", "memory");        \
+                         : "eax", "ecx", "edx", "cc", "memory");        \
         return taken;                                                   \
     }
 
 /* A register cleared and tested; constants. */
 BRANCH(cleared, "xorl %%eax, %%eax\n\ttestl %%eax, %%eax", "je")
-BRANCH(cleared_by_sub, "subq %%rdx, %%rdx", "jne")
+BRANCH(cleared_by_sub, "sub" W " " R "dx, " R "dx", "jne")
 BRANCH(constant_compared, "movl $1, %%eax\n\tcmpl $6, %%eax", "je")
 BRANCH(constant_high_byte, "movl $0x100, %%eax\n\ttestb %%ah, %%ah", "jne")
 BRANCH(sign_set, "movl $0x80000000, %%eax\n\ttestl %%eax, %%eax", "js")
 BRANCH(parity_even, "movl $3, %%eax\n\ttestl %%eax, %%eax", "jp")
 BRANCH(parity_odd, "movl $1, %%eax\n\ttestl %%eax, %%eax", "jp")
-BRANCH(signed_less, "movq $-1, %%rax\n\tcmpq $1, %%rax", "jl")
-BRANCH(signed_greater_equal, "movq $-1, %%rax\n\tcmpq $1, %%rax", "jge")
+BRANCH(signed_less, "mov" W " $-1, " R "ax\n\tcmp" W " $1, " R "ax", "jl")
+BRANCH(signed_greater_equal, "mov" W " $-1, " R "ax\n\tcmp" W " $1, " R "ax", "jge")
 BRANCH(signed_greater, "movl $3, %%eax\n\tcmpl $2, %%eax", "jg")
 BRANCH(signed_less_equal, "movl $3, %%eax\n\tcmpl $2, %%eax", "jle")
-BRANCH(unsigned_above, "movq $-1, %%rax\n\tcmpq $1, %%rax", "ja")
-BRANCH(unsigned_below_equal, "movq $-1, %%rax\n\tcmpq $1, %%rax", "jbe")
+BRANCH(unsigned_above, "mov" W " $-1, " R "ax\n\tcmp" W " $1, " R "ax", "ja")
+BRANCH(unsigned_below_equal, "mov" W " $-1, " R "ax\n\tcmp" W " $1, " R "ax", "jbe")
 BRANCH(overflow, "movl $0x7fffffff, %%eax\n\tincl %%eax", "jo")
 BRANCH(overflow_not, "movl $0x80000000, %%eax\n\tdecl %%eax", "jno")
 
@@ -52,7 +71,7 @@ BRANCH(same_equal, "movl %1, %%ecx\n\tcmpl %%ecx, %%ecx", "je")
 BRANCH(same_less, "movl %1, %%ecx\n\tcmpw %%cx, %%cx", "jl")
 BRANCH(same_greater_equal, "movl %1, %%ecx\n\tcmpb %%ch, %%ch", "jge")
 BRANCH(same_less_equal, "movl %1, %%ecx\n\tcmpl %%ecx, %%ecx", "jle")
-BRANCH(same_greater, "movl %1, %%ecx\n\tcmpq %%rcx, %%rcx", "jg")
+BRANCH(same_greater, "movl %1, %%ecx\n\tcmp" W " " R "cx, " R "cx", "jg")
 BRANCH(same_below_equal, "movl %1, %%ecx\n\tcmpl %%ecx, %%ecx", "jbe")
 BRANCH(same_above, "movl %1, %%ecx\n\tcmpl %%ecx, %%ecx", "ja")
 BRANCH(same_sign, "movl %1, %%ecx\n\tsubl %%ecx, %%ecx", "js")
@@ -62,18 +81,18 @@ BRANCH(same_no_parity, "movl %1, %%ecx\n\tcmpl %%ecx, %%ecx", "jnp")
 BRANCH(same_overflow, "movl %1, %%ecx\n\tcmpl %%ecx, %%ecx", "jo")
 
 /* The count register. */
-BRANCH(count_zero, "xorl %%ecx, %%ecx", "jrcxz")
-BRANCH(count_one, "movl $1, %%ecx", "jrcxz")
-BRANCH(low_count_zero, "movabsq $0x100000000, %%rcx", "jecxz")
-BRANCH(low_count_one, "movl $1, %%ecx", "jecxz")
-BRANCH(high_count, "movabsq $0x100000000, %%rcx", "jrcxz")
+BRANCH(count_zero, "xorl %%ecx, %%ecx", IF_ZERO)
+BRANCH(count_one, "movl $1, %%ecx", IF_ZERO)
+BRANCH(low_count_zero, HIGH, IF_LOW_ZERO)
+BRANCH(low_count_one, "movl $1, %%ecx", IF_LOW_ZERO)
+BRANCH(high_count, HIGH, IF_ZERO)
 
 /* Instructions between, which write other registers, or flags. */
 BRANCH(register_kept,
-       "xorl %%eax, %%eax\n\tleal 1(%%rax), %%edx\n\timull $3, %1, %%ecx\n\t"
+       "xorl %%eax, %%eax\n\tleal 1(" R "ax), %%edx\n\timull $3, %1, %%ecx\n\t"
        "cmpxchgl %%ecx, %%edx\n\tmovl $0, %%eax\n\tsete %%dl\n\ttestl %%eax, %%eax",
        "je")
-BRANCH(flags_kept, "cmpl %%eax, %%eax\n\tmovl %1, %%ecx\n\tleal (%%rcx,%%rcx), %%edx\n\tbswap %%edx", "je")
+BRANCH(flags_kept, "cmpl %%eax, %%eax\n\tmovl %1, %%ecx\n\tleal (" R "cx," R "cx), %%edx\n\tbswap %%edx", "je")
 BRANCH(register_lost, "xorl %%eax, %%eax\n\tmovl %1, %%edx\n\txchgl %%edx, %%eax\n\ttestl %%eax, %%eax", "je")
 BRANCH(flags_lost, "stc\n\tmovl %1, %%eax\n\tshrl $1, %%eax", "jb")
 BRANCH(product_lost, "xorl %%edx, %%edx\n\tmovl %1, %%eax\n\timull %%eax\n\ttestl %%edx, %%edx", "je")
@@ -89,9 +108,9 @@ static int called(int input)
 static int across_a_call(int input)
 {
     int taken = 0;
-    __asm__ volatile("xorl %%eax, %%eax" ::: "rax");
+    __asm__ volatile("xorl %%eax, %%eax" ::: "eax");
     called(input);
-    __asm__ volatile("testl %%eax, %%eax\n\tje 1f\n\tjmp 2f\n1:\tmovl $1, %0\n2:" : "+m"(taken)::"rax", "cc");
+    __asm__ volatile("testl %%eax, %%eax\n\tje 1f\n\tjmp 2f\n1:\tmovl $1, %0\n2:" : "+m"(taken)::"eax", "cc");
     return taken;
 }
 
@@ -101,7 +120,7 @@ static int loop_head(int input)
     int turns = 0;
     __asm__ volatile("xorl %%eax, %%eax\n"
                      "1:\ttestl %%eax, %%eax\n\tjne 2f\n\taddl $1, %0\n\tmovl $1, %%eax\n\tjmp 1b\n2:"
-                     : "+m"(turns)::"rax", "cc");
+                     : "+m"(turns)::"eax", "cc");
     return turns + input;
 }
 
@@ -109,7 +128,7 @@ static int loop_head(int input)
 static int counted(int input)
 {
     int turns = 0;
-    __asm__ volatile("movl $3, %%ecx\n1:\taddl $1, %0\n\tloop 1b" : "+m"(turns)::"rcx", "cc");
+    __asm__ volatile("movl $3, %%ecx\n1:\taddl $1, %0\n\tloop 1b" : "+m"(turns)::"ecx", "cc");
     return turns + input;
 }
 
@@ -120,16 +139,16 @@ static int entered(int input)
     int taken = 0;
     goto *places[input & 1];
 cleared_first:
-    __asm__ volatile("xorl %%eax, %%eax" ::: "rax");
+    __asm__ volatile("xorl %%eax, %%eax" ::: "eax");
 tested:
-    __asm__ volatile("testl %%eax, %%eax\n\tje 1f\n\tjmp 2f\n1:\tmovl $1, %0\n2:" : "+m"(taken)::"rax", "cc");
+    __asm__ volatile("testl %%eax, %%eax\n\tje 1f\n\tjmp 2f\n1:\tmovl $1, %0\n2:" : "+m"(taken)::"eax", "cc");
     return taken;
 }
 
 /* The same, and the address stands nowhere: the xor is 2 bytes long. */
 BRANCH(worked_out,
-       "leaq 3f(%%rip), %%rax\n\tmovl %1, %%ecx\n\tandl $1, %%ecx\n\t"
-       "leaq (%%rax,%%rcx,2), %%rax\n\tjmp *%%rax\n3:\txorl %%eax, %%eax\n\ttestl %%eax, %%eax",
+       OWN_ADDRESS("3f") "movl %1, %%ecx\n\tandl $1, %%ecx\n\t"
+       "lea" W " (" R "ax," R "cx,2), " R "ax\n\tjmp *" R "ax\n3:\txorl %%eax, %%eax\n\ttestl %%eax, %%eax",
        "je")
 
 /* A jump into an instruction: what is shown as `test eax,0x9001e0c1` is also

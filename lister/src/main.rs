@@ -3,8 +3,9 @@
 mod engine;
 mod progress;
 
+use lister::disassembly::bits::Bits;
 use lister::disassembly::listing::{self, Job};
-use lister::disassembly::program::{content, Input, Source};
+use lister::disassembly::program::{content, Input, Kind, Word};
 use lister::disassembly::{annotated, json, report, steps};
 use lister::options::{Options, Shape};
 use lister::sheets::{from_text, reader, to_text};
@@ -14,10 +15,15 @@ use std::process::ExitCode;
 use std::thread;
 
 const HELP: &str = "\
-pomthija: which conditional branches of an x86-64 program are always or never taken
+pomthija: which conditional branches of x86 code are always or never taken
 
   pomthija list FILE               the decided branches of a linked program or library
     --text                         FILE is the output of objdump -d -M intel
+    --raw --bits 32|64             FILE is an image without headers,
+    --base ADDRESS                 loaded at an address (0)
+    --functions FILE               addresses at which functions start, one a line
+    --entries FILE                 addresses at which code is entered besides
+    --assume-calls                 functions start where direct calls go
     --json                         as JSON
     --annotate                     the disassembly with the verdicts and what is dead by them
     --save FOLDER                  stores the sheets and their listings
@@ -27,12 +33,13 @@ pomthija: which conditional branches of an x86-64 program are always or never ta
   pomthija fields TEXT             lists the fields of a text's sheet
   pomthija --help, --version
 
-Options stand anywhere. A file name of - is standard input or output.
+Options stand anywhere. A file name of - is standard input or output. Addresses are
+hexadecimal, with or without 0x; # starts a comment in files of them.
 Status: 0 done, 1 refused, 2 wrong usage.";
 
 const LIST: Shape = Shape {
-    flags: &["--text", "--json", "--annotate"],
-    values: &["--save", "--steps"],
+    flags: &["--text", "--raw", "--assume-calls", "--json", "--annotate"],
+    values: &["--bits", "--base", "--functions", "--entries", "--save", "--steps"],
     words: &["the file to list"],
 };
 const WRITE: Shape = Shape { flags: &[], values: &[], words: &["the text", "the sheet"] };
@@ -116,17 +123,68 @@ fn store(path: &str, bytes: &[u8]) -> Outcome {
     stored.map_err(|error| refused(path)(error.to_string()))
 }
 
+/// An address of the command line or of a file.
+fn address(word: &str) -> Option<u64> {
+    u64::from_str_radix(word.trim_start_matches("0x"), 16).ok()
+}
+
+fn kind(options: &Options) -> Result<Kind, Failure> {
+    let usage = |message: &str| Err(Failure::Usage(message.to_string()));
+    let (bits, base) = (options.value("--bits"), options.value("--base"));
+    let of_code = ["--functions", "--entries"].iter().any(|name| options.value(name).is_some());
+    match (options.has("--text"), options.has("--raw")) {
+        (true, true) => usage("--text and --raw exclude each other"),
+        (true, _) if of_code || options.has("--assume-calls") => {
+            usage("--functions, --entries and --assume-calls are not for text")
+        }
+        (_, false) if bits.is_some() || base.is_some() => usage("--bits and --base are for --raw"),
+        (true, _) => Ok(Kind::Text),
+        (_, false) => Ok(Kind::Linked),
+        (_, true) => {
+            let bits = match bits {
+                Some("32") => Bits::B32,
+                Some("64") => Bits::B64,
+                _ => return usage("--raw needs --bits 32 or --bits 64"),
+            };
+            match address(base.unwrap_or("0")) {
+                Some(base) => Ok(Kind::Raw { bits, base }),
+                None => usage("--base needs an address"),
+            }
+        }
+    }
+}
+
+/// The addresses of a file, one a line.
+fn addresses(path: Option<&str>) -> Result<Vec<u64>, Failure> {
+    let Some(path) = path else {
+        return Ok(Vec::new());
+    };
+    let text = text_of(path)?;
+    let lines = text.lines().map(|line| line.split('#').next().unwrap_or("").trim());
+    let lines = lines.enumerate().filter(|(_, line)| !line.is_empty());
+    let none = |number: usize| refused(path)(format!("line {}: no address", number + 1));
+    lines.map(|(number, line)| address(line).ok_or_else(|| none(number))).collect()
+}
+
+fn word(options: &Options) -> Result<Word, Failure> {
+    Ok(Word {
+        functions: addresses(options.value("--functions"))?,
+        entries: addresses(options.value("--entries"))?,
+        calls: options.has("--assume-calls"),
+    })
+}
+
 fn list(options: &Options) -> Outcome {
     if options.has("--json") && options.has("--annotate") {
         return Err(Failure::Usage("--json and --annotate exclude each other".to_string()));
     }
     let path = &options.words[0];
-    let source = if options.has("--text") { Source::Text(path) } else { Source::File(path) };
+    let (kind, word) = (kind(options)?, word(options)?);
     let progress = Progress::start();
     progress.say(|| "the disassembly is read".to_string());
-    let input = Input::read(&source).map_err(refused(path))?;
+    let input = Input::read(path, kind).map_err(refused(path))?;
     progress.say(|| "entries are looked for".to_string());
-    let program = input.program().map_err(refused(path))?;
+    let program = input.program(&word).map_err(refused(path))?;
     let job = Job {
         judge: &engine::listed,
         save: options.value("--save"),
@@ -145,10 +203,14 @@ fn list(options: &Options) -> Outcome {
     say(&lines.iter().map(|line| format!("{line}\n")).collect::<String>())
 }
 
-fn written(path: &str) -> Result<from_text::Written, Failure> {
+fn text_of(path: &str) -> Result<String, Failure> {
     let bytes = content(path).map_err(refused(path))?;
-    let text = String::from_utf8(bytes).map_err(|_| refused(path)("not text".to_string()))?;
-    from_text::write(&text).map_err(|error| Failure::Refused(format!("{path}, {error}")))
+    String::from_utf8(bytes).map_err(|_| refused(path)("not text".to_string()))
+}
+
+fn written(path: &str) -> Result<from_text::Written, Failure> {
+    let written = from_text::write(&text_of(path)?);
+    written.map_err(|error| Failure::Refused(format!("{path}, {error}")))
 }
 
 fn write_sheet(options: &Options) -> Outcome {

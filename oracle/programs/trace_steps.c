@@ -9,6 +9,8 @@
    - a branch that is always taken is taken, and one that is never taken is not;
    - what is dead by the verdicts is not run.
 
+   The file and the program may be of 32 bits.
+
    usage: trace_steps CLAIMS FILE PROGRAM ARGUMENT...
    The status is 1 if a claim did not hold, 2 if the program could not be run. */
 #include <elf.h>
@@ -78,47 +80,84 @@ static struct claim *claim_at(uint64_t address)
     return low < count && claims[low].address == address ? &claims[low] : NULL;
 }
 
-/* Lets the program run to its first instruction. What the loader does before is
-   of another file. */
-static void start(pid_t child)
+/* Whether an ELF file is of 32 bits. */
+static int is_short(const char *path)
+{
+    unsigned char head[EI_NIDENT];
+    FILE *file = fopen(path, "rb");
+    if (!file || fread(head, sizeof head, 1, file) != 1)
+        fail("the file cannot be read");
+    fclose(file);
+    return head[EI_CLASS] == ELFCLASS32;
+}
+
+/* Where the program starts, from what the system tells it. The words there are those of the program. */
+static uint64_t entry_of(pid_t child, int words_of_four)
 {
     char path[64];
-    uint64_t entry[2] = {0, 0};
-    struct user_regs_struct r;
-    int file, status;
-    long word;
+    uint64_t pair[2];
+    uint32_t pair_of_four[2];
+    void *to = words_of_four ? (void *)pair_of_four : (void *)pair;
+    size_t size = words_of_four ? sizeof pair_of_four : sizeof pair;
+    int file;
     snprintf(path, sizeof path, "/proc/%d/auxv", (int)child);
     file = open(path, O_RDONLY);
-    while (entry[0] != AT_ENTRY)
-        if (read(file, entry, sizeof entry) != (ssize_t)sizeof entry)
+    do {
+        if (read(file, to, size) != (ssize_t)size)
             fail("the start of the program cannot be read");
+        if (words_of_four) {
+            pair[0] = pair_of_four[0];
+            pair[1] = pair_of_four[1];
+        }
+    } while (pair[0] != AT_ENTRY);
     close(file);
-    word = ptrace(PTRACE_PEEKTEXT, child, (void *)entry[1], NULL);
-    ptrace(PTRACE_POKETEXT, child, (void *)entry[1], (void *)((word & ~0xffL) | 0xcc));
+    return pair[1];
+}
+
+/* Lets the program run to its first instruction. What the loader does before is
+   of another file. */
+static void start(pid_t child, int words_of_four)
+{
+    uint64_t entry = entry_of(child, words_of_four);
+    struct user_regs_struct r;
+    int status;
+    long word = ptrace(PTRACE_PEEKTEXT, child, (void *)entry, NULL);
+    ptrace(PTRACE_POKETEXT, child, (void *)entry, (void *)((word & ~0xffL) | 0xcc));
     ptrace(PTRACE_CONT, child, NULL, NULL);
     if (waitpid(child, &status, 0) < 0 || !WIFSTOPPED(status) || WSTOPSIG(status) != SIGTRAP)
         fail("the program did not come to its first instruction");
-    ptrace(PTRACE_POKETEXT, child, (void *)entry[1], (void *)word);
+    ptrace(PTRACE_POKETEXT, child, (void *)entry, (void *)word);
     ptrace(PTRACE_GETREGS, child, NULL, &r);
-    r.rip = entry[1];
+    r.rip = entry;
     ptrace(PTRACE_SETREGS, child, NULL, &r);
 }
 
 /* The address that the file gives to its first byte. */
 static uint64_t first_address(const char *path)
 {
-    Elf64_Ehdr header;
-    Elf64_Phdr segment;
+    union {
+        Elf64_Ehdr of_64;
+        Elf32_Ehdr of_32;
+    } header;
+    union {
+        Elf64_Phdr of_64;
+        Elf32_Phdr of_32;
+    } segment;
+    int is_32 = is_short(path);
     FILE *file = fopen(path, "rb");
     if (!file || fread(&header, sizeof header, 1, file) != 1)
         fail("the file cannot be read");
-    for (int i = 0; i < header.e_phnum; i++) {
-        fseek(file, (long)(header.e_phoff + (uint64_t)i * header.e_phentsize), SEEK_SET);
-        if (fread(&segment, sizeof segment, 1, file) != 1)
+    int count = is_32 ? header.of_32.e_phnum : header.of_64.e_phnum;
+    for (int i = 0; i < count; i++) {
+        uint64_t at = is_32 ? header.of_32.e_phoff + (uint64_t)i * sizeof segment.of_32
+                            : header.of_64.e_phoff + (uint64_t)i * sizeof segment.of_64;
+        fseek(file, (long)at, SEEK_SET);
+        if (fread(&segment, is_32 ? sizeof segment.of_32 : sizeof segment.of_64, 1, file) != 1)
             fail("the file cannot be read");
-        if (segment.p_type == PT_LOAD && segment.p_offset == 0) {
+        int loaded = segment.of_32.p_type == PT_LOAD; /* the type is first in both */
+        if (loaded && (is_32 ? segment.of_32.p_offset : segment.of_64.p_offset) == 0) {
             fclose(file);
-            return segment.p_vaddr;
+            return is_32 ? segment.of_32.p_vaddr : segment.of_64.p_vaddr;
         }
     }
     fail("the file's first byte is not loaded");
@@ -264,7 +303,7 @@ int main(int argc, char **argv)
     }
     if (child < 0 || waitpid(child, &status, 0) < 0 || !WIFSTOPPED(status))
         fail("the program cannot be started under a tracer");
-    start(child);
+    start(child, is_short(argv[3]));
     trace(child, bias(child, argv[2]));
     report();
     return wrong != 0;

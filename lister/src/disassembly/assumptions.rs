@@ -9,9 +9,19 @@ use std::fmt;
 
 #[derive(Clone, Debug, PartialEq, Eq)]
 pub struct Assumption {
-    pub what: &'static str,
+    pub what: String,
     /// How often there is occasion to it; nothing where that is not counted.
     pub times: Option<usize>,
+}
+
+impl Assumption {
+    pub fn plain(what: &str) -> Assumption {
+        Assumption { what: what.to_string(), times: None }
+    }
+
+    pub fn counted(what: &str, times: usize) -> Assumption {
+        Assumption { what: what.to_string(), times: Some(times) }
+    }
 }
 
 impl fmt::Display for Assumption {
@@ -44,8 +54,8 @@ pub fn stated(text: &Disassembly, control: &ControlFlow) -> Vec<Assumption> {
         (seen.returns, "returns go behind their calls"),
     ];
     let counted = counted.into_iter().filter(|(times, _)| *times > 0);
-    let counted = counted.map(|(times, what)| Assumption { what, times: Some(times) });
-    [Assumption { what: always, times: None }].into_iter().chain(counted).collect()
+    let counted = counted.map(|(times, what)| Assumption::counted(what, times));
+    [Assumption::plain(always)].into_iter().chain(counted).collect()
 }
 
 impl Occasions {

@@ -1,6 +1,8 @@
 //! Where control goes in the whole text: after each line, and to which
 //! addresses from anywhere.
 
+use crate::disassembly::bits::Bits;
+use crate::disassembly::distances;
 use crate::disassembly::elf::Span;
 use crate::disassembly::instruction::{listed, Flow, Standing};
 use crate::disassembly::operand::{parts, Operand, Parts};
@@ -19,7 +21,7 @@ pub struct Step {
 /// What is known of the code from outside the text.
 #[derive(Debug, Default)]
 pub struct Outside {
-    /// Ranges of functions.
+    /// Ranges of functions; empty ones where only the start is known.
     pub functions: Vec<Span>,
     /// Ranges in which there are entries that could not be read.
     pub unread: Vec<Span>,
@@ -33,6 +35,16 @@ pub struct Outside {
     pub joins: Vec<(u64, u64)>,
     /// Where such code goes to an address that is not known.
     pub opens: Vec<u64>,
+    /// What numbers in operands may be distances from: 0 where they may be addresses.
+    pub bases: Vec<u64>,
+}
+
+impl Outside {
+    /// The known ends of functions.
+    pub fn ends(&self) -> HashSet<u64> {
+        let whole = self.functions.iter().filter(|span| span.end > span.start);
+        whole.map(|span| span.end).collect()
+    }
 }
 
 #[derive(Debug, Default)]
@@ -62,7 +74,7 @@ pub fn read(text: &Disassembly, outside: &Outside) -> ControlFlow {
         match step.flow {
             Flow::Branch(target) | Flow::Jump(target) => control.targets.push(target),
             _ if goes_to(&parts) => control.targets.extend(parts.target()),
-            _ => control.named.extend(addresses(&parts, 0)),
+            _ => control.named.extend(addresses(&parts, 0, text.bits, outside)),
         }
         if is_unclear(line, &parts) {
             control.unclear.push(line.address);
@@ -71,6 +83,7 @@ pub fn read(text: &Disassembly, outside: &Outside) -> ControlFlow {
         }
         control.steps.push(through_slot(text, outside, line, &parts, step));
     }
+    control.named.extend(distances::from_own_address(text, outside));
     returns_as_jumps(text, outside, &mut control);
     control.unseen.extend(ends_of_runs(text, &control.steps));
     for list in [&mut control.targets, &mut control.named, &mut control.unseen] {
@@ -96,14 +109,20 @@ fn goes_to(parts: &Parts) -> bool {
 
 /// The addresses that an instruction may name. Those that objdump works out from
 /// the instruction's own are too high by `moved`.
-pub fn addresses(parts: &Parts, moved: u64) -> Vec<u64> {
-    let own = |address: u64| address.wrapping_sub(moved);
+pub fn addresses(parts: &Parts, moved: u64, bits: Bits, outside: &Outside) -> Vec<u64> {
     let immediates = parts.operands.iter().filter_map(|operand| match operand {
         Operand::Immediate(value) => Some(*value),
         _ => None,
     });
-    let worked_out = parts.shown.into_iter().chain(parts.target()).map(own);
-    immediates.chain(worked_out).collect()
+    let worked_out = parts.shown.into_iter().chain(parts.target());
+    let worked_out = worked_out.map(|address| address.wrapping_sub(moved));
+    let from = |base: &u64| {
+        let base = *base;
+        distances::numbers(parts).map(move |number| base.wrapping_add(number))
+    };
+    let distances = outside.bases.iter().flat_map(from);
+    let all = immediates.chain(worked_out).chain(distances);
+    all.map(|address| bits.address(address)).collect()
 }
 
 /// Bytes that objdump cannot decode, prefixes with no instruction behind them, and
@@ -151,13 +170,21 @@ fn has_operand_prefix(bytes: &str) -> bool {
     prefixes.any(|byte| byte == 0x66)
 }
 
+/// Where direct calls go.
+pub fn call_targets(text: &Disassembly) -> Vec<u64> {
+    let calls = text.lines.iter().map(|line| parts(line.text));
+    let calls = calls.filter(|parts| parts.mnemonic == "call");
+    let mut targets: Vec<u64> = calls.filter_map(|parts| parts.target()).collect();
+    targets.sort_unstable();
+    targets.dedup();
+    targets
+}
+
 /// A return whose address was put on the stack by the code before it is a jump.
 fn returns_as_jumps(text: &Disassembly, outside: &Outside, control: &mut ControlFlow) {
-    let calls = text.lines.iter().map(|line| parts(line.text));
-    let calls = calls.filter(|parts| parts.mnemonic == "call").filter_map(|parts| parts.target());
     let functions = outside.functions.iter().map(|span| span.start);
-    let starts: HashSet<u64> = functions.chain(calls).collect();
-    let ends: HashSet<u64> = outside.functions.iter().map(|span| span.end).collect();
+    let starts: HashSet<u64> = functions.chain(call_targets(text)).collect();
+    let ends = outside.ends();
     let goes_on = |steps: &[Step], number: usize| {
         goes_on(steps[number], ends.contains(&text.lines[number + 1].address))
     };
@@ -165,7 +192,8 @@ fn returns_as_jumps(text: &Disassembly, outside: &Outside, control: &mut Control
         let is_return = parts(line.text).mnemonic == "ret";
         let lines = &text.lines[..=number];
         let on = |at: usize| goes_on(&control.steps, at);
-        if is_return && returns::is_jump(lines, on, |address| starts.contains(&address)) {
+        let is_start = |address| starts.contains(&address);
+        if is_return && returns::is_jump(text.bits, lines, on, is_start) {
             control.steps[number].flow = Flow::IndirectJump;
             control.returns += 1;
         }

@@ -1,6 +1,8 @@
 //! What is read of an ELF file beside its disassembly: sections, executable
 //! segments, symbols, and whether its code is final.
 
+use crate::disassembly::bits::Bits;
+
 #[derive(Clone, Debug, PartialEq, Eq)]
 pub struct Section<'a> {
     pub name: &'a str,
@@ -20,8 +22,10 @@ pub struct Segment<'a> {
 }
 
 pub struct File<'a> {
-    pub entry: u64,
-    /// Whether it may be loaded at any address, so that pointers have 8 bytes.
+    pub bits: Bits,
+    /// Where it starts to run, if it says so.
+    pub entry: Option<u64>,
+    /// Whether it may be loaded at any address.
     pub movable: bool,
     pub sections: Vec<Section<'a>>,
     pub segments: Vec<Segment<'a>>,
@@ -35,9 +39,68 @@ const LOADED: u64 = 1;
 const RUN: u64 = 1;
 
 const SYMBOLS: [u32; 2] = [2, 11];
-const RELOCATIONS: u32 = 4;
 const NO_BYTES: u32 = 8;
 const DYNAMIC: u32 = 6;
+
+/// Relocations, with addends and without: there the addend is what stands in the place.
+const WITH_ADDENDS: u32 = 4;
+const RELOCATIONS: [u32; 2] = [WITH_ADDENDS, 9];
+
+/// Where fields stand that have other places in 32-bit files. Addresses, offsets and
+/// sizes have the bytes of an address.
+struct Layout {
+    bits: Bits,
+    /// Of the header: places of the tables of segments and sections, how many there
+    /// are, and the number of the section of names.
+    segments: u64,
+    sections: u64,
+    segment_count: u64,
+    section_count: u64,
+    names: u64,
+    /// Of a segment: size of the entry, flags, place, address, size.
+    segment: [u64; 5],
+    /// Of a section: size of the entry, flags, address, place, size, linked section.
+    section: [u64; 6],
+    /// Of a symbol: size of the entry, type, section, address, size.
+    symbol: [u64; 5],
+}
+
+const ELF64: Layout = Layout {
+    bits: Bits::B64,
+    segments: 32,
+    sections: 40,
+    segment_count: 56,
+    section_count: 60,
+    names: 62,
+    segment: [56, 4, 8, 16, 32],
+    section: [64, 8, 16, 24, 32, 40],
+    symbol: [24, 4, 6, 8, 16],
+};
+
+const ELF32: Layout = Layout {
+    bits: Bits::B32,
+    segments: 28,
+    sections: 32,
+    segment_count: 44,
+    section_count: 48,
+    names: 50,
+    segment: [32, 24, 4, 8, 16],
+    section: [40, 8, 12, 16, 20, 24],
+    symbol: [16, 12, 14, 4, 8],
+};
+
+impl Layout {
+    fn word(&self, bytes: &[u8], at: u64) -> Option<u64> {
+        number(bytes, at, self.bits.word())
+    }
+}
+
+fn layout(bits: Bits) -> &'static Layout {
+    match bits {
+        Bits::B32 => &ELF32,
+        Bits::B64 => &ELF64,
+    }
+}
 
 /// A half-open range of addresses.
 #[derive(Clone, Copy, Debug, PartialEq, Eq, PartialOrd, Ord)]
@@ -73,9 +136,11 @@ pub fn read(bytes: &[u8]) -> Result<File<'_>, String> {
         return Err("no ELF file".to_string());
     }
     let field = |at, size| number(bytes, at, size).ok_or(CUT.to_string());
-    if field(4, 1)? != 2 || field(5, 1)? != 1 || field(18, 2)? != 62 {
-        return Err("not for x86-64: only 64-bit ELF files of that machine are taken".to_string());
-    }
+    let layout = match (field(4, 1)?, field(5, 1)?, field(18, 2)?) {
+        (2, 1, 62) => &ELF64,
+        (1, 1, 3) => &ELF32,
+        _ => return Err("neither for x86-64 nor for 32-bit x86".to_string()),
+    };
     let kind = field(16, 2)?;
     match kind {
         2 | 3 => {}
@@ -83,10 +148,11 @@ pub fn read(bytes: &[u8]) -> Result<File<'_>, String> {
         _ => return Err("neither a program nor a shared library".to_string()),
     }
     let file = File {
-        entry: field(24, 8)?,
+        bits: layout.bits,
+        entry: Some(layout.word(bytes, 24).ok_or(CUT)?),
         movable: kind == 3,
-        sections: sections(bytes).ok_or(CUT)?,
-        segments: segments(bytes).ok_or(CUT)?,
+        sections: sections(bytes, layout).ok_or(CUT)?,
+        segments: segments(bytes, layout).ok_or(CUT)?,
     };
     if file.relocates_code() {
         return Err("its code is changed when it is loaded (text relocations)".to_string());
@@ -94,52 +160,69 @@ pub fn read(bytes: &[u8]) -> Result<File<'_>, String> {
     Ok(file)
 }
 
-fn sections(bytes: &[u8]) -> Option<Vec<Section<'_>>> {
-    let table = number(bytes, 40, 8)?;
+fn sections<'a>(bytes: &'a [u8], layout: &Layout) -> Option<Vec<Section<'a>>> {
+    let table = layout.word(bytes, layout.sections)?;
     // 0 also stands for more sections than the field can count.
-    let count = number(bytes, 60, 2).filter(|count| *count > 0)?;
-    let names_at = table + 64 * number(bytes, 62, 2)?;
-    let names = contents(bytes, names_at)?;
-    (0..count).map(|index| section(bytes, table + 64 * index, names)).collect()
+    let count = number(bytes, layout.section_count, 2).filter(|count| *count > 0)?;
+    let size = layout.section[0];
+    let names_at = table + size * number(bytes, layout.names, 2)?;
+    let names = contents(bytes, names_at, layout)?;
+    (0..count).map(|index| section(bytes, table + size * index, names, layout)).collect()
 }
 
 /// The executable segments that are loaded.
-fn segments(bytes: &[u8]) -> Option<Vec<Segment<'_>>> {
-    let (table, count) = (number(bytes, 32, 8)?, number(bytes, 56, 2)?);
-    let headers = (0..count).map(|index| table + 56 * index);
+fn segments<'a>(bytes: &'a [u8], layout: &Layout) -> Option<Vec<Segment<'a>>> {
+    let table = layout.word(bytes, layout.segments)?;
+    let [entry, flags, place, address, size] = layout.segment;
+    let headers = (0..number(bytes, layout.segment_count, 2)?).map(|index| table + entry * index);
     let mut segments = Vec::new();
     for at in headers {
-        let (kind, flags) = (number(bytes, at, 4)?, number(bytes, at + 4, 4)?);
-        if kind == LOADED && flags & RUN != 0 {
-            let start = usize::try_from(number(bytes, at + 8, 8)?).ok()?;
-            let size = usize::try_from(number(bytes, at + 32, 8)?).ok()?;
+        if number(bytes, at, 4)? == LOADED && number(bytes, at + flags, 4)? & RUN != 0 {
+            let start = usize::try_from(layout.word(bytes, at + place)?).ok()?;
+            let size = usize::try_from(layout.word(bytes, at + size)?).ok()?;
             let bytes_of = bytes.get(start..start.checked_add(size)?)?;
-            segments.push(Segment { address: number(bytes, at + 16, 8)?, bytes: bytes_of });
+            segments.push(Segment { address: layout.word(bytes, at + address)?, bytes: bytes_of });
         }
     }
     Some(segments)
 }
 
 /// The bytes of the section whose header stands at `at`.
-fn contents(bytes: &[u8], at: u64) -> Option<&[u8]> {
+fn contents<'a>(bytes: &'a [u8], at: u64, layout: &Layout) -> Option<&'a [u8]> {
     if number(bytes, at + 4, 4)? == u64::from(NO_BYTES) {
         return Some(&[]);
     }
-    let start = usize::try_from(number(bytes, at + 24, 8)?).ok()?;
-    let size = usize::try_from(number(bytes, at + 32, 8)?).ok()?;
+    let [_, _, _, place, size, _] = layout.section;
+    let start = usize::try_from(layout.word(bytes, at + place)?).ok()?;
+    let size = usize::try_from(layout.word(bytes, at + size)?).ok()?;
     bytes.get(start..start.checked_add(size)?)
 }
 
-fn section<'a>(bytes: &'a [u8], at: u64, names: &'a [u8]) -> Option<Section<'a>> {
+fn section<'a>(bytes: &'a [u8], at: u64, names: &'a [u8], layout: &Layout) -> Option<Section<'a>> {
+    let [_, flags, address, _, size, link] = layout.section;
     Some(Section {
         name: text_at(names, number(bytes, at, 4)?)?,
         kind: number(bytes, at + 4, 4)? as u32,
-        flags: number(bytes, at + 8, 8)?,
-        address: number(bytes, at + 16, 8)?,
-        bytes: contents(bytes, at)?,
-        size: number(bytes, at + 32, 8)?,
-        link: number(bytes, at + 40, 4)? as usize,
+        flags: layout.word(bytes, at + flags)?,
+        address: layout.word(bytes, at + address)?,
+        bytes: contents(bytes, at, layout)?,
+        size: layout.word(bytes, at + size)?,
+        link: number(bytes, at + link, 4)? as usize,
     })
+}
+
+/// An image without headers, all of it code.
+pub fn raw(bytes: &[u8], bits: Bits, base: u64) -> File<'_> {
+    let (flags, size) = (ALLOCATED | EXECUTABLE, bytes.len() as u64);
+    let section = Section { name: "", kind: 1, flags, address: base, bytes, size, link: 0 };
+    let segments = vec![Segment { address: base, bytes }];
+    File { bits, entry: Some(base), movable: false, sections: vec![section], segments }
+}
+
+impl Section<'_> {
+    pub fn is_code(&self) -> bool {
+        self.flags & EXECUTABLE != 0
+    }
 }
 
 impl<'a> File<'a> {
@@ -150,7 +233,7 @@ impl<'a> File<'a> {
     /// What the processor can run: sections of code, and all else that is loaded
     /// with them.
     pub fn code(&self) -> Vec<Span> {
-        let sections = self.sections.iter().filter(|section| section.flags & EXECUTABLE != 0);
+        let sections = self.sections.iter().filter(|section| section.is_code());
         let sections = sections.map(|s| Span { start: s.address, end: s.address + s.size });
         let segments = self.segments.iter();
         let segments = segments.map(|s| Span {
@@ -174,51 +257,78 @@ impl<'a> File<'a> {
     }
 
     fn symbols(&self) -> impl Iterator<Item = &'a [u8]> + '_ {
+        let size = layout(self.bits).symbol[0] as usize;
         let tables = self.sections.iter().filter(|section| SYMBOLS.contains(&section.kind));
-        tables.flat_map(|table| table.bytes.chunks_exact(24))
+        tables.flat_map(move |table| table.bytes.chunks_exact(size))
     }
 
-    /// What relocations with addends store: the addend, or a symbol's address with it.
+    /// What relocations store: the addend, or a symbol's address with it.
     pub fn relocated(&self) -> Vec<u64> {
-        let tables = self.sections.iter().filter(|section| section.kind == RELOCATIONS);
-        let entries = tables.flat_map(|table| {
-            let symbols = self.sections.get(table.link).map_or(&[][..], |section| section.bytes);
-            table.bytes.chunks_exact(24).map(move |entry| (symbols, entry))
-        });
-        let stored = entries.filter_map(|(symbols, entry)| {
-            let symbol = number(entry, 12, 4)?.checked_mul(24)?.checked_add(8)?;
-            let addend = number(entry, 16, 8)?;
-            Some([addend, addend.wrapping_add(number(symbols, symbol, 8).unwrap_or(0))])
+        let tables = self.sections.iter().filter(|section| RELOCATIONS.contains(&section.kind));
+        let stored = tables.flat_map(|table| {
+            let addends = usize::from(table.kind == WITH_ADDENDS);
+            let entries = table.bytes.chunks_exact(self.bits.word() * (2 + addends));
+            entries.filter_map(|entry| self.stored_by(table, entry))
         });
         stored.flatten().collect()
     }
 
+    /// What one relocation of a table stores.
+    fn stored_by(&self, table: &Section, entry: &[u8]) -> Option<[u64; 2]> {
+        let layout = layout(self.bits);
+        let word = self.bits.word() as u64;
+        let addend = match table.kind {
+            WITH_ADDENDS => layout.word(entry, 2 * word)?,
+            _ => self.word_at(layout.word(entry, 0)?).unwrap_or(0),
+        };
+        // The upper half of a word, or all but its lowest byte, numbers the symbol.
+        let symbol = layout.word(entry, word)? >> if self.bits == Bits::B64 { 32 } else { 8 };
+        let [size, _, _, address, _] = layout.symbol;
+        let symbols = self.sections.get(table.link).map_or(&[][..], |section| section.bytes);
+        let at = symbol.checked_mul(size)?.checked_add(address)?;
+        let base = layout.word(symbols, at).unwrap_or(0);
+        Some([addend, addend.wrapping_add(base)].map(|stored| self.bits.address(stored)))
+    }
+
+    /// The word at an address of what is loaded.
+    fn word_at(&self, address: u64) -> Option<u64> {
+        self.loaded().find_map(|section| {
+            number(section.bytes, address.checked_sub(section.address)?, self.bits.word())
+        })
+    }
+
     /// The addresses of the symbols that are defined here, whatever their type.
     pub fn named(&self) -> Vec<u64> {
-        let defined = self.symbols().filter(|symbol| number(symbol, 6, 2) != Some(0));
-        defined.filter_map(|symbol| number(symbol, 8, 8)).collect()
+        let layout = layout(self.bits);
+        let [_, _, section, address, _] = layout.symbol;
+        let defined = self.symbols().filter(|symbol| number(symbol, section, 2) != Some(0));
+        defined.filter_map(|symbol| layout.word(symbol, address)).collect()
     }
 
     /// The ranges of the symbols that are functions with a size.
     pub fn functions(&self) -> Vec<Span> {
-        self.symbols().filter_map(function).collect()
+        let layout = layout(self.bits);
+        self.symbols().filter_map(|symbol| function(symbol, layout)).collect()
     }
 
     /// Whether the entries of `.dynamic` say that the loader writes to code.
     fn relocates_code(&self) -> bool {
+        let layout = layout(self.bits);
+        let word = self.bits.word();
         let dynamic = self.sections.iter().filter(|section| section.kind == DYNAMIC);
-        dynamic.flat_map(|section| section.bytes.chunks_exact(16)).any(|entry| {
-            let (tag, value) = (number(entry, 0, 8), number(entry, 8, 8).unwrap_or(0));
-            tag == Some(22) || (tag == Some(30) && value & 4 != 0)
+        dynamic.flat_map(|section| section.bytes.chunks_exact(2 * word)).any(|entry| {
+            let (tag, value) = (layout.word(entry, 0), layout.word(entry, word as u64));
+            tag == Some(22) || (tag == Some(30) && value.unwrap_or(0) & 4 != 0)
         })
     }
 }
 
 /// The range of a symbol, if it is a function that is defined and has a size.
-fn function(symbol: &[u8]) -> Option<Span> {
-    let kind = number(symbol, 4, 1)? & 15;
-    let (start, size) = (number(symbol, 8, 8)?, number(symbol, 16, 8)?);
-    let defined = number(symbol, 6, 2)? != 0;
+fn function(symbol: &[u8], layout: &Layout) -> Option<Span> {
+    let [_, kind, section, address, size] = layout.symbol;
+    let kind = number(symbol, kind, 1)? & 15;
+    let (start, size) = (layout.word(symbol, address)?, layout.word(symbol, size)?);
+    let defined = number(symbol, section, 2)? != 0;
     let function = [2, 10].contains(&kind) && defined && size > 0;
     function.then_some(Span { start, end: start.checked_add(size)? })
 }

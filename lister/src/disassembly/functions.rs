@@ -89,7 +89,7 @@ fn join_cold(text: &Disassembly, parts: &mut CodeParts) {
 
 /// Joins a part with the next where control goes on from one to the other.
 fn join_following(text: &Disassembly, steps: &[Step], outside: &Outside, parts: &mut CodeParts) {
-    let ends: HashSet<u64> = outside.functions.iter().map(|span| span.end).collect();
+    let ends = outside.ends();
     let mut last = None;
     for (number, line) in text.lines.iter().enumerate() {
         let part = parts.of(line.address);

@@ -3,6 +3,7 @@
 //! come to, as far as a line of the text; there a block starts. Both readings
 //! stand, and the branches of this one are not judged.
 
+use crate::disassembly::bits::Bits;
 use crate::disassembly::control_flow::{addresses, is_short_branch, Outside, LONGEST};
 use crate::disassembly::instruction::{listed, Flow};
 use crate::disassembly::operand::parts;
@@ -106,17 +107,20 @@ impl Follower<'_> {
         let last = &lines[lines.len() - 1];
         let (line, parts) = (last.line(), parts(&last.text));
         let flow = listed(&line).flow;
-        addresses(&parts, last.moved).into_iter().for_each(|address| self.reached(address));
+        let bits = self.text.bits;
+        let named = addresses(&parts, last.moved, bits, self.outside);
+        named.into_iter().for_each(|address| self.reached(address));
         if is_short_branch(&line, &parts) {
             self.outside.opens.push(last.address);
             line.end().into_iter().for_each(|end| self.reached(end.wrapping_add(2)));
         }
         match flow {
             Flow::Branch(target) | Flow::Jump(target) => {
-                self.outside.joins.push((last.address, target.wrapping_sub(last.moved)));
+                let target = bits.address(target.wrapping_sub(last.moved));
+                self.outside.joins.push((last.address, target));
             }
             Flow::IndirectJump => self.outside.opens.push(last.address),
-            Flow::Ends if returns_elsewhere(lines) => self.outside.opens.push(last.address),
+            Flow::Ends if returns_elsewhere(bits, lines) => self.outside.opens.push(last.address),
             // The processor may run what objdump cannot decode, as an instruction of any
             // length.
             _ if last.text.contains("(bad)") && self.past => return false,
@@ -131,8 +135,8 @@ impl Follower<'_> {
     }
 }
 
-fn returns_elsewhere(lines: &[Decoded]) -> bool {
+fn returns_elsewhere(bits: Bits, lines: &[Decoded]) -> bool {
     let lines: Vec<Line> = lines.iter().map(Decoded::line).collect();
     let last = parts(lines[lines.len() - 1].text).mnemonic;
-    last == "ret" && returns::is_jump(&lines, |_| true, |_| false)
+    last == "ret" && returns::is_jump(bits, &lines, |_| true, |_| false)
 }

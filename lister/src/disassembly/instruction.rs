@@ -50,6 +50,7 @@ const CALLS: &[(&str, Flow)] = &[
     ("int", Flow::Next),
     ("int1", Flow::Next),
     ("int3", Flow::Next),
+    ("into", Flow::Next),
     ("icebp", Flow::Next),
     ("ret", Flow::Ends),
     ("retw", Flow::IndirectJump),
@@ -173,8 +174,12 @@ impl<'a> Reading<'a> {
     /// An instruction of the table: its writes declared, no operands.
     fn declared(&self) -> Option<Listed<'a>> {
         let Parts { mnemonic, operands, .. } = &self.parts;
-        let strange = [Operand::Unclear, Operand::Segment, Operand::Control];
-        if operands.iter().any(|operand| strange.contains(operand)) || !self.fitting_prefixes() {
+        let strange = |operand: &Operand| match operand {
+            Operand::Segment => !["push", "pop"].contains(mnemonic),
+            Operand::Unclear | Operand::Control => true,
+            _ => false,
+        };
+        if operands.iter().any(strange) || !self.fitting_prefixes() {
             return None;
         }
         let writes = written(mnemonic, operands.len())?;

@@ -4,10 +4,12 @@
 
 pub mod annotated;
 pub mod assumptions;
+pub mod bits;
 pub mod blocks;
 pub mod control_flow;
 pub mod dead;
 pub mod deciding;
+pub mod distances;
 pub mod elf;
 pub mod functions;
 pub mod hidden;

@@ -1,5 +1,6 @@
 //! What objdump writes: of a whole file, and of code from any of its addresses.
 
+use crate::disassembly::bits::Bits;
 use crate::disassembly::elf::File;
 use crate::disassembly::hidden::{Decoded, Run};
 use crate::disassembly::text;
@@ -32,6 +33,12 @@ fn objdump(options: &[&str], path: &str) -> Result<String, String> {
 /// The disassembly of a file's code.
 pub fn disassembled(path: &str) -> Result<String, String> {
     objdump(&["-d"], path)
+}
+
+/// The disassembly of a raw image that is loaded at an address.
+pub fn disassembled_raw(path: &str, bits: Bits, base: u64) -> Result<String, String> {
+    let base = format!("--adjust-vma={base:#x}");
+    objdump(&["-D", "-z", "-b", "binary", "-m", bits.machine(), &base], path)
 }
 
 /// A file with some bytes, which is removed when it is dropped.
@@ -72,7 +79,7 @@ pub fn runs(file: &File, addresses: &[u64]) -> Result<Vec<Run>, String> {
         bytes.extend(window.iter().chain(&NOPS));
     }
     let copy = Copy::new("runs", &bytes)?;
-    let text = objdump(&["-D", "-z", "-b", "binary", "-m", "i386:x86-64"], copy.path()?)?;
+    let text = disassembled_raw(copy.path()?, file.bits, 0)?;
     let mut lines = text.lines().filter_map(text::shown).peekable();
     let run = |(start, address, length, more): (u64, u64, u64, bool)| {
         let mut run = Run::default();

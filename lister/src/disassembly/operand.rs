@@ -46,8 +46,8 @@ impl Parts<'_> {
 
 /// What objdump prints in front of a mnemonic.
 const PREFIXES: &[&str] = &[
-    "lock", "rep", "repz", "repnz", "bnd", "notrack", "data16", "addr32", "cs", "ds", "es", "fs",
-    "gs", "ss", "xacquire", "xrelease",
+    "lock", "rep", "repz", "repnz", "bnd", "notrack", "data16", "addr16", "addr32", "cs", "ds",
+    "es", "fs", "gs", "ss", "xacquire", "xrelease",
 ];
 
 fn is_prefix(word: &str) -> bool {
@@ -115,6 +115,16 @@ fn operand(word: &str) -> Operand {
         return parse_number(word).map_or(Operand::Unclear, Operand::Immediate);
     }
     u64::from_str_radix(word, 16).map_or(Operand::Unclear, Operand::Bare)
+}
+
+/// The number in the text of an address: `0x804a000` of `[eax*4+0x804a000]` and of
+/// `ds:0x804a000`, the complement of `0x8` in `[ebx-0x8]`; that behind the colon in
+/// `0x23:0x8049000`.
+pub fn displacement(word: &str) -> Option<u64> {
+    let at = word.rfind("0x")?;
+    let digits = word[at + 2..].trim_end_matches(']');
+    let number = u64::from_str_radix(digits, 16).ok()?;
+    Some(if word[..at].ends_with('-') { number.wrapping_neg() } else { number })
 }
 
 const SEGMENTS: &[&str] = &["cs", "ds", "es", "fs", "gs", "ss"];

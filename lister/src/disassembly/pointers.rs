@@ -2,6 +2,7 @@
 //! tables. Each is a place that an indirect jump may go to. More are found than
 //! there are; that costs verdicts, and a missed one could make one wrong.
 
+use crate::disassembly::bits::Bits;
 use crate::disassembly::elf::{number, File, Section, Span};
 
 fn in_code(code: &[Span], address: u64) -> bool {
@@ -9,21 +10,49 @@ fn in_code(code: &[Span], address: u64) -> bool {
 }
 
 /// Every number in what is loaded, or stored by a relocation, that is an address of
-/// code: of 8 bytes, and of 4 where the file is loaded where it says.
+/// code: of 8 bytes, and of 4 in 32-bit code and where the file is loaded where it says.
 pub fn stored(file: &File, code: &[Span]) -> Vec<u64> {
-    let sizes: &[usize] = if file.movable { &[8] } else { &[8, 4] };
-    let mut found = Vec::new();
-    for section in file.loaded() {
-        for size in sizes {
-            let numbers = section.bytes.windows(*size).filter_map(|word| number(word, 0, *size));
-            found.extend(numbers.filter(|address| in_code(code, *address)));
-        }
-    }
+    let mut found = match (file.bits, file.movable) {
+        (Bits::B32, true) => words(file, code, 0),
+        (Bits::B32, false) => numbers(file, code, 4),
+        (Bits::B64, true) => numbers(file, code, 8),
+        (Bits::B64, false) => [numbers(file, code, 8), numbers(file, code, 4)].concat(),
+    };
     let relocated = file.relocated().into_iter();
     found.extend(relocated.filter(|address| in_code(code, *address)));
+    // The jump tables of 32-bit code that may be loaded anywhere.
+    found.extend(slot_table(file).into_iter().flat_map(|base| words(file, code, base)));
     found.sort_unstable();
     found.dedup();
     found
+}
+
+/// Every number of so many bytes, at every address.
+fn numbers(file: &File, code: &[Span], size: usize) -> Vec<u64> {
+    let windows = file.loaded().flat_map(|section| section.bytes.windows(size));
+    let numbers = windows.filter_map(|word| number(word, 0, size));
+    numbers.filter(|address| in_code(code, *address)).collect()
+}
+
+/// Tables of distances that are read as what they are.
+const UNWINDING: [&str; 2] = [".eh_frame", ".eh_frame_hdr"];
+
+/// The words of data of 32-bit code that may be loaded anywhere, each as a distance from
+/// the base. There an address is relocated, so that it stands in no code, and where it
+/// is not aligned a relocation says so.
+fn words(file: &File, code: &[Span], base: u64) -> Vec<u64> {
+    let is_data = |section: &&Section| !section.is_code() && !UNWINDING.contains(&section.name);
+    let words = file.loaded().filter(is_data).flat_map(|section| section.bytes.chunks_exact(4));
+    let words = words.filter_map(|word| number(word, 0, 4));
+    let addresses = words.map(|word| file.bits.address(base.wrapping_add(word)));
+    addresses.filter(|address| in_code(code, *address)).collect()
+}
+
+/// What 32-bit code that may be loaded anywhere reckons from: the table of the slots
+/// that the loader fills.
+pub fn slot_table(file: &File) -> Option<u64> {
+    let table = file.section(".got.plt").or_else(|| file.section(".got"))?;
+    (file.bits == Bits::B32).then_some(table.address)
 }
 
 /// endbr64 and endbr32 but for their last byte.
@@ -50,7 +79,7 @@ pub fn offsets(file: &File, code: &[Span], table: u64) -> Vec<u64> {
     let entries = section.bytes[(table - section.address) as usize..].chunks_exact(4);
     let targets = entries.map(|entry| {
         let offset = i32::from_le_bytes(entry.try_into().expect("a chunk of four"));
-        table.wrapping_add_signed(i64::from(offset))
+        file.bits.address(table.wrapping_add_signed(i64::from(offset)))
     });
     targets.take_while(|address| in_code(code, *address)).collect()
 }

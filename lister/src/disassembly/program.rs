@@ -2,6 +2,7 @@
 //! control goes, and where blocks start.
 
 use crate::disassembly::assumptions::{self, Assumption};
+use crate::disassembly::bits::Bits;
 use crate::disassembly::blocks::{leaders, Leaders};
 use crate::disassembly::control_flow::{self, ControlFlow, Outside};
 use crate::disassembly::elf::{self, File, Span};
@@ -10,15 +11,32 @@ use crate::disassembly::{hidden, objdump, pointers, unwinding};
 use std::fs;
 use std::io::{self, Read};
 
-/// What to list: a linked file, or the disassembly of one.
-pub enum Source<'a> {
-    File(&'a str),
-    Text(&'a str),
+/// What is listed.
+#[derive(Clone, Copy, Debug, PartialEq, Eq)]
+pub enum Kind {
+    /// A linked file.
+    Linked,
+    /// The disassembly of one.
+    Text,
+    /// Bytes without headers, and where they are loaded.
+    Raw { bits: Bits, base: u64 },
 }
 
-/// What is read of a source: the bytes of the file, if there is one, and objdump's text.
+/// What the user says of the code, and nobody checks.
+#[derive(Debug, Default)]
+pub struct Word {
+    /// Where functions start.
+    pub functions: Vec<u64>,
+    /// What else is entered.
+    pub entries: Vec<u64>,
+    /// Functions start where direct calls go.
+    pub calls: bool,
+}
+
+/// What is read of a file, and of objdump.
 pub struct Input {
-    bytes: Option<Vec<u8>>,
+    kind: Kind,
+    bytes: Vec<u8>,
     text: String,
 }
 
@@ -45,8 +63,12 @@ fn outside(file: &File) -> Result<Outside, String> {
     };
     outside.possible.extend(pointers::marked(file));
     outside.possible.extend(file.named());
-    outside.entries.push(file.entry);
+    outside.entries.extend(file.entry);
     outside.functions.extend(file.functions());
+    outside.bases.extend(pointers::slot_table(file));
+    if !file.movable {
+        outside.bases.push(0);
+    }
     for name in [".got", ".got.plt"] {
         let slots = file.section(name).map(|s| Span { start: s.address, end: s.address + s.size });
         outside.slots.extend(slots);
@@ -102,40 +124,82 @@ const NO_BYTES: &str = "without the bytes of instructions (--show-raw-insn): dat
     code, what is left out, and prefixes that are not shown, are not known";
 
 impl Input {
-    pub fn read(source: &Source) -> Result<Input, String> {
-        let (Source::File(path) | Source::Text(path)) = source;
+    pub fn read(path: &str, kind: Kind) -> Result<Input, String> {
         let bytes = content(path)?;
-        match source {
-            Source::Text(_) => {
-                Ok(Input { bytes: None, text: String::from_utf8_lossy(&bytes).into_owned() })
-            }
-            Source::File(_) => {
+        let text = match kind {
+            Kind::Text => String::from_utf8_lossy(&bytes).into_owned(),
+            Kind::Linked => {
                 elf::read(&bytes)?;
-                let text = disassembly(path, &bytes)?;
-                Ok(Input { bytes: Some(bytes), text })
+                disassembled(path, &bytes, objdump::disassembled)?
             }
-        }
+            Kind::Raw { bits, base } => {
+                let raw = |path: &str| objdump::disassembled_raw(path, bits, base);
+                disassembled(path, &bytes, raw)?
+            }
+        };
+        Ok(Input { kind, bytes, text })
     }
 
-    pub fn program(&self) -> Result<Program<'_>, String> {
-        let text = text::read(&self.text)?;
-        match &self.bytes {
-            Some(bytes) => of_file(&elf::read(bytes)?, text),
-            None => Ok(of_text(text)),
+    pub fn program(&self, word: &Word) -> Result<Program<'_>, String> {
+        match self.kind {
+            Kind::Text => Ok(of_text(text::read(&self.text, None)?)),
+            Kind::Linked => of_file(&elf::read(&self.bytes)?, text::read(&self.text, None)?, word),
+            Kind::Raw { bits, base } => {
+                let file = elf::raw(&self.bytes, bits, base);
+                let mut program = of_file(&file, text::read(&self.text, Some(bits))?, word)?;
+                let what =
+                    format!("the image is {}-bit code, loaded at {base:#x}", 8 * bits.word());
+                program.assumed.push(Assumption::plain(&what));
+                program.assumed.push(Assumption::plain(ENTERED));
+                Ok(program)
+            }
         }
     }
 }
 
-fn of_file<'a>(file: &File, text: Disassembly<'a>) -> Result<Program<'a>, String> {
+const ENTERED: &str =
+    "nothing outside the image enters it but at its first byte and where the user says";
+
+fn of_file<'a>(file: &File, text: Disassembly<'a>, word: &Word) -> Result<Program<'a>, String> {
     let mut outside = outside(file)?;
+    let assumed = add_word(file, &text, word, &mut outside)?;
     let control = control_flow::read(&text, &outside);
     add_hidden(file, &text, &control, &mut outside)?;
     add_tables(file, &control, &mut outside);
-    Ok(program(text, control, outside, Vec::new()))
+    let mut program = program(text, control, outside, Vec::new());
+    program.assumed.extend(assumed);
+    Ok(program)
+}
+
+/// Adds what the user says, and gives it as assumptions.
+fn add_word(
+    file: &File,
+    text: &Disassembly,
+    word: &Word,
+    outside: &mut Outside,
+) -> Result<Vec<Assumption>, String> {
+    let code = file.code();
+    let inside = |address: &u64| code.iter().any(|span| span.holds(*address));
+    let mut named = word.functions.iter().chain(&word.entries);
+    if let Some(address) = named.find(|address| !inside(address)) {
+        return Err(format!("{address:x}, which the user names, is no address of its code"));
+    }
+    let calls = if word.calls { control_flow::call_targets(text) } else { Vec::new() };
+    let calls: Vec<u64> = calls.into_iter().filter(inside).collect();
+    let starts = word.functions.iter().chain(&calls);
+    outside.functions.extend(starts.map(|start| Span { start: *start, end: *start }));
+    outside.entries.extend(&word.entries);
+    let said = [
+        (word.functions.len(), "functions start where the user says"),
+        (word.entries.len(), "what the user names is entered besides"),
+        (calls.len(), "functions start where direct calls go"),
+    ];
+    let said = said.into_iter().filter(|(times, _)| *times > 0);
+    Ok(said.map(|(times, what)| Assumption::counted(what, times)).collect())
 }
 
 pub fn of_text(text: Disassembly) -> Program {
-    let mut outside = Outside::default();
+    let mut outside = Outside { bases: vec![0], ..Outside::default() };
     let control = control_flow::read(&text, &outside);
     outside.opens = unseen(&text, &control);
     let notes = if text.with_bytes { vec![TEXT_ALONE] } else { vec![TEXT_ALONE, NO_BYTES] };
@@ -160,10 +224,14 @@ fn unseen(text: &Disassembly, control: &ControlFlow) -> Vec<u64> {
 }
 
 /// What objdump writes of a file, or of a copy where it is the standard input.
-fn disassembly(path: &str, bytes: &[u8]) -> Result<String, String> {
+fn disassembled(
+    path: &str,
+    bytes: &[u8],
+    objdump: impl Fn(&str) -> Result<String, String>,
+) -> Result<String, String> {
     match path {
-        "-" => objdump::disassembled(objdump::Copy::new("input", bytes)?.path()?),
-        _ => objdump::disassembled(path),
+        "-" => objdump(objdump::Copy::new("input", bytes)?.path()?),
+        _ => objdump(path),
     }
 }
 

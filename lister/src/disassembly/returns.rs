@@ -7,6 +7,7 @@
 //! stored in that place, if the distance is lost, or if it is not 0 at the start
 //! of a function.
 
+use crate::disassembly::bits::Bits;
 use crate::disassembly::instruction::{listed, Standing};
 use crate::disassembly::operand::{general, parts, Operand, Parts};
 use crate::disassembly::steps::changes;
@@ -34,19 +35,23 @@ struct Store {
 }
 
 impl Store {
-    /// Whether it may write to the eight bytes at `offset` from the same base.
-    fn reaches(&self, offset: i64) -> bool {
+    /// Whether it may write to the bytes of a place at `offset` from the same base.
+    fn reaches(&self, offset: i64, size: i64) -> bool {
         let Some(at) = self.place.offset else {
             return true;
         };
-        at < offset.saturating_add(8) && offset < at.saturating_add(self.size)
+        at < offset.saturating_add(size) && offset < at.saturating_add(self.size)
     }
 }
 
 /// Where the return address is, before a line.
 struct Slot {
+    bits: Bits,
     base: u8,
     offset: i64,
+    /// It may be higher: a called function of 32-bit code may take its arguments off the
+    /// stack.
+    or_higher: bool,
     /// The saved rbp is right below it: rbp + 8 is its place if rbp is the frame's.
     frame: bool,
     /// What later lines store relative to other registers.
@@ -56,8 +61,11 @@ struct Slot {
 /// The return address's place is lost, or something else is stored there.
 struct Jump;
 
-const PUSHES: &[&str] = &["push", "pushf", "pushfq"];
-const POPS: &[&str] = &["pop", "popf", "popfq"];
+const PUSHES: &[&str] = &["push", "pushf", "pushfq", "pusha"];
+const POPS: &[&str] = &["pop", "popf", "popfq", "popa"];
+
+/// How many registers pusha and popa have on the stack.
+const ALL_REGISTERS: i64 = 8;
 
 /// Instructions that read their first operand, or address it only.
 const READERS: &[&str] = &[
@@ -75,11 +83,13 @@ const CHANGES: &[&str] = &["add", "sub", "inc", "dec", "and", "or"];
 /// number whether control goes on from it to the next, `starts` whether a known
 /// function starts at an address.
 pub fn is_jump(
+    bits: Bits,
     lines: &[Line],
     goes_on: impl Fn(usize) -> bool,
     starts: impl Fn(u64) -> bool,
 ) -> bool {
-    let mut slot = Slot { base: RSP, offset: 0, frame: false, stores: Vec::new() };
+    let (or_higher, frame, stores) = (false, false, Vec::new());
+    let mut slot = Slot { bits, base: RSP, offset: 0, or_higher, frame, stores };
     let mut number = lines.len() - 1;
     loop {
         let at_start = starts(lines[number].address);
@@ -107,6 +117,7 @@ impl Slot {
         if listed.instruction.call_like {
             // What is called, or the system, leaves rsp and rbp as they were, and may
             // write below the stack.
+            self.or_higher |= self.base == RSP && self.bits == Bits::B32;
             return if self.base == RSP && self.offset < 0 { Err(Jump) } else { Ok(()) };
         }
         stores(&parts).into_iter().try_for_each(|store| self.store(store))?;
@@ -122,8 +133,10 @@ impl Slot {
 
     fn store(&mut self, store: Store) -> Result<(), Jump> {
         let base = store.place.base;
-        let in_frame = self.frame && base == RBP && store.reaches(8);
-        if in_frame || (base == self.base && store.reaches(self.offset)) {
+        let word = self.word();
+        let in_frame = self.frame && base == RBP && store.reaches(word, word);
+        let size = if self.or_higher { i64::MAX } else { word };
+        if in_frame || (base == self.base && store.reaches(self.offset, size)) {
             return Err(Jump);
         }
         if base != RSP && base != RBP {
@@ -135,7 +148,7 @@ impl Slot {
     /// Stores through registers that this line writes: it may give them an address of
     /// the stack.
     fn through(&mut self, parts: &Parts, written: u16) -> Result<(), Jump> {
-        let from = source(parts);
+        let from = source(parts, self.bits);
         for mut store in std::mem::take(&mut self.stores) {
             let Place { base, offset } = store.place;
             if written >> base & 1 != 0 {
@@ -154,7 +167,7 @@ impl Slot {
     fn moved(&mut self, parts: &Parts, frame: bool) -> Result<(), Jump> {
         let name = parts.mnemonic;
         if name == "leave" && self.base == RSP {
-            return self.rebase(Place { base: RBP, offset: Some(8) });
+            return self.rebase(Place { base: RBP, offset: Some(self.word()) });
         }
         if PUSHES.contains(&name) || POPS.contains(&name) {
             return self.pushed(parts);
@@ -164,10 +177,10 @@ impl Slot {
             return if frame { Err(Jump) } else { Ok(()) };
         }
         match (name, parts.operands.as_slice()) {
-            ("add", [_, Operand::Immediate(by)]) => self.by(*by as i64),
-            ("sub", [_, Operand::Immediate(by)]) => self.by((*by as i64).wrapping_neg()),
-            ("mov" | "lea", [Operand::General(to), _]) if to.size == 64 => {
-                self.rebase(source(parts).ok_or(Jump)?)
+            ("add", [_, Operand::Immediate(by)]) => self.by(self.bits.distance(*by)),
+            ("sub", [_, Operand::Immediate(by)]) => self.by(self.bits.distance(*by).wrapping_neg()),
+            ("mov" | "lea", [Operand::General(to), _]) if is_address(to.size, self.bits) => {
+                self.rebase(source(parts, self.bits).ok_or(Jump)?)
             }
             _ => Err(Jump),
         }
@@ -181,20 +194,25 @@ impl Slot {
             Some(Operand::General(register)) => Some(register.index),
             _ => None,
         };
+        let size = match parts.mnemonic {
+            "pusha" | "popa" => ALL_REGISTERS * self.word(),
+            _ if short => 2,
+            _ => self.word(),
+        };
         if PUSHES.contains(&parts.mnemonic) {
-            let size = if short { 2 } else { 8 };
             let store = Store { place: Place { base: RSP, offset: Some(0) }, size };
             self.store(store)?;
             return if self.base == RSP { self.by(-size) } else { Ok(()) };
         }
-        if to == Some(RSP) || (to == Some(RBP) && self.base == RBP) {
+        let frame = to == Some(RBP) || parts.mnemonic == "popa";
+        if to == Some(RSP) || (frame && self.base == RBP) {
             return Err(Jump);
         }
-        if to == Some(RBP) {
-            self.frame = self.base == RSP && self.offset == 0;
+        if frame {
+            self.frame = to == Some(RBP) && self.base == RSP && self.offset == 0;
         }
         match self.base {
-            RSP => self.by(if short { 2 } else { 8 }),
+            RSP => self.by(size),
             _ => Ok(()),
         }
     }
@@ -203,10 +221,15 @@ impl Slot {
     fn frame_set(&mut self, parts: &Parts) -> Result<(), Jump> {
         self.frame = false;
         match (self.base, parts.mnemonic) {
-            (RBP, "mov" | "lea") => self.rebase(source(parts).ok_or(Jump)?),
+            (RBP, "mov" | "lea") => self.rebase(source(parts, self.bits).ok_or(Jump)?),
             (RBP, _) => Err(Jump),
             _ => Ok(()),
         }
+    }
+
+    /// Bytes of a return address.
+    fn word(&self) -> i64 {
+        self.bits.word() as i64
     }
 
     fn by(&mut self, distance: i64) -> Result<(), Jump> {
@@ -224,11 +247,16 @@ impl Slot {
     }
 }
 
+fn is_address(size: u8, bits: Bits) -> bool {
+    usize::from(size) == 8 * bits.word()
+}
+
 /// The address that a mov of a register or a lea gives.
-fn source(parts: &Parts) -> Option<Place> {
+fn source(parts: &Parts, bits: Bits) -> Option<Place> {
     match (parts.mnemonic, parts.operands.as_slice(), parts.words.as_slice()) {
-        ("mov", [_, Operand::General(register)], _) if register.size == 64 => {
-            Some(Place { base: register.index, offset: Some(0) })
+        ("mov", [_, Operand::General(register)], _) => {
+            let offset = is_address(register.size, bits).then_some(0);
+            Some(Place { base: register.index, offset })
         }
         ("lea", [_, Operand::Memory], [_, word]) => place(word),
         _ => None,
@@ -268,14 +296,16 @@ fn size(word: &str) -> i64 {
 fn place(word: &str) -> Option<Place> {
     let inside = word.split_once('[')?.1.split(']').next()?;
     let end = inside.find(['+', '-', '*']).unwrap_or(inside.len());
-    let base = general(&inside[..end]).filter(|base| base.size >= 32)?.index;
+    let base = general(&inside[..end])?;
     let rest = &inside[end..];
     let number = |digits: &str| i64::from_str_radix(digits, 16).ok();
     let offset = match (rest.strip_prefix("+0x"), rest.strip_prefix("-0x")) {
+        // An address of 16 bits is a part of the register.
+        _ if base.size < 32 => None,
         _ if rest.is_empty() => Some(0),
         (Some(digits), _) => number(digits),
         (_, Some(digits)) => number(digits).map(i64::wrapping_neg),
         _ => None,
     };
-    Some(Place { base, offset })
+    Some(Place { base: base.index, offset })
 }

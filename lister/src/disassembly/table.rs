@@ -56,13 +56,23 @@ const INTEGER: &[(&str, Writes)] = &[
     ("cbw cwde cdqe xlat lahf", writes(0, &[RAX], 0)),
     ("cwd cdq cqo", writes(0, &[RDX], 0)),
     ("sahf", writes(0, &[], CF | PF | ZF | SF)),
-    ("push pushf pushfq", writes(0, &[RSP], 0)),
+    ("push pushf pushfq pushfw", writes(0, &[RSP], 0)),
     ("pop", writes(1, &[RSP], 0)),
-    ("popf popfq", writes(0, &[RSP], ALL)),
+    ("popf popfq popfw", writes(0, &[RSP], ALL)),
     ("enter leave", writes(0, &[RSP, RBP], 0)),
     ("cpuid", writes(0, &[RAX, RBX, RCX, RDX], 0)),
     ("rdtsc xgetbv rdpkru", writes(0, &[RAX, RDX], 0)),
     ("rdtscp", writes(0, &[RAX, RCX, RDX], 0)),
+];
+
+/// Instructions that 64-bit code does not have, and those that load segment registers.
+const NOT_IN_64_BITS: &[(&str, Writes)] = &[
+    ("pusha pushaw", writes(0, &[RSP], 0)),
+    ("popa popaw", writes(0, &[RAX, RCX, RDX, RBX, RSP, RBP, RSI, RDI], 0)),
+    ("les lds lss lfs lgs", writes(1, &[], 0)),
+    ("aaa aas daa das aam aad", writes(0, &[RAX], ALL)),
+    ("bound", writes(0, &[], 0)),
+    ("arpl", writes(1, &[], ZF)),
 ];
 
 /// String instructions, with or without a prefix that repeats them; the count
@@ -174,7 +184,8 @@ fn rows(table: &'static [(&str, Writes)]) -> impl Iterator<Item = (&'static str,
 
 /// Every name with what it writes.
 fn entries() -> impl Iterator<Item = (String, Writes)> {
-    let plain = [INTEGER, STRINGS, X87, VECTOR, VECTOR_ALONE].into_iter().flat_map(rows);
+    let plain =
+        [INTEGER, NOT_IN_64_BITS, STRINGS, X87, VECTOR, VECTOR_ALONE].into_iter().flat_map(rows);
     let plain = plain.map(|(name, writes)| (name.to_string(), writes));
     plain.chain(rows(VECTOR).map(|(name, writes)| (format!("v{name}"), writes)))
 }

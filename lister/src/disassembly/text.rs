@@ -1,8 +1,10 @@
 //! The output of `objdump -d -M intel`, line by line, with the bytes of each
 //! instruction or without them.
 
-/// The one format that is taken.
-pub const FORMAT: &str = "elf64-x86-64";
+use crate::disassembly::bits::Bits;
+
+/// The format of a raw image.
+const RAW: &str = "binary";
 
 /// An instruction, or bytes that objdump could not decode.
 #[derive(Clone, Copy, Debug, Default, PartialEq, Eq)]
@@ -44,6 +46,7 @@ pub struct Disassembly<'a> {
     pub stubs: Vec<(u64, u64)>,
     /// Whether the bytes of instructions are shown.
     pub with_bytes: bool,
+    pub bits: Bits,
 }
 
 #[derive(Default)]
@@ -155,29 +158,34 @@ fn other_form(text: &str) -> Option<&'static str> {
     None
 }
 
-fn checked_format(format: &str, seen: bool) -> Result<(), String> {
-    match format {
-        FORMAT if seen => Err("the disassembly is of more than one file".to_string()),
-        FORMAT => Ok(()),
-        _ => Err(format!("the file format is {format}; only {FORMAT} is taken")),
+/// What the named format says of the code; that of a raw image says nothing.
+fn bits_of(format: &str, raw: Option<Bits>, seen: Option<Bits>) -> Result<Bits, String> {
+    let known = [Bits::B64, Bits::B32].into_iter().find(|bits| bits.format() == format);
+    match known.or(raw.filter(|_| format == RAW)) {
+        Some(_) if seen.is_some() => Err("the disassembly is of more than one file".to_string()),
+        Some(bits) => Ok(bits),
+        None => {
+            let taken = [Bits::B64, Bits::B32].map(Bits::format).join(" and ");
+            Err(format!("the file format is {format}; {taken} are taken"))
+        }
     }
 }
 
-/// The disassembly, or why the text is none that can be taken.
-pub fn read(text: &str) -> Result<Disassembly<'_>, String> {
+/// The disassembly, or why the text is none that can be taken. `raw` says what the
+/// code of a raw image is.
+pub fn read(text: &str, raw: Option<Bits>) -> Result<Disassembly<'_>, String> {
     let mut sections: Vec<Section> = Vec::new();
-    let mut format = false;
+    let mut format = None;
     for (number, line) in text.lines().enumerate() {
         let at = |message: &str| format!("line {}: {message}", number + 1);
         let kind = kind(line);
         match kind {
             Kind::Empty => continue,
             Kind::Format(name) => {
-                checked_format(name, format).map_err(|message| at(&message))?;
-                format = true;
+                format = Some(bits_of(name, raw, format).map_err(|message| at(&message))?);
                 continue;
             }
-            _ if !format => {
+            _ if format.is_none() => {
                 return Err(at("no disassembly: no line before it names a file format"))
             }
             Kind::Section(name) => {
@@ -189,10 +197,8 @@ pub fn read(text: &str) -> Result<Disassembly<'_>, String> {
         let section = sections.last_mut().ok_or_else(|| at("no section is named before it"))?;
         section.take(kind).map_err(at)?;
     }
-    if !format {
-        return Err("no disassembly: no line names a file format".to_string());
-    }
-    joined(sections)
+    let bits = format.ok_or("no disassembly: no line names a file format")?;
+    Ok(Disassembly { bits, ..joined(sections)? })
 }
 
 impl Disassembly<'_> {

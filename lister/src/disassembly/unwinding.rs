@@ -1,6 +1,7 @@
 //! The tables by which exceptions are unwound, `.eh_frame` and what it points
 //! to: the ranges of functions, and the landing pads, which no jump names.
 
+use crate::disassembly::bits::Bits;
 use crate::disassembly::elf::{number, File, Section, Span};
 
 #[derive(Debug, Default, PartialEq, Eq)]
@@ -20,13 +21,20 @@ const PLAIN: Encoding = 0;
 struct Fields<'a> {
     bytes: &'a [u8],
     address: u64,
+    bits: Bits,
 }
 
 impl<'a> Fields<'a> {
-    fn of(section: &Section<'a>, address: u64) -> Option<Fields<'a>> {
+    fn of(section: &Section<'a>, address: u64, bits: Bits) -> Option<Fields<'a>> {
         let at = usize::try_from(address.checked_sub(section.address)?).ok()?;
         let bytes = section.bytes.get(at..).filter(|bytes| !bytes.is_empty())?;
-        Some(Fields { bytes, address })
+        Some(Fields { bytes, address, bits })
+    }
+
+    /// Some of the next bytes, to be read by themselves.
+    fn part(&mut self, size: u64) -> Option<Fields<'a>> {
+        let Fields { address, bits, .. } = *self;
+        Some(Fields { bytes: self.take(usize::try_from(size).ok()?)?, address, bits })
     }
 
     fn take(&mut self, size: usize) -> Option<&'a [u8]> {
@@ -72,7 +80,7 @@ impl<'a> Fields<'a> {
     fn pointer(&mut self, encoding: Encoding) -> Option<u64> {
         let here = self.address;
         let value = match encoding & 0x0f {
-            0 | 4 | 12 => self.unsigned(8)?,
+            0 | 4 | 12 => self.unsigned(self.bits.word())?,
             1 => self.leb(false)?,
             2 => self.unsigned(2)?,
             3 => self.unsigned(4)?,
@@ -83,8 +91,8 @@ impl<'a> Fields<'a> {
         };
         match encoding & 0x70 {
             _ if value == 0 => Some(0),
-            0 => Some(value),
-            0x10 => Some(here.wrapping_add(value)),
+            0 => Some(self.bits.address(value)),
+            0x10 => Some(self.bits.address(here.wrapping_add(value))),
             _ => None,
         }
     }
@@ -136,15 +144,15 @@ pub fn read(file: &File) -> Option<Unwinding> {
     let Some(section) = file.section(".eh_frame") else {
         return Some(unwinding);
     };
-    let mut fields = Fields { bytes: section.bytes, address: section.address };
+    let bits = file.bits;
+    let mut fields = Fields { bytes: section.bytes, address: section.address, bits };
     while !fields.bytes.is_empty() {
         let length = fields.unsigned(4)?;
         if length == 0 {
             continue;
         }
         let address = fields.address;
-        let bytes = fields.take(usize::try_from(length).ok()?)?;
-        let mut record = Fields { bytes, address };
+        let mut record = fields.part(length)?;
         let back = record.unsigned(4)?;
         if back != 0 {
             frame(file, section, &mut record, address.checked_sub(back)?, &mut unwinding)?;
@@ -161,7 +169,7 @@ fn frame(
     common_at: u64,
     unwinding: &mut Unwinding,
 ) -> Option<()> {
-    let mut fields = Fields::of(section, common_at)?;
+    let mut fields = Fields::of(section, common_at, file.bits)?;
     fields.take(8)?;
     let common = common(&mut fields)?;
     let start = record.pointer(common.addresses)?;
@@ -183,15 +191,15 @@ fn frame(
 }
 
 fn landing_pads(file: &File, table: u64, function: u64) -> Option<Vec<u64>> {
-    let mut fields = file.loaded().find_map(|section| Fields::of(section, table))?;
+    let mut fields = file.loaded().find_map(|section| Fields::of(section, table, file.bits))?;
     let encoding = fields.unsigned(1)? as Encoding;
     let base = if encoding == OMITTED { function } else { fields.pointer(encoding)? };
     if fields.unsigned(1)? as Encoding != OMITTED {
         fields.leb(false)?;
     }
     let encoding = fields.unsigned(1)? as Encoding;
-    let length = usize::try_from(fields.leb(false)?).ok()?;
-    let mut sites = Fields { bytes: fields.bytes.get(..length)?, address: fields.address };
+    let length = fields.leb(false)?;
+    let mut sites = fields.part(length)?;
     let mut pads = Vec::new();
     while !sites.bytes.is_empty() {
         sites.pointer(encoding)?;
@@ -199,7 +207,7 @@ fn landing_pads(file: &File, table: u64, function: u64) -> Option<Vec<u64>> {
         let pad = sites.pointer(encoding)?;
         sites.leb(false)?;
         if pad != 0 {
-            pads.push(base.wrapping_add(pad));
+            pads.push(file.bits.address(base.wrapping_add(pad)));
         }
     }
     Some(pads)

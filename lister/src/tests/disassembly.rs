@@ -1,5 +1,6 @@
 //! The lister: the parser, the table, blocks and sheets.
 
+use crate::disassembly::bits::Bits;
 use crate::disassembly::blocks::leaders;
 use crate::disassembly::control_flow::{self, Outside};
 use crate::disassembly::elf::{self, File, Section, Segment, Span};
@@ -101,7 +102,7 @@ fn instructions_become_what_the_manual_says_of_them() {
         ("repz ret", "other call"),
         ("syscall", "other call"),
         ("in     al,dx", "other call"),
-        ("pop    fs", "other call"),
+        ("pop    fs", "other writes rsp"),
         ("lock add eax,ebx", "other call"),
         ("rep add eax,ebx", "other call"),
         ("data16 je 1178 <f+0x12>", "other call"),
@@ -146,7 +147,7 @@ fn the_table_has_each_name_once_and_none_that_is_modelled() {
 
 #[test]
 fn what_is_no_disassembly_is_refused() {
-    let error = |text: &str| text::read(text).expect_err(text);
+    let error = |text: &str| text::read(text, None).expect_err(text);
     assert!(error("").contains("no line names a file format"));
     assert!(error("hello\n").contains("line 1: no disassembly"));
     assert!(error(&HEAD.replace("elf64-x86-64", "elf64-littleaarch64")).contains("aarch64"));
@@ -172,8 +173,8 @@ fn files_of_other_kinds_are_refused() {
         bytes
     };
     assert_eq!(error(b"#!/bin/sh\n"), "no ELF file");
-    assert!(error(&with(18, 183)).contains("not for x86-64"));
-    assert!(error(&with(4, 1)).contains("not for x86-64"));
+    assert!(error(&with(18, 183)).contains("neither for x86-64"));
+    assert!(error(&with(4, 1)).contains("neither for x86-64"));
     assert!(error(&with(16, 1)).contains("not linked"));
     assert!(error(&with(16, 4)).contains("neither"));
     assert!(error(&own[..100]).contains("cut"));
@@ -193,7 +194,7 @@ fn starts(text: &Disassembly, outside: &Outside) -> Vec<u64> {
 fn blocks_start_at_entries() {
     let code =
         function(&["xor    eax,eax", "nop", "je     1004 <f+0x4>", "nop", "nop", "ret", "nop"]);
-    let text = text::read(&code).unwrap();
+    let text = text::read(&code, None).unwrap();
     assert_eq!(starts(&text, &Outside::default()), [0x1000, 0x1003, 0x1004, 0x1006]);
     // A landing pad, or any other place that may be entered.
     let outside = Outside { entries: vec![0x1001], ..Outside::default() };
@@ -206,14 +207,17 @@ fn blocks_start_at_entries() {
 #[test]
 fn a_call_an_address_and_a_gap_start_blocks() {
     let code = function(&["nop", "call   1003 <f+0x3>", "nop", "nop", "nop", "ret"]);
-    assert_eq!(starts(&text::read(&code).unwrap(), &Outside::default()), [0x1000, 0x1003]);
+    assert_eq!(starts(&text::read(&code, None).unwrap(), &Outside::default()), [0x1000, 0x1003]);
     let code = function(&["nop", "lea    rax,[rip+0x1]        # 1003 <f+0x3>", "nop", "nop"]);
-    assert_eq!(starts(&text::read(&code).unwrap(), &Outside::default()), [0x1000, 0x1003]);
+    assert_eq!(starts(&text::read(&code, None).unwrap(), &Outside::default()), [0x1000, 0x1003]);
     let code = function(&["nop", "mov    eax,0x1003", "nop", "nop"]);
-    assert_eq!(starts(&text::read(&code).unwrap(), &Outside::default()), [0x1000, 0x1003]);
+    assert_eq!(starts(&text::read(&code, None).unwrap(), &Outside::default()), [0x1000, 0x1003]);
     let code =
         function(&["nop", "nop"]) + "\t...\n    1010:\tnop\n    1011:\tud2\n    1012:\tnop\n";
-    assert_eq!(starts(&text::read(&code).unwrap(), &Outside::default()), [0x1000, 0x1010, 0x1012]);
+    assert_eq!(
+        starts(&text::read(&code, None).unwrap(), &Outside::default()),
+        [0x1000, 0x1010, 0x1012]
+    );
 }
 
 #[test]
@@ -223,7 +227,7 @@ fn bytes_before_instructions_are_read() {
     let code = code + "    1002:\t48 b8 00 00 00 00 00 \tmovabs rax,0x0\n    1009:\t00 00 00 \n";
     let code = code + "    100c:\t41 42 43                     %\tC\n    100f:\t90 \tnop\n";
     let code = code + "    1012:\tc3                   \tret\n";
-    let text = text::read(&code).unwrap();
+    let text = text::read(&code, None).unwrap();
     let lines: Vec<(u64, u64, bool)> =
         text.lines.iter().map(|line| (line.address, line.size, line.after_gap)).collect();
     let due = [(0x1000, 2, true), (0x1002, 10, false), (0x100f, 1, true), (0x1012, 1, true)];
@@ -237,13 +241,13 @@ fn bytes_before_instructions_are_read() {
 #[test]
 fn names_may_have_any_character() {
     let code = function(&["call   1000 <file format b>"]).replace("<f>", "<a: file format b>");
-    assert_eq!(text::read(&code).unwrap().labels[0].name, "a: file format b");
+    assert_eq!(text::read(&code, None).unwrap().labels[0].name, "a: file format b");
 }
 
 /// Whether the return at the end of a function's lines is taken for a jump.
 fn returns_elsewhere(instructions: &[&str]) -> bool {
     let code = function(&[instructions, &["ret"]].concat());
-    let text = text::read(&code).unwrap();
+    let text = text::read(&code, None).unwrap();
     let span = Span { start: 0x1000, end: 0x1000 + text.lines.len() as u64 };
     let outside = Outside { functions: vec![span], ..Outside::default() };
     control_flow::read(&text, &outside).returns == 1
@@ -306,7 +310,7 @@ fn code_that_is_not_shown_is_followed_to_a_line() {
     let code =
         function(&["31 c0 \txor    eax,eax"]) + "    1002:\t3d 85 ff 90 90 \tcmp    eax,0x1\n";
     let code = code + "    1007:\t74 00 \tje     1009 <f+0x9>\n    1009:\tc3 \tret\n";
-    let text = text::read(&code).unwrap();
+    let text = text::read(&code, None).unwrap();
     let decoded = |address, text: &str, moved| {
         let text = text.to_string();
         Decoded { address, bytes: String::new(), text, moved }
@@ -339,13 +343,13 @@ fn lines_that_processors_read_otherwise_open_their_part() {
     let every: Vec<u64> = (0x1000..0x1003).collect();
     for line in ["(bad)", ".byte 0x3d", "data16 je 1000 <f>", "prefetch (bad)", "retw", "rex.W"] {
         let code = function(&["nop", "nop", line]);
-        assert_eq!(starts(&text::read(&code).unwrap(), &Outside::default()), every, "{line}");
+        assert_eq!(starts(&text::read(&code, None).unwrap(), &Outside::default()), every, "{line}");
     }
     let code = function(&["66 66 48 e8 00 00 00 00 \tdata16 rex.W call 1000 <f>"]);
-    let text = text::read(&code).unwrap();
+    let text = text::read(&code, None).unwrap();
     assert_eq!(control_flow::read(&text, &Outside::default()).unclear, []);
     let code = function(&["66 0f 85 00 00 \tjne    1005 <f+0x5>"]);
-    let text = text::read(&code).unwrap();
+    let text = text::read(&code, None).unwrap();
     assert_eq!(control_flow::read(&text, &Outside::default()).unclear, [0x1000]);
     let code = [0x66, 0x0f, 0x85, 0, 1, 0, 0, 0x90];
     assert_eq!(control_flow::wide_target(&code, 0x1000), Some(0x1107));
@@ -359,18 +363,18 @@ fn lines_that_processors_read_otherwise_open_their_part() {
 fn every_instruction_may_be_entered_where_a_jump_is_not_known() {
     let every: Vec<u64> = (0x1000..0x1004).collect();
     let code = function(&["nop", "nop", "jmp    rax", "nop"]);
-    assert_eq!(starts(&text::read(&code).unwrap(), &Outside::default()), every);
+    assert_eq!(starts(&text::read(&code, None).unwrap(), &Outside::default()), every);
     for put in ["push   rax", "mov    QWORD PTR [rsp],rax"] {
         let code = function(&["nop", put, "ret", "nop"]);
-        assert_eq!(starts(&text::read(&code).unwrap(), &Outside::default()), every);
+        assert_eq!(starts(&text::read(&code, None).unwrap(), &Outside::default()), every);
     }
     // Into an instruction, here the one at 1001.
     let code =
         function(&["nop", "nop", "nop", "ret"]).replace("1002:", "1005:").replace("1003:", "1006:");
     let into = code.clone() + "    1007:\tje     1003 <f+0x3>\n";
-    let text = text::read(&into).unwrap();
+    let text = text::read(&into, None).unwrap();
     assert_eq!(starts(&text, &Outside::default()), [0x1000, 0x1001, 0x1005, 0x1006, 0x1007]);
-    let text = text::read(&code).unwrap();
+    let text = text::read(&code, None).unwrap();
     assert_eq!(starts(&text, &Outside::default()), [0x1000]);
     let outside = Outside { entries: vec![0x1003], ..Outside::default() };
     assert_eq!(starts(&text, &outside), [0x1000, 0x1001, 0x1005, 0x1006]);
@@ -390,7 +394,7 @@ fn parts_of_a_function_are_entered_together() {
         text
     };
     let open = |code: &str, outside: &Outside| {
-        let text = text::read(code).unwrap();
+        let text = text::read(code, None).unwrap();
         let control = control_flow::read(&text, outside);
         leaders(&text, &control, outside).open
     };
@@ -425,14 +429,14 @@ fn parts_of_a_function_are_entered_together() {
 #[test]
 fn jumps_of_stubs_and_through_slots_go_to_functions() {
     let code = function(&["jmp    QWORD PTR [rip+0x2]        # 2010 <puts@GLIBC>", "nop"]);
-    let text = text::read(&code).unwrap();
+    let text = text::read(&code, None).unwrap();
     assert_eq!(starts(&text, &Outside::default()), [0x1000, 0x1001]);
     let slots = vec![Span { start: 0x2000, end: 0x2018 }];
     let outside = Outside { slots, ..Outside::default() };
     let control = control_flow::read(&text, &outside);
     assert_eq!(leaders(&text, &control, &outside).open, [false; 2]);
     let code = function(&["jmp    rax", "nop"]).replace(".text", ".plt.sec");
-    let text = text::read(&code).unwrap();
+    let text = text::read(&code, None).unwrap();
     let control = control_flow::read(&text, &Outside::default());
     assert_eq!(leaders(&text, &control, &Outside::default()).open, [false; 2]);
 }
@@ -451,7 +455,7 @@ fn long_functions_become_several_sheets() {
     let long = vec!["add    rax,0x1"; 5_000];
     for instructions in [[jumps.clone(), long.clone()].concat(), [long, jumps].concat()] {
         let code = function(&instructions);
-        let text = text::read(&code).unwrap();
+        let text = text::read(&code, None).unwrap();
         let mut counts = Counts::default();
         let sheets = all_sheets(&text, &mut counts);
         assert_eq!((counts.instructions, counts.branches), (8_000, 3_000));
@@ -473,7 +477,7 @@ fn long_functions_become_several_sheets() {
 fn a_sheet_has_the_blocks_of_its_function() {
     let jump = "jmp    1000 <f>";
     let code = function(&["xor    eax,eax", "je     1003 <f+0x3>", "ret", "frobnicate", jump]);
-    let text = text::read(&code).unwrap();
+    let text = text::read(&code, None).unwrap();
     let mut counts = Counts::default();
     let sheets = all_sheets(&text, &mut counts);
     assert_eq!(sheets.len(), 1);
@@ -518,7 +522,8 @@ fn pointers_are_found_wherever_they_stand() {
     let bytes = [0, 0x34, 0x12, 0, 0, 0, 0, 0, 0, 7, 0x35, 0x12, 0, 0, 7];
     let segment = Segment { address: 0x1230, bytes: &[0; 8] };
     let sections = vec![section(".data", 0x2000, &bytes), section(".eh_frame", 0x3000, &[])];
-    let mut file = File { entry: 0, movable: true, sections, segments: vec![segment] };
+    let mut file =
+        File { bits: Bits::B64, entry: None, movable: true, sections, segments: vec![segment] };
     assert_eq!(pointers::stored(&file, &file.code()), [0x1234]);
     file.movable = false;
     assert_eq!(pointers::stored(&file, &file.code()), [0x1234, 0x1235]);

@@ -47,7 +47,7 @@ const CODE: &[&str] = &[
 #[test]
 fn a_decided_branch_has_the_instructions_that_decide_it() {
     let code = function(CODE);
-    let program = of_text(text::read(&code).unwrap());
+    let program = of_text(text::read(&code, None).unwrap());
     let listing = listed(&program);
     let found: Vec<_> =
         listing.branches.iter().map(|(at, b)| (*at, b.target, b.always, b.by.clone())).collect();
@@ -58,27 +58,27 @@ fn a_decided_branch_has_the_instructions_that_decide_it() {
 #[test]
 fn what_only_a_dead_edge_leads_to_is_dead() {
     let code = function(CODE);
-    let program = of_text(text::read(&code).unwrap());
+    let program = of_text(text::read(&code, None).unwrap());
     assert_eq!(listed(&program).dead, [3..4, 7..8]);
     // Entered by its address, or by a jump.
     for other in ["mov    ecx,0x1003", "js     1003 <f+0x3>"] {
         let code = code.replace("mov    ecx,0x1", other);
-        let program = of_text(text::read(&code).unwrap());
+        let program = of_text(text::read(&code, None).unwrap());
         assert_eq!(listed(&program).dead, [7..8], "{other}");
     }
     // A jump from dead code does not count; one to an unknown address opens everything.
     let from_dead = code.replace("nop", "jmp    1007 <f+0x7>");
-    let program = of_text(text::read(&from_dead).unwrap());
+    let program = of_text(text::read(&from_dead, None).unwrap());
     assert_eq!(listed(&program).dead, [3..4, 7..8]);
     let open = code.replace("nop", "jmp    rax");
-    let program = of_text(text::read(&open).unwrap());
+    let program = of_text(text::read(&open, None).unwrap());
     assert_eq!(listed(&program).dead, []);
 }
 
 #[test]
 fn claims_name_verdicts_and_what_is_dead() {
     let code = function(CODE);
-    let program = of_text(text::read(&code).unwrap());
+    let program = of_text(text::read(&code, None).unwrap());
     let claims = steps::written(&program, &listed(&program));
     let last: Vec<&str> = claims.lines().map(|line| line.split(' ').next_back().unwrap()).collect();
     assert_eq!(last, ["-", "-", "always", "dead", "-", "never", "-", "dead"]);
@@ -87,7 +87,7 @@ fn claims_name_verdicts_and_what_is_dead() {
 /// The cause for the branch that ends a function.
 fn cause(instructions: &[&str]) -> Option<Cause> {
     let code = function(&[instructions, &["je     1000 <f>"]].concat());
-    let program = of_text(text::read(&code).unwrap());
+    let program = of_text(text::read(&code, None).unwrap());
     let listing = listed(&program);
     listing.undecided.into_keys().next()
 }
@@ -118,7 +118,7 @@ fn causes_are_followed_back() {
 #[test]
 fn the_report_is_sorted_and_whole() {
     let code = function(CODE);
-    let program = of_text(text::read(&code).unwrap());
+    let program = of_text(text::read(&code, None).unwrap());
     let lines = report::lines(&program, &listed(&program));
     let due = "1002 <f+0x2> je 1004 <f+0x4> always\n  by 1001 xor    eax,eax\n\
                1005 <f+0x5> jne 1007 <f+0x7> never\n  by 1004 xor    edx,edx\nfunctions 1";
@@ -131,7 +131,7 @@ fn the_report_is_sorted_and_whole() {
 #[test]
 fn the_disassembly_is_annotated() {
     let code = function(CODE);
-    let program = of_text(text::read(&code).unwrap());
+    let program = of_text(text::read(&code, None).unwrap());
     let lines = annotated::lines(&program, &listed(&program));
     let at = lines.iter().position(|line| line == "\n1000 <f>:").unwrap();
     assert_eq!(lines[at + 3], "always     1002  je     1004 <f+0x4>");
@@ -142,7 +142,7 @@ fn the_disassembly_is_annotated() {
 #[test]
 fn json_has_names_with_any_character() {
     let code = function(CODE).replace("<f>", "<a\"b\\>");
-    let program = of_text(text::read(&code).unwrap());
+    let program = of_text(text::read(&code, None).unwrap());
     let lines = json::lines(&program, &listed(&program)).join("\n");
     let due = "  {\"address\": \"0x1002\", \"shown\": \"1002 <a\\\"b\\\\+0x2>\", \
                \"function\": \"0x1000\", \"jump\": \"je\", \"target\": \"0x1004\", \

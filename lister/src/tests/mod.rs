@@ -1,3 +1,4 @@
+mod code_32;
 mod disassembly;
 mod listing;
 mod options;

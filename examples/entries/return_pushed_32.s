@@ -1,0 +1,31 @@
+# 32-bit code: a return to an address that was pushed some instructions before it.
+# as: --32
+# ld: -m elf_i386
+.intel_syntax noprefix
+.text
+.globl _start
+.type _start, @function
+_start:
+    mov esi, [esp]
+    dec esi                         # 0 without arguments, 1 with one
+    call f
+.size _start, . - _start
+
+.type f, @function
+f:
+    mov ecx, offset f
+    add ecx, offset .Lplace - f
+    push ecx
+    push edx
+    mov edx, 1
+    pop edx
+    ret
+    xor esi, esi
+.Lplace:
+    test esi, esi
+    mov ebx, 10
+    je 1f
+    mov ebx, 20
+1:  mov eax, 1
+    int 0x80
+.size f, . - f
