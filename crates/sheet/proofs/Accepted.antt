@@ -14,9 +14,8 @@ use Rattle.sheet_field.proofs.Counted.{back, counted, nth}
 use Rattle.sheet.proofs.Sections.{instructions-keep, blocks-keep, nodes-keep}
 use Rattle.sheet.specs.declared.Sheet.{Sheet}
 use Rattle.sheet.specs.declared.Reading.the-variants as reading
-use Rattle.sheet.specs.declared.BlockReading.{BlockReading}
 use Rattle.sheet.specs.declared.Block.{Block}
-use Rattle.sheet.specs.Sheet.{instructionsFrom, blockAt, blocksFrom, nodesFrom, sheetAt, answerOf, readingOf}
+use Rattle.sheet.specs.Sheet.{instructionsFrom, BlockReading, blockAt, blocksFrom, nodesFrom, sheetAt, answerOf, readingOf}
 
 pub instructions-on : (s : List ℕ) (p : Place) (k : ℕ) {a : ℕ} → instructionsFrom s p k .next ≡ At a → WentOn p
 unfolding instructionsFrom

@@ -7,30 +7,38 @@ use native.Mathlib.Omega.{arith}
 use lib.ListN.{length, getD, length-map}
 use Rattle.sheet_field.specs.declared.Place.{Place}
 use Rattle.sheet_field.specs.declared.Place.the-variants.{At}
-use Rattle.sheet_field.specs.Field.{startOf, WentOn}
+use Rattle.sheet_field.specs.Field.{little, startOf, WentOn}
 use Rattle.isa.specs.declared.Instruction.{Instruction}
 use Rattle.sheet_instruction.specs.Instruction.{instructionAt}
 use Rattle.sheet_node.specs.declared.NodeReading.{NodeReading}
 use Rattle.sheet_node.specs.Node.{Node, nodeAt, nodeOf}
 use Rattle.sheet_node.specs.Contracts.{ReadNode}
 use Rattle.search.specs.Ascending.{Ascending}
-use Rattle.sheet.specs.declared.BlockReading.{BlockReading}
+use Rattle.sheet.specs.declared.Block.{Block}
 use Rattle.sheet.specs.declared.Sheet.{Sheet}
 use Rattle.sheet.specs.declared.Reading.the-variants as reading
-use Rattle.sheet.specs.Sheet.{noBlock, blockAt, instructionsFrom, nodesFrom, sheetAt, readingOf}
+use Rattle.sheet.specs.Sheet.{noBlock, instructionsFrom, nodesFrom, sheetAt, readingOf}
 use Rattle.sheet.specs.Index.{over, addressesOf, targetsOf, branchesOf, Indexed, InFront}
-use Rattle.sheet.proofs.Accepted.{accepted, blockOf, block-at, nodes-back, nodes-next, nodes-nth, node-places-nth, node-places-length}
+use Rattle.sheet.proofs.Accepted.{accepted, blockOf, block-at, blocks-inside, nodes-back, nodes-next, nodes-nth, node-places-nth, node-places-length}
+use Rattle.sheet.proofs.Blocks.{block-whole}
 use Rattle.sheet.proofs.Fronts.{one, map-at, instructions-length, places-length, over-length, over-front}
 use Rattle.sheet.proofs.Rising.{rising}
 use Rattle.sheet.proofs.Again.{again-on, again-is}
 
 module _ (s : List ℕ) (sheet : Sheet) (read : readingOf s ≡ reading.Accepted sheet) where
-  pub nth-block-is : (number : ℕ) {b : BlockReading} → number < sheet .blocks .count → b ≡ blockAt s (At (sheet .blocks .at + 16 * number))
-      → blockOf b ≡ getD (sheetAt s .blocks .list) number noBlock
-  nth-block-is number below b-is =
-      let acc = accepted s sheet read in
-      rw (b-is, ← acc .blocks)
-      (sym (block-at s (sheet .blocks .at) (sheet .blocks .count) number noBlock {a = acc .afterBlocks .0} (rw (acc .blocks) (acc .afterBlocks .1)) below))
+  module _ (number : ℕ) (below : number < sheet .blocks .count) where
+    -- a block's bytes are inside
+    pub block-inside : sheet .blocks .at + 16 * number + 16 ≤ length s
+    block-inside = omega (arith, blocks-inside s sheet read, below)
+
+    pub nth-block-is : {at from to : ℕ} → at ≡ sheet .blocks .at + 16 * number → from ≡ little s at 8 → to ≡ little s (at + 8) 8
+        → _≡_ {A = Block} (record { from = from; to = to }) (getD (sheetAt s .blocks .list) number noBlock)
+    nth-block-is at-is from-is to-is =
+        let acc = accepted s sheet read in
+        let first = sheet .blocks .at + 16 * number in
+        rw (from-is, to-is, at-is, ← acc .blocks)
+        (ap blockOf (block-whole s first block-inside)
+        ∙ sym (block-at s (sheet .blocks .at) (sheet .blocks .count) number noBlock {a = acc .afterBlocks .0} (rw (acc .blocks) (acc .afterBlocks .1)) below))
 
   pub addresses-rise : Ascending (addressesOf (sheetAt s .instructions .list))
   addresses-rise =

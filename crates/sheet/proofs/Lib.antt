@@ -1,5 +1,6 @@
 -- laws of the definitions, which other proofs cite
 pub mod Sections
+pub mod Blocks
 pub mod Accepted
 pub mod Refusals
 pub mod Fronts

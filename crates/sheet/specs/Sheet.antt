@@ -29,7 +29,6 @@ use Rattle.sheet.specs.declared.Sheet.{Sheet}
 use Rattle.sheet.specs.declared.Reading.{Reading}
 use Rattle.sheet.specs.declared.Reading.the-variants as reading
 use Rattle.sheet.specs.declared.Block.{Block}
-use Rattle.sheet.specs.declared.BlockReading.{BlockReading}
 
 -- what instruction records that were read one after the other give: the instructions, the offset of each, the last address,
 -- and the offset after them
@@ -51,6 +50,12 @@ instructionsFrom s p (suc k) =
       last = r .instruction .address;
       next = r .next;
     }
+
+-- a block as it was read, and the offset after it
+pub record BlockReading : Type 0 where
+  pub from : ℕ
+  pub to : ℕ
+  pub next : Place
 
 -- A block: two addresses, from and to (S25).
 unfoldable pub blockAt : List ℕ → Place → BlockReading

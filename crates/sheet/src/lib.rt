@@ -5,12 +5,12 @@ use sheet_field::Place;
 use sheet_field::Width;
 ghost use mathlib.Core.Path.{_≡_};
 ghost use mathlib.Core.Bool.{false};
-ghost use Prim.Native.Nat.{_≤_, _<_};
+ghost use Prim.Native.Nat.{_-_, _≤_, _<_};
 ghost use lib.ListN.{length, getD, set};
 ghost use Rattle.isa.specs.declared.Instruction.{Instruction};
 ghost use Rattle.sheet_field.specs.Field.{WentOn};
 ghost use Rattle.sheet.specs.declared.Reading.the-variants.{Accepted};
-ghost use Rattle.sheet.specs.Sheet.{noBlock, instructionsFrom, blockAt, blocksFrom, nodesFrom, ended, answerOf, sheetAt, readingOf};
+ghost use Rattle.sheet.specs.Sheet.{noBlock, instructionsFrom, blocksFrom, nodesFrom, ended, answerOf, sheetAt, readingOf};
 ghost use Rattle.sheet.specs.Index.{over, addressesOf, targetsOf, branchesOf, Noted, Indexed, InFront};
 ghost use Rattle.sheet.specs.Contracts.{foundOn};
 
@@ -36,13 +36,6 @@ pub enum Reading {
 pub struct Block {
     pub from: u64,
     pub to: u64,
-}
-
-// A block as it was read, and the offset after it.
-pub struct BlockReading {
-    pub from: u64,
-    pub to: u64,
-    pub next: Place,
 }
 
 // Stores an entry of the index, where the list reaches that far.
@@ -77,35 +70,29 @@ fn read_instructions(s: &[u8], p: Place, n: u64, addresses: &mut [u64], places: 
     next
 }
 
-// The block record at an offset.
-fn take_block(s: &[u8], p: Place) -> BlockReading
-    ensures { λ r. ⌜ r ≡ blockAt (now (s .entry)) p ⌝ }
+// How many bytes a sheet has from an offset on.
+fn left(s: &[u8], at: usize) -> usize
+    ensures { λ r. ⌜ r ≡ length (now (s .entry)) - at ⌝ }
 {
-    let from = sheet_field::take_field(s, p, Width::Eight);
-    let after = from.next;
-    let to = sheet_field::take_field(s, after, Width::Eight);
-    let next = to.next;
-    BlockReading {
-        from: from.value,
-        to: to.value,
-        next,
-    }
+    if at <= s.len() { s.len() - at } else { 0 }
 }
 
+// The offset after n blocks, two fields of 8 bytes each; or the first field that is not whole.
 fn check_blocks(s: &[u8], p: Place, n: u64) -> Place
+    requires { ⌜ n ≤ 1024 ⌝ }
     ensures { λ r. ⌜ r ≡ blocksFrom (now (s .entry)) p n .next ⌝ }
 {
-    let mut next = p;
-    let mut i: u64 = 0;
-    while i < n {
-        if sheet_field::is_refused(next) {
-            return next;
+    match p {
+        Place::Refused(k, at) => Place::Refused(k, at),
+        Place::At(at) => {
+            let rest = left(s, at);
+            let bytes = 16 * (n as usize);
+            if bytes <= rest {
+                return Place::At(at + bytes);
+            }
+            Place::Refused(refusal::ENDS, at + rest / 8 * 8)
         }
-        let b = take_block(s, next);
-        next = b.next;
-        i += 1;
     }
-    next
 }
 
 // The offset after n nodes, with the offset of each at the start of the borrowed list, as far as it reaches. `words` is a buffer for
@@ -230,10 +217,10 @@ pub fn nth_block(s: &[u8], sheet: Sheet, number: u64) -> Block
     ensures { λ r. ⌜ r ≡ getD (sheetAt (now (s .entry)) .blocks .list) number noBlock ⌝ }
 {
     let section = sheet.blocks;
-    let b = take_block(s, Place::At(section.at + 16 * (number as usize)));
+    let at = section.at + 16 * (number as usize);
     Block {
-        from: b.from,
-        to: b.to,
+        from: sheet_field::number(s, at, Width::Eight),
+        to: sheet_field::number(s, at + 8, Width::Eight),
     }
 }
 

@@ -1,55 +1,50 @@
-use Rattle.sheet.proofs.Sections.{blocks-more, blocks-stopped}
-use Rattle.sheet.specs.Sheet.{blocksFrom}
-use native.Mathlib.Omega.{arith}
+use mathlib.Core.Path.{refl}
+use Rattle.sheet.proofs.Blocks.{blocks-refused, blocks-there, blocks-short}
 use borrow.Author.Needs.{needs}
-use mathlib.Core.Path.{_≡_, refl, sym, _∙_}
-use Prim.Native.Nat.{_≤_, _-_}
 use Rattle.sheet.proofs.check_blocks.Statement.{statement}
 use Rattle.sheet.proofs.check_blocks.Tie as tie
 
-abbrev Inv-loop : tie.InvT-loop
-Inv-loop s n next₀ i₀ next i =
-    (i ≤ n) × (next ≡ blocksFrom s next₀ i .next)
+enum-known-p : tie.Need-enum-known-p
+enum-known-p c = search needs
 
-abbrev μ-loop : tie.MeasureT-loop
-μ-loop s n next₀ i₀ next i = n - i
+enum-known-p-2 : tie.Need-enum-known-p-2
+enum-known-p-2 c = search needs
 
-loop-holds : tie.Need-loop-holds Inv-loop μ-loop
-unfolding blocksFrom
-loop-holds c = (search needs, refl)
+left-requires : tie.Need-left-requires
+left-requires c κs = search needs
 
-is-refused-requires : tie.Need-is-refused-requires Inv-loop μ-loop
-is-refused-requires c κs = search needs
+mul-bytes : tie.Need-mul-bytes
+mul-bytes c = search needs
 
-returns : tie.Need-returns Inv-loop μ-loop
-returns c = blocks-stopped _ _ _ _ _ (c .before .before .before .loop .inv .1) (sym (c .before .is-refused .ensures) ∙ c .if1 .taken) (omega arith)
+add-t12 : tie.Need-add-t12
+add-t12 c = search needs
 
-take-block-requires : tie.Need-take-block-requires Inv-loop μ-loop
-take-block-requires c κs = search needs
+returns : tie.Need-returns
+returns c = blocks-there _ _ (c .before .before .before .p2 .given .1) (c .before .left .ensures) refl (c .if1 .taken)
 
-add-i : tie.Need-add-i Inv-loop μ-loop
-add-i c = search needs
+mul-t13 : tie.Need-mul-t13
+mul-t13 c = search needs
 
-loop-less : tie.Need-loop-less Inv-loop μ-loop
-loop-less c = search needs
+add-t14 : tie.Need-add-t14
+add-t14 c = search needs
 
-loop-again : tie.Need-loop-again Inv-loop μ-loop
-loop-again c = (search needs, rw (c .take-block .ensures, c .before .before .before .before .loop .inv .1) (blocks-more _ _ _))
+returns-2 : tie.Need-returns-2
+returns-2 c = blocks-refused _ _ (c .before .p .given .1)
 
-returns-2 : tie.Need-returns-2 Inv-loop μ-loop
-returns-2 c = let e : c .before .before .before .args .n ≡ c .before .loop .i = omega arith in rw e (c .before .loop .inv .1)
+returns-3 : tie.Need-returns-3
+returns-3 c = blocks-short _ _ (c .before .before .before .p2 .given .1) (c .before .left .ensures) refl (c .if1 .left)
 
 pub check-blocks-spec : {M : Type 1} → statement M
 check-blocks-spec =
     tie.close
     (tie.spec
-    Inv-loop
-    μ-loop
-    loop-holds
-    is-refused-requires
+    enum-known-p
+    enum-known-p-2
+    left-requires
+    mul-bytes
+    add-t12
     returns
-    take-block-requires
-    add-i
-    loop-less
-    loop-again
-    returns-2)
+    mul-t13
+    add-t14
+    returns-2
+    returns-3)

@@ -46,13 +46,20 @@ note-requires-2 : tie.Need-note-requires-2 Inv-loop μ-loop
 note-requires-2 c κs = search needs
 
 add-i : tie.Need-add-i Inv-loop μ-loop
-add-i c = omega (arith, c .before .before .before .before .before .before .before .before .before .before .before .before .before .loop-test, c .before .before .before .before .before .before .before .before .before .before .before .before .before .before .loop .inv .0, c .before .before .before .before .before .before .before .before .before .before .before .before .before .before .before .before .before .before .good)
+add-i c =
+    let at-loop-test = c .before .before .before .before .before .before .before .before .before .before .before .before .before in
+    let at-loop = at-loop-test .before in
+    let at-start = at-loop .before .before .before .before in
+    omega (arith, at-loop-test .loop-test, at-loop .loop .inv .0, at-start .good)
 
 loop-less : tie.Need-loop-less Inv-loop μ-loop
 loop-less c = search needs
 
 loop-again : tie.Need-loop-again Inv-loop μ-loop
-loop-again c = (search needs, noting-more _ _ _ (c .before .before .before .before .before .before .before .before .before .before .before .before .before .before .loop .inv .1) (c .before .before .before .before .before .before .before .before .before .before .take-instruction .ensures) (c .before .before .before .before .before .before .before .note .ensures) (c .before .before .before .start .ensures) (c .before .before .note2 .ensures))
+loop-again c =
+    let at-take-instruction = c .before .before .before .before .before .before .before .before .before .before in
+    let at-loop = at-take-instruction .before .before .before .before in
+    (search needs, noting-more _ _ _ (at-loop .loop .inv .1) (at-take-instruction .take-instruction .ensures) (c .before .before .before .before .before .before .before .note .ensures) (c .before .before .before .start .ensures) (c .before .before .note2 .ensures))
 
 same-length-3 : tie.Need-same-length-3 Inv-loop μ-loop
 same-length-3 c = ap length (c .before .loop .inv .1 .noted .addresses) ∙ over-length _ _
