@@ -15,7 +15,7 @@ use Rattle.sheet.specs.Sheet.{sheetAt, readingOf}
 use Rattle.sheet.specs.Index.{over, addressesOf, targetsOf}
 use Rattle.sheet.proofs.ByNumber.{instructions-count}
 use Rattle.sheet_bytes.specs.Write.{records}
-use Rattle.verdict_lines.specs.Lines.{lineBytes}
+use Rattle.verdict_lines.specs.Lines.{Line, lineBytes}
 use Rattle.verdict_lines.specs.Slots.{decidedIn, linesIn}
 use Rattle.verdict_lines.proofs.Decided.{lines-count}
 use Rattle.verdict_sheet.specs.declared.Progress.the-variants as progress
@@ -35,6 +35,14 @@ module _ (s sites targets slots list : List ℕ) (each-site : length sites ≡ l
     {n : ℕ} (n-is : n ≡ decidedIn slots) where
   count-is : length (linesIn sites targets slots) ≡ n
   count-is = lines-count sites targets slots each-site each-target ∙ sym n-is
+
+  no-lines : (due : List Line) → length due ≡ 0 → Gives (listed.Lines 0) list (written s due list)
+  unfolding over records
+  no-lines [] none = rw (le-leb (18 * 0) (length list) (omega arith)) (refl, refl)
+  no-lines (l ∷ due) none = absurd (omega (arith, none))
+
+  pub nothing-due : n ≡ 0 → Gives (listed.Lines 0) list (written s (linesIn sites targets slots) list)
+  nothing-due none = no-lines (linesIn sites targets slots) (count-is ∙ none)
 
   pub too-short : length list / 18 < n → Gives (listed.Refused 12 (length s)) list (written s (linesIn sites targets slots) list)
   too-short short = rw (count-is, lt-leb (18 * n) (length list) (omega arith)) (refl, refl)

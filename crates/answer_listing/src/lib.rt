@@ -33,6 +33,9 @@ fn write_lines(
     ensures { λ r. ⌜ Gives r (now (list .exit)) (written (now (s .entry)) (linesIn (now (sites .entry)) (targetsOf (sheetAt (now (s .entry)) .instructions .list)) (now (slots .entry))) (now (list .entry))) ⌝ }
 {
     let n = verdict_lines::count(slots);
+    if n == 0 {
+        return Listed::Lines(0);
+    }
     if ((list.len() / 18) as u64) < n {
         return Listed::Refused(refusal::ROOM, s.len());
     }
