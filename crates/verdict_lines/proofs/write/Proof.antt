@@ -33,13 +33,17 @@ mul-put-line : tie.Need-mul-put-line Inv-loop μ-loop
 mul-put-line c = search needs
 
 shared-slice-read-put-line : tie.Need-shared-slice-read-put-line Inv-loop μ-loop
-shared-slice-read-put-line c = omega (arith, c .before .before .before .before .before .before .before .before .before .before .pre .1 .1 .eachSite)
+shared-slice-read-put-line c =
+    let at-start = c .before .before .before .before .before .before .before .before .before .before in
+    omega (arith, at-start .pre .1 .1 .eachSite)
 
 shared-slice-read-put-line-2 : tie.Need-shared-slice-read-put-line-2 Inv-loop μ-loop
 shared-slice-read-put-line-2 c = omega arith
 
 put-line-requires : tie.Need-put-line-requires Inv-loop μ-loop
-put-line-requires c κs = omega (arith, c .before .before .before .before .before .loop .inv .1 .0, decided-more (c .before .before .before .before .before .before .before .before .before .before .before .args .slots .now) (c .before .before .before .before .before .loop .i) (omega (arith, c .before .before .before .before .loop-test .taken)))
+put-line-requires c κs =
+    let at-start = c .before .before .before .before .before .before .before .before .before .before .before in
+    omega (arith, c .before .before .before .before .before .loop .inv .1 .0, decided-more (at-start .args .slots .now) (c .before .before .before .before .before .loop .i) (omega (arith, c .before .before .before .before .loop-test .taken)))
 
 add-i : tie.Need-add-i Inv-loop μ-loop
 add-i c = omega arith
@@ -49,19 +53,21 @@ loop-less c = omega arith
 
 loop-again : tie.Need-loop-again Inv-loop μ-loop
 loop-again c =
-    let sites = c .before .before .before .before .before .before .before .before .before .before .before .before .before .before .args .sites .now in
-    let targets = targetsOf (sheetAt (c .before .before .before .before .before .before .before .before .before .before .before .before .before .before .args .s .now) .instructions .list) in
-    let slots = c .before .before .before .before .before .before .before .before .before .before .before .before .before .before .args .slots .now in
-    let i = c .before .before .before .before .before .before .before .before .loop .i in
-    let at = c .before .before .before .before .before .before .before .before .loop .at in
-    let list = c .before .before .before .before .before .before .before .before .loop .list in
+    let at-loop = c .before .before .before .before .before .before .before .before in
+    let at-start = at-loop .before .before .before .before .before .before in
+    let sites = at-start .args .sites .now in
+    let targets = targetsOf (sheetAt (at-start .args .s .now) .instructions .list) in
+    let slots = at-start .args .slots .now in
+    let i = at-loop .loop .i in
+    let at = at-loop .loop .at in
+    let list = at-loop .loop .list in
     let below = c .before .before .before .before .before .before .before .loop-test .taken in
-    let each = c .before .before .before .before .before .before .before .before .before .before .before .before .before .before .pre .1 .1 in
+    let each = at-start .pre .1 .1 in
     let put : c .before .before .put-line .last .0 ≡ putAt at (records lineBytes (slotLine (getD sites i 0) (getD targets i 0) (getD slots i 0))) list = rw (← c .before .before .before .before .before .before .nth-target .ensures) (c .before .before .put-line .ensures .1) in
     let next = c .before .before .put-line .ensures .0 in
     let long = put-keeps at (records lineBytes (slotLine (getD sites i 0) (getD targets i 0) (getD slots i 0))) list put in
     let more = decided-more slots i (omega (arith, below)) in
-    (write-more sites targets slots i at list (omega (arith, below, each .eachSite)) (omega (arith, below, each .eachTarget)) (omega (arith, below)) next put (c .before .before .before .before .before .before .before .before .loop .inv .0), (omega (arith, next, c .before .before .before .before .before .before .before .before .loop .inv .1 .0, long, more), (omega (arith, below), long ∙ c .before .before .before .before .before .before .before .before .loop .inv .1 .1 .1)))
+    (write-more sites targets slots i at list (omega (arith, below, each .eachSite)) (omega (arith, below, each .eachTarget)) (omega (arith, below)) next put (at-loop .loop .inv .0), (omega (arith, next, at-loop .loop .inv .1 .0, long, more), (omega (arith, below), long ∙ at-loop .loop .inv .1 .1 .1)))
 
 same-length : tie.Need-same-length Inv-loop μ-loop
 same-length c = c .before .loop .inv .1 .1 .1

@@ -20,10 +20,14 @@ enum-told : tie.Need-enum-told
 enum-told c = search needs
 
 returns : tie.Need-returns
-returns c = branch-here (c .before .before .before .before .before .before .before .before .before .args .addresses .now) (sheetAt (c .before .before .before .before .before .before .before .before .before .args .s .now) .instructions .list) (c .before .before .before .before .before .before .before .before .before .args .address) (c .before .before .before .before .before .before .before .before .before .args .otherwise) (c .before .before .before .before .before .find .ensures) (c .before .before .before .found .given .1) (sym (c .before .is-branch .ensures) ∙ c .if1 .taken)
+returns c =
+    let at-start = c .before .before .before .before .before .before .before .before .before in
+    branch-here (at-start .args .addresses .now) (sheetAt (at-start .args .s .now) .instructions .list) (at-start .args .address) (at-start .args .otherwise) (c .before .before .before .before .before .find .ensures) (c .before .before .before .found .given .1) (sym (c .before .is-branch .ensures) ∙ c .if1 .taken)
 
 returns-2 : tie.Need-returns-2
-returns-2 c = other-here (c .before .before .before .before .before .before .before .before .before .args .addresses .now) (sheetAt (c .before .before .before .before .before .before .before .before .before .args .s .now) .instructions .list) (c .before .before .before .before .before .before .before .before .before .args .address) (c .before .before .before .before .before .before .before .before .before .args .otherwise) (c .before .before .before .before .before .find .ensures) (c .before .before .before .found .given .1) (sym (c .before .is-branch .ensures) ∙ c .if1 .left)
+returns-2 c =
+    let at-start = c .before .before .before .before .before .before .before .before .before in
+    other-here (at-start .args .addresses .now) (sheetAt (at-start .args .s .now) .instructions .list) (at-start .args .address) (at-start .args .otherwise) (c .before .before .before .before .before .find .ensures) (c .before .before .before .found .given .1) (sym (c .before .is-branch .ensures) ∙ c .if1 .left)
 
 returns-3 : tie.Need-returns-3
 returns-3 c = nothing-here (c .before .before .before .before .before .before .args .addresses .now) (sheetAt (c .before .before .before .before .before .before .args .s .now) .instructions .list) (c .before .before .before .before .before .before .args .address) (c .before .before .before .before .before .before .args .otherwise) (c .before .before .find .ensures) (c .enum-told .given .1)

@@ -20,7 +20,9 @@ enum-known-at : tie.Need-enum-known-at
 enum-known-at c = search needs
 
 keep-end-requires : tie.Need-keep-end-requires
-keep-end-requires c κs = (c .before .before .before .before .before .before .before .before .before .before .pre .0, (c .before .before .before .before .before .before .before .before .before .before .pre .1 .1 .0 .places, (end-inside (c .before .before .before .before .before .before .before .before .before .before .args .s .now) (c .before .before .before .before .before .before .before .before .before .before .args .sheet) (c .before .before .before .before .before .before .before .before .before .before .pre .0) (c .before .before .before .before .before .before .before .before .before .before .pre .1 .1 .0 .places) (c .before .before .before .before .before .range-of .ensures .within), omega (arith, c .before .before .before .before .before .before .before .before .before .before .pre .1 .1 .1, index-addresses (c .before .before .before .before .before .before .before .before .before .before .pre .1 .1 .0), slot-there (sheetAt (c .before .before .before .before .before .before .before .before .before .before .args .s .now) .instructions .list) (blockSite (c .before .before .before .before .before .before .before .before .before .before .args .s .now) (c .before .before .before .before .before .before .before .before .before .before .args .number)) (c .before .before .before .before .last-branch .result) (block-site (c .before .before .before .before .before .before .before .before .before .before .args .s .now) (c .before .before .before .before .before .before .before .before .before .before .args .number) (c .before .before .before .before .before .range-of .result) (c .before .before .before .before .before .range-of .ensures) (c .before .before .before .before .last-branch .ensures)) (c .before .before .at .given .1)))))
+keep-end-requires c κs =
+    let at-start = c .before .before .before .before .before .before .before .before .before .before in
+    (at-start .pre .0, (at-start .pre .1 .1 .0 .places, (end-inside (at-start .args .s .now) (at-start .args .sheet) (at-start .pre .0) (at-start .pre .1 .1 .0 .places) (c .before .before .before .before .before .range-of .ensures .within), omega (arith, at-start .pre .1 .1 .1, index-addresses (at-start .pre .1 .1 .0), slot-there (sheetAt (at-start .args .s .now) .instructions .list) (blockSite (at-start .args .s .now) (at-start .args .number)) (c .before .before .before .before .last-branch .result) (block-site (at-start .args .s .now) (at-start .args .number) (c .before .before .before .before .before .range-of .result) (c .before .before .before .before .before .range-of .ensures) (c .before .before .before .before .last-branch .ensures)) (c .before .before .at .given .1)))))
 
 enum-told : tie.Need-enum-told
 enum-told c = search needs
@@ -29,10 +31,15 @@ same-length : tie.Need-same-length
 same-length c = search needs
 
 returns : tie.Need-returns
-returns c = λ said is. block-kept (sheetAt (c .before .before .before .before .before .before .before .before .before .before .before .before .before .args .s .now) .instructions .list) (c .before .before .before .before .before .before .before .before .before .before .before .before .before .pre .1 .1 .0 .rising) (c .before .before .before .before .before .before .before .before .before .before .before .before .before .pre .1 .1 .0 .addresses) said (blockSite (c .before .before .before .before .before .before .before .before .before .before .before .before .before .args .s .now) (c .before .before .before .before .before .before .before .before .before .before .before .before .before .args .number)) (verdictOn (c .before .before .before .before .before .before .before .before .before .before .before .before .before .args .s .now) (c .before .before .before .before .before .before .before .before .before .before .before .before .before .args .number)) (c .before .before .before .before .before .before .before .last-branch .result) (block-site (c .before .before .before .before .before .before .before .before .before .before .before .before .before .args .s .now) (c .before .before .before .before .before .before .before .before .before .before .before .before .before .args .number) (c .before .before .before .before .before .before .before .before .range-of .result) (c .before .before .before .before .before .before .before .before .range-of .ensures) (c .before .before .before .before .before .before .before .last-branch .ensures)) is (c .before .before .before .before .before .at .given .1) (verdict-is (c .before .before .before .before .before .before .before .before .before .before .before .before .before .args .s .now) (c .before .before .before .before .before .before .before .before .before .before .before .before .before .args .sheet) (c .before .before .before .before .before .before .before .before .before .before .before .before .before .pre .0) (c .before .before .before .before .before .before .before .before .before .before .before .before .before .args .number) (c .before .before .before .before .before .before .before .before .range-of .ensures) refl) (c .before .before .keep-end .ensures)
+returns c =
+    let at-range-of = c .before .before .before .before .before .before .before .before in
+    let at-start = at-range-of .before .before .before .before .before in
+    λ said is. block-kept (sheetAt (at-start .args .s .now) .instructions .list) (at-start .pre .1 .1 .0 .rising) (at-start .pre .1 .1 .0 .addresses) said (blockSite (at-start .args .s .now) (at-start .args .number)) (verdictOn (at-start .args .s .now) (at-start .args .number)) (c .before .before .before .before .before .before .before .last-branch .result) (block-site (at-start .args .s .now) (at-start .args .number) (at-range-of .range-of .result) (at-range-of .range-of .ensures) (c .before .before .before .before .before .before .before .last-branch .ensures)) is (c .before .before .before .before .before .at .given .1) (verdict-is (at-start .args .s .now) (at-start .args .sheet) (at-start .pre .0) (at-start .args .number) (at-range-of .range-of .ensures) refl) (c .before .before .keep-end .ensures)
 
 returns-2 : tie.Need-returns-2
-returns-2 c = λ said is. block-silent (sheetAt (c .before .before .before .before .before .before .before .before .args .s .now) .instructions .list) (c .before .before .before .before .before .before .before .before .pre .1 .1 .0 .rising) (c .before .before .before .before .before .before .before .before .pre .1 .1 .0 .addresses) said (blockSite (c .before .before .before .before .before .before .before .before .args .s .now) (c .before .before .before .before .before .before .before .before .args .number)) (verdictOn (c .before .before .before .before .before .before .before .before .args .s .now) (c .before .before .before .before .before .before .before .before .args .number)) (c .before .before .last-branch .result) (block-site (c .before .before .before .before .before .before .before .before .args .s .now) (c .before .before .before .before .before .before .before .before .args .number) (c .before .before .before .range-of .result) (c .before .before .before .range-of .ensures) (c .before .before .last-branch .ensures)) is (c .enum-told .given .1) refl
+returns-2 c =
+    let at-start = c .before .before .before .before .before .before .before .before in
+    λ said is. block-silent (sheetAt (at-start .args .s .now) .instructions .list) (at-start .pre .1 .1 .0 .rising) (at-start .pre .1 .1 .0 .addresses) said (blockSite (at-start .args .s .now) (at-start .args .number)) (verdictOn (at-start .args .s .now) (at-start .args .number)) (c .before .before .last-branch .result) (block-site (at-start .args .s .now) (at-start .args .number) (c .before .before .before .range-of .result) (c .before .before .before .range-of .ensures) (c .before .before .last-branch .ensures)) is (c .enum-told .given .1) refl
 
 pub judge-block-spec : {M : Type 1} → statement M
 judge-block-spec =

@@ -23,7 +23,9 @@ loop-holds : tie.Need-loop-holds Inv-loop μ-loop
 loop-holds c = (omega arith, blocks-none (c .before .before .before .before .before .args .s .now) (sheetAt (c .before .before .before .before .before .args .s .now) .instructions .list) (c .before .before .before .before .before .pre .1 .1))
 
 judge-block-requires : tie.Need-judge-block-requires Inv-loop μ-loop
-judge-block-requires c κs = (c .before .before .before .before .before .before .before .before .pre .0, (c .before .loop-test .taken, (c .before .before .before .before .before .before .before .before .pre .1 .0, ap length (c .before .before .loop .inv .1) ∙ slots-length (sheetAt (c .before .before .before .before .before .before .before .before .args .s .now) .instructions .list) (blocksSay (c .before .before .before .before .before .before .before .before .args .s .now) (c .before .before .loop .i)) ∙ sym (index-addresses (c .before .before .before .before .before .before .before .before .pre .1 .0)))))
+judge-block-requires c κs =
+    let at-start = c .before .before .before .before .before .before .before .before in
+    (at-start .pre .0, (c .before .loop-test .taken, (at-start .pre .1 .0, ap length (c .before .before .loop .inv .1) ∙ slots-length (sheetAt (at-start .args .s .now) .instructions .list) (blocksSay (at-start .args .s .now) (c .before .before .loop .i)) ∙ sym (index-addresses (at-start .pre .1 .0)))))
 
 add-i : tie.Need-add-i Inv-loop μ-loop
 add-i c = omega arith
@@ -32,7 +34,9 @@ loop-less : tie.Need-loop-less Inv-loop μ-loop
 loop-less c = omega arith
 
 loop-again : tie.Need-loop-again Inv-loop μ-loop
-loop-again c = (omega arith, blocks-more (c .before .before .before .before .before .before .before .before .before .before .before .args .s .now) (sheetAt (c .before .before .before .before .before .before .before .before .before .before .before .args .s .now) .instructions .list) (c .before .before .before .before .before .loop .i) (c .before .before .judge-block .ensures (blocksSay (c .before .before .before .before .before .before .before .before .before .before .before .args .s .now) (c .before .before .before .before .before .loop .i)) (c .before .before .before .before .before .loop .inv .1)))
+loop-again c =
+    let at-start = c .before .before .before .before .before .before .before .before .before .before .before in
+    (omega arith, blocks-more (at-start .args .s .now) (sheetAt (at-start .args .s .now) .instructions .list) (c .before .before .before .before .before .loop .i) (c .before .before .judge-block .ensures (blocksSay (at-start .args .s .now) (c .before .before .before .before .before .loop .i)) (c .before .before .before .before .before .loop .inv .1)))
 
 same-length : tie.Need-same-length Inv-loop μ-loop
 same-length c = ap length (c .before .loop .inv .1) ∙ slots-length (sheetAt (c .before .before .before .before .before .before .before .args .s .now) .instructions .list) (blocksSay (c .before .before .before .before .before .before .before .args .s .now) (c .before .loop .i)) ∙ sym (ap length (c .before .before .before .before .before .before .before .pre .1 .1) ∙ slots-length (sheetAt (c .before .before .before .before .before .before .before .args .s .now) .instructions .list) [])
