@@ -30,16 +30,16 @@ unfolding common
 common-in a b h k =
     choice-in (ltb (bits a) (bits b)) b _ k (choice-in (ltb (bits b) (bits a)) a _ h (choice-in (signed a) b a k h))
 
-together-in : (a b : ℕ) → a < typeCount → b < typeCount → together a b < typeCount
+pub together-in : (a b : ℕ) → a < typeCount → b < typeCount → together a b < typeCount
 together-in a b h k = common-in (promoted a) (promoted b) (promoted-in a h) (promoted-in b k)
 
-binary-in : (o a b : ℕ) → o < operatorCount → a < typeCount → b < typeCount → binaryType o a b < typeCount
+pub binary-in : (o a b : ℕ) → o < operatorCount → a < typeCount → b < typeCount → binaryType o a b < typeCount
 unfolding binaryType
 binary-in o a b l h k =
     choice-in (ltb o opShl) (together a b) _ (together-in a b h k)
     (choice-in (ltb o opEqual) (promoted a) _ (promoted-in a h) (rw (lt-ltb o operatorCount l) (lit< tt)))
 
-constant-in : (w x : ℕ) → InWidth w x → constantType w < typeCount
+pub constant-in : (w x : ℕ) → InWidth w x → constantType w < typeCount
 unfolding constantType
 constant-in w x h =
     ⊎-elim (λ e. rw e (lit< tt)) (⊎-elim (λ e. rw e (lit< tt)) (⊎-elim (λ e. rw e (lit< tt)) (λ e. rw e (lit< tt)))) (h .width)

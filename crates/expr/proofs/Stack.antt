@@ -113,6 +113,20 @@ held-two types stack (a ∷ b ∷ st) top e h l = (
   at-place stack (top - 1) (suc (length st) + 2) (typeOf types a) (omega (arith, e)) (h .0),
 )
 
+-- one record: its type, stored where its first child's stood, is the type of its tree
+module _ (types stack : List ℕ) (st : List Expr) (top tag value : ℕ) (kind : kindOf tag ≤ kindTernary) (enough : arityOf tag ≤ length st) (height : top ≡ length st + 2) where
+  pub held-push : (n v : ℕ) → n ≡ arityOf tag → v ≡ recordType types tag (getD stack (top - 2) 0) (getD stack (top - 1) 0)
+      → top - n < length stack → Held types stack st → Held types (set stack (top - n) v) (push tag value st)
+  unfolding Held push
+  held-push n v e f l h = (
+    at-place (set stack (top - n) v) (length (drop (arityOf tag) st) + 2) (top - n) v (omega (arith, e, enough, height, length-drop (arityOf tag) st)) (getD-set-same stack (top - n) v 0 l)
+        ∙ f
+        ∙ record-agrees types tag (getD stack (top - 2) 0) (getD stack (top - 1) 0) (typeOf types (child st 1)) (typeOf types (child st 0)) kind
+        (λ two. held-two types stack st top height h (omega (arith, two, enough)))
+        ∙ sym (node-type types tag value st kind),
+    held-set types stack (drop (arityOf tag) st) (top - n) v (omega (arith, e, enough, height, length-drop (arityOf tag) st)) (held-drop types stack (arityOf tag) st h),
+  )
+
 -- what a pass over the records has at record i: the trees so far, whose types the array holds below `top`
 pub record Typed (rs types stack : List ℕ) (top i : ℕ) : Type 0 where
   pub trees : List Expr
@@ -139,7 +153,7 @@ module _ (rs types stack : List ℕ) (top i : ℕ) (more : i < length rs) (t : T
   -- one record: its type is stored where its first child's stood
   pub typed-push : (n v : ℕ) → n ≡ arityOf (getD rs i 0) → v ≡ recordType types (getD rs i 0) (getD stack (top - 2) 0) (getD stack (top - 1) 0)
       → top - n < 130 → Typed rs types (set stack (top - n) v) (top - n + 1) (i + 2)
-  unfolding Held push
+  unfolding push
   typed-push n v e f l =
       let st = t .trees in
       let tag = getD rs i 0 in
@@ -148,14 +162,7 @@ module _ (rs types stack : List ℕ) (top i : ℕ) (more : i < length rs) (t : T
         trees = push tag value st;
         rest = sym (here .parsed) ∙ t .rest;
         fed = here .fed;
-        held = (
-          at-place (set stack (top - n) v) (length (drop (arityOf tag) st) + 2) (top - n) v (omega (arith, e, here .enough, t .height, length-drop (arityOf tag) st)) (getD-set-same stack (top - n) v 0 (omega (arith, l, t .room)))
-              ∙ f
-              ∙ record-agrees types tag (getD stack (top - 2) 0) (getD stack (top - 1) 0) (typeOf types (child st 1)) (typeOf types (child st 0)) (here .formed .kind)
-              (λ two. held-two types stack st top (t .height) (t .held) (omega (arith, two, here .enough)))
-              ∙ sym (node-type types tag value st (here .formed .kind)),
-          held-set types stack (drop (arityOf tag) st) (top - n) v (omega (arith, e, here .enough, t .height, length-drop (arityOf tag) st)) (held-drop types stack (arityOf tag) st (t .held)),
-        );
+        held = held-push types stack st top tag value (here .formed .kind) (here .enough) (t .height) n v e f (omega (arith, l, t .room)) (t .held);
         room = length-set stack (top - n) v ∙ t .room;
         height = omega (arith, e, here .enough, t .height, length-push tag value st);
         few = omega (arith, t .few, length-drop (arityOf tag) st);

@@ -107,16 +107,14 @@ pub fn argument(tag: u64) -> u64
     tag / 16
 }
 
+// How many children a record of each kind takes, two bits for each: 1 for a load and a cast, 2 for a binary, 3 for a ternary.
+const ARITIES: u64 = 0x39400;
+
 // How many children the record with this tag word takes.
 pub fn arity(tag: u64) -> u64
     ensures { λ r. ⌜ r ≡ arityOf tag ⌝ }
 {
-    match kind(tag) {
-        LOAD | CAST => 1,
-        BINARY => 2,
-        TERNARY => 3,
-        _ => 0,
-    }
+    (ARITIES >> (2 * kind(tag))) % 4
 }
 
 // Whether a record of this kind stands among the words.
@@ -233,7 +231,7 @@ pub fn joined(a: u64, b: u64) -> u64
 }
 
 // The type of a constant of this width.
-fn constant_type(width: u64) -> u64
+pub fn constant_type(width: u64) -> u64
     ensures { λ r. ⌜ r ≡ constantType width ⌝ }
 {
     match width {

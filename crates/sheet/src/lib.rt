@@ -95,10 +95,8 @@ fn check_blocks(s: &[u8], p: Place, n: u64) -> Place
     }
 }
 
-// The offset after n nodes, with the offset of each at the start of the borrowed list, as far as it reaches. `words` is a buffer for
-// the words of expressions.
-fn read_nodes(s: &[u8], p: Place, n: u64, words: &mut [u64], places: &mut [u64]) -> Place
-    requires { ⌜ 256 ≤ length (now words) ⌝ }
+// The offset after n nodes, with the offset of each at the start of the borrowed list, as far as it reaches.
+fn read_nodes(s: &[u8], p: Place, n: u64, places: &mut [u64]) -> Place
     ensures { λ r. ⌜ (r ≡ nodesFrom (now (s .entry)) p n .next) × (WentOn r → now (places .exit) ≡ over (nodesFrom (now (s .entry)) p n .places) (now (places .entry))) ⌝ }
 {
     let mut next = p;
@@ -107,9 +105,8 @@ fn read_nodes(s: &[u8], p: Place, n: u64, words: &mut [u64], places: &mut [u64])
         if sheet_field::is_refused(next) {
             return next;
         }
-        let node = sheet_node::take_node(s, next, words);
         note(places, i as usize, sheet_field::start(next) as u64);
-        next = node.next;
+        next = sheet_node::check_node(s, next);
         i += 1;
     }
     next
@@ -137,7 +134,6 @@ fn answer(p: Place, sheet: Sheet) -> Reading
 pub fn read_index(s: &[u8], addresses: &mut [u64], places: &mut [u64], nodes: &mut [u64]) -> Reading
     ensures { λ r. ⌜ (r ≡ readingOf (now (s .entry))) × ((sheet : Sheet) → r ≡ Accepted sheet → Indexed (now (addresses .entry)) (now (addresses .exit)) (now (places .entry)) (now (places .exit)) (now (nodes .entry)) (now (nodes .exit)) (sheetAt (now (s .entry)))) ⌝ }
 {
-    let mut words = [0u64; 256];
     let i = sheet_field::count(s, Place::At(0), 0, 2048);
     let first_instruction = i.next;
     let after_instructions = read_instructions(s, first_instruction, i.value, addresses, places);
@@ -146,7 +142,7 @@ pub fn read_index(s: &[u8], addresses: &mut [u64], places: &mut [u64], nodes: &m
     let after_blocks = check_blocks(s, first_block, b.value);
     let n = sheet_field::count(s, after_blocks, 0, 1024);
     let first_node = n.next;
-    let after_nodes = read_nodes(s, first_node, n.value, &mut words, nodes);
+    let after_nodes = read_nodes(s, first_node, n.value, nodes);
     let sheet = Sheet {
         instructions: Section {
             count: i.value,

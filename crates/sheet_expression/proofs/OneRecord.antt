@@ -16,7 +16,7 @@ use Rattle.sheet_expression.specs.declared.RecordReading.{RecordReading}
 use Rattle.sheet_expression.specs.Expression.{hasArgument, argumentOk, argumentAt, constantAt, fitsWidth, depthAfter, recordAt}
 use Rattle.laws.proofs.Booleans.{and-both}
 
-or-true : (a b : Bool) → (a || b) ≡ true → (a ≡ true) ⊎ (b ≡ true)
+pub or-true : (a b : Bool) → (a || b) ≡ true → (a ≡ true) ⊎ (b ≡ true)
 or-true true b e = inl refl
 or-true false b e = inr e
 
@@ -50,6 +50,11 @@ argument-small variables kind s p few = go (hasArgument kind) refl
     go : (t : Bool) → hasArgument kind ≡ t → argumentAt variables kind s p .value ≤ 32
     go true e = rw e (check-below _ 2 (startOf p) (fieldAt 1 s p) 32 (ok-small variables kind (fieldAt 1 s p .value) few))
     go false e = rw e (omega arith)
+
+-- a kind is in its table
+pub kind-small : (s : List ℕ) (p : Place) → codeAt 9 s p .value ≤ 8
+unfolding codeAt
+kind-small s p = check-below _ 2 (startOf p) (fieldAt 1 s p) 8 (λ e. omega (arith, ltb-true (fieldAt 1 s p .value) 9 e))
 
 -- the cases of an argument
 pub argument-there : (variables kind : ℕ) (s : List ℕ) (p : Place) {f r : Field} {t ok : Bool} {start : ℕ}

@@ -61,7 +61,7 @@ pub addresses-stopped : (s : List ℕ) (p : Place) (n j : ℕ) (q : Place) → q
 addresses-stopped s p = stopped (λ j. addressesFrom s p j .next) (addresses-keep s p)
 
 -- types that were read whole stand inside the sheet
-types-end : (s : List ℕ) (p : Place) (k a : ℕ) → ((b : ℕ) → p ≡ At b → b ≤ length s) → typesFrom s p k ≡ At a
+pub types-end : (s : List ℕ) (p : Place) (k a : ℕ) → ((b : ℕ) → p ≡ At b → b ≤ length s) → typesFrom s p k ≡ At a
     → (startOf p + k ≡ a) × (a ≤ length s)
 unfolding typesFrom
 types-end s p zero a inside e = (rw e (omega arith), inside a e)

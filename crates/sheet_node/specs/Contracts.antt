@@ -8,7 +8,9 @@ use Rattle.sheet_field.specs.Field.{WentOn}
 use Rattle.sheet_node.specs.declared.StatementReading.{StatementReading}
 use Rattle.sheet_node.specs.declared.NodeReading.{NodeReading}
 use Rattle.sheet_node.specs.declared.NodeFront.{NodeFront}
-use Rattle.sheet_node.specs.Node.{StatementRead, nodeAt}
+use Rattle.sheet_field.specs.Field.{countAt}
+use Rattle.sheet_expression.specs.Expression.{expressionAt}
+use Rattle.sheet_node.specs.Node.{StatementRead, statementsFrom, addressesFrom, nodeAt}
 
 -- What a reader of a statement leaves: the statement, and a borrowed list that was `before` and is `after`: where reading went
 -- on, the value's words stand at its start, and the rest is as it was.
@@ -29,3 +31,13 @@ pub record ReadNode (s : List ℕ) (node : NodeReading) : Type 0 where
   pub at : Place
   pub is : node ≡ nodeAt s at
   pub on : WentOn (node .next)
+
+-- the offset after a count of addresses and the addresses
+unfoldable pub addressesEnd : List ℕ → Place → Place
+addressesEnd s p = let n = countAt 0 16 s p in addressesFrom s (n .next) (n .value) .next
+
+-- the offset after what stands behind a node's types
+unfoldable pub bodyEnd : List ℕ → List ℕ → Place → Place
+bodyEnd types s p =
+    let n = countAt 0 64 s p in
+    addressesEnd s (expressionAt (length types) s (statementsFrom types s (n .next) (n .value) .next) .next)

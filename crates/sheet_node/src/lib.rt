@@ -9,8 +9,9 @@ ghost use lib.ListN.{length};
 ghost use Rattle.sheet_field.specs.declared.Place.the-variants.{At};
 ghost use Rattle.expr.specs.Tree.{Wf, treeOf};
 ghost use Rattle.expr.specs.Types.{typeOf};
+ghost use Rattle.expr.specs.Admission.{InTable};
 ghost use Rattle.sheet_node.specs.Node.{mapAt, typedAt, assignmentAt, statementAt, statementsFrom, typesFrom, typesOf, addressesFrom, nodeAt, typesIn};
-ghost use Rattle.sheet_node.specs.Contracts.{TookStatement, frontOf, ReadNode};
+ghost use Rattle.sheet_node.specs.Contracts.{TookStatement, frontOf, ReadNode, addressesEnd, bodyEnd};
 
 // A statement: whether it is an assignment, to which variable, how many records its value has, and the offset after it.
 // Any other statement has no variable and no records.
@@ -121,7 +122,7 @@ pub fn take_statement(s: &[u8], p: Place, types: &[u8], out: &mut [u64]) -> Stat
 }
 
 // The offset after n statements. The words of their values are taken into `words`, one after the other.
-fn check_statements(s: &[u8], p: Place, types: &[u8], n: u64, words: &mut [u64]) -> Place
+fn statements_end(s: &[u8], p: Place, types: &[u8], n: u64, words: &mut [u64]) -> Place
     requires { ⌜ (length (now types) ≤ 32) × (256 ≤ length (now words)) ⌝ }
     ensures { λ r. ⌜ r ≡ statementsFrom (now (types .entry)) (now (s .entry)) p n .next ⌝ }
 {
@@ -138,7 +139,7 @@ fn check_statements(s: &[u8], p: Place, types: &[u8], n: u64, words: &mut [u64])
     next
 }
 
-fn check_types(s: &[u8], p: Place, n: u64) -> Place
+fn types_end_of(s: &[u8], p: Place, n: u64) -> Place
     ensures { λ r. ⌜ r ≡ typesFrom (now (s .entry)) p n ⌝ }
 {
     let mut next = p;
@@ -154,7 +155,7 @@ fn check_types(s: &[u8], p: Place, n: u64) -> Place
     next
 }
 
-fn check_addresses(s: &[u8], p: Place, n: u64) -> Place
+fn addresses_end(s: &[u8], p: Place, n: u64) -> Place
     ensures { λ r. ⌜ r ≡ addressesFrom (now (s .entry)) p n .next ⌝ }
 {
     let mut next = p;
@@ -187,7 +188,7 @@ pub fn take_front(s: &[u8], p: Place) -> NodeFront
 {
     let v = sheet_field::count(s, p, 0, 32);
     let types = v.next;
-    let end = check_types(s, types, v.value);
+    let end = types_end_of(s, types, v.value);
     let k = sheet_field::count(s, end, 0, 64);
     let body = k.next;
     NodeFront {
@@ -216,11 +217,11 @@ pub fn take_node(s: &[u8], p: Place, words: &mut [u64]) -> NodeReading
 {
     let v = sheet_field::count(s, p, 0, 32);
     let types_at = v.next;
-    let types_end = check_types(s, types_at, v.value);
+    let types_end = types_end_of(s, types_at, v.value);
     let types = types_of(s, types_end, sheet_field::start(types_at), v.value as usize);
     let k = sheet_field::count(s, types_end, 0, 64);
     let body = k.next;
-    let condition = check_statements(s, body, types, k.value, words);
+    let condition = statements_end(s, body, types, k.value, words);
     let e = sheet_expression::take_expression(s, condition, types.len() as u64, words);
     let condition_end = e.next;
     let a = sheet_field::count(s, condition_end, 0, 16);
@@ -233,6 +234,127 @@ pub fn take_node(s: &[u8], p: Place, words: &mut [u64]) -> NodeReading
         condition,
         addresses: a.value,
         sites,
-        next: check_addresses(s, sites, a.value),
+        next: addresses_end(s, sites, a.value),
     }
+}
+
+// The offset after the statement at an offset.
+fn check_statement(s: &[u8], at: usize, types: &[u8]) -> Place
+    requires { ⌜ (length (now types) ≤ 32) × InTable (now types) ⌝ }
+    ensures { λ r. ⌜ r ≡ statementAt (now (types .entry)) (now (s .entry)) (At at) .next ⌝ }
+{
+    let map = take_map(s, Place::At(at));
+    let after = map.next;
+    let Place::At(variable_at) = after else {
+        return after;
+    };
+    if map.value != 3 {
+        return after;
+    }
+    let v = sheet_field::code(s, Place::At(variable_at), types.len() as u64);
+    let behind = v.next;
+    let Place::At(value_at) = behind else {
+        return behind;
+    };
+    let e = sheet_expression::check_expression(s, value_at, types);
+    let end = e.next;
+    let Place::At(_) = end else {
+        return end;
+    };
+    let own = types[v.value as usize];
+    if expr::same_type(e.typing, own as u64) {
+        return end;
+    }
+    Place::Refused(refusal::TYPE, at)
+}
+
+// The offset after n statements.
+fn check_statements(s: &[u8], from: usize, types: &[u8], n: u64) -> Place
+    requires { ⌜ (length (now types) ≤ 32) × InTable (now types) ⌝ }
+    ensures { λ r. ⌜ r ≡ statementsFrom (now (types .entry)) (now (s .entry)) (At from) n .next ⌝ }
+{
+    let mut at = from;
+    let mut i: u64 = 0;
+    while i < n {
+        let next = check_statement(s, at, types);
+        let Place::At(end) = next else {
+            return next;
+        };
+        at = end;
+        i += 1;
+    }
+    Place::At(at)
+}
+
+// The offset after n types.
+fn check_types(s: &[u8], from: usize, n: u64) -> Place
+    ensures { λ r. ⌜ r ≡ typesFrom (now (s .entry)) (At from) n ⌝ }
+{
+    let mut at = from;
+    let mut i: u64 = 0;
+    while i < n {
+        let f = sheet_field::code(s, Place::At(at), 10);
+        let next = f.next;
+        let Place::At(end) = next else {
+            return next;
+        };
+        at = end;
+        i += 1;
+    }
+    Place::At(at)
+}
+
+// The offset after a count of addresses and the addresses, 8 bytes each.
+fn check_addresses(s: &[u8], from: usize) -> Place
+    ensures { λ r. ⌜ r ≡ addressesEnd (now (s .entry)) (At from) ⌝ }
+{
+    let n = sheet_field::count(s, Place::At(from), 0, 16);
+    let first = n.next;
+    let Place::At(at) = first else {
+        return first;
+    };
+    let room = s.len() - at;
+    let size = 8 * (n.value as usize);
+    if size <= room {
+        return Place::At(at + size);
+    }
+    Place::Refused(refusal::ENDS, at + room / 8 * 8)
+}
+
+// The offset after what stands behind a node's types.
+fn check_body(s: &[u8], from: usize, types: &[u8]) -> Place
+    requires { ⌜ (length (now types) ≤ 32) × InTable (now types) ⌝ }
+    ensures { λ r. ⌜ r ≡ bodyEnd (now (types .entry)) (now (s .entry)) (At from) ⌝ }
+{
+    let n = sheet_field::count(s, Place::At(from), 0, 64);
+    let first = n.next;
+    let Place::At(body) = first else {
+        return first;
+    };
+    let last = check_statements(s, body, types, n.value);
+    let Place::At(condition) = last else {
+        return last;
+    };
+    let e = sheet_expression::check_expression(s, condition, types);
+    let next = e.next;
+    let Place::At(end) = next else {
+        return next;
+    };
+    check_addresses(s, end)
+}
+
+// The offset after the node record at an offset.
+pub fn check_node(s: &[u8], p: Place) -> Place
+    ensures { λ r. ⌜ r ≡ nodeAt (now (s .entry)) p .next ⌝ }
+{
+    let n = sheet_field::count(s, p, 0, 32);
+    let first = n.next;
+    let Place::At(from) = first else {
+        return first;
+    };
+    let next = check_types(s, from, n.value);
+    let Place::At(end) = next else {
+        return next;
+    };
+    check_body(s, end, &s[from..end])
 }

@@ -21,9 +21,6 @@ check-blocks-requires c κs = rw (c .count2 .ensures) (count-most 0 1024 _ _)
 count-requires-3 : tie.Need-count-requires-3
 count-requires-3 c κs = search needs
 
-slice-aggregate-read-nodes : tie.Need-slice-aggregate-read-nodes
-slice-aggregate-read-nodes c = search needs
-
 read-nodes-requires : tie.Need-read-nodes-requires
 read-nodes-requires c κs = search needs
 
@@ -53,8 +50,8 @@ same-length-3 c = search needs
 
 returns : tie.Need-returns
 returns c =
-    let at-read-nodes = c .before .before .before .before .before .before .before .before in
-    let at-count3 = at-read-nodes .before .before .before in
+    let at-read-nodes = c .before .before .before .before .before .before .before in
+    let at-count3 = at-read-nodes .before .before in
     let at-check-blocks = at-count3 .before in
     let at-count2 = at-check-blocks .before in
     let at-read-instructions = at-count2 .before .before .before .before .before in
@@ -70,7 +67,6 @@ read-index-spec =
     count-requires-2
     check-blocks-requires
     count-requires-3
-    slice-aggregate-read-nodes
     read-nodes-requires
     start-requires
     start-requires-2

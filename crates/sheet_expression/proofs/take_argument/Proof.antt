@@ -1,3 +1,4 @@
+use mathlib.Core.Path.{sym, _∙_}
 use Rattle.sheet_expression.proofs.OneRecord.{argument-there, argument-none}
 use borrow.Author.Needs.{needs}
 use Rattle.sheet_expression.proofs.take_argument.Statement.{statement}
@@ -10,7 +11,7 @@ take-field-requires : tie.Need-take-field-requires
 take-field-requires c κs = search needs
 
 argument-ok-requires : tie.Need-argument-ok-requires
-argument-ok-requires c κs = search needs
+argument-ok-requires c κs = (c .before .before .before .before .pre .0, c .before .before .before .before .pre .1, sym (c .before .before .has-argument .ensures) ∙ c .before .if1 .taken)
 
 start-requires : tie.Need-start-requires
 start-requires c κs = search needs

@@ -1,4 +1,4 @@
-use Rattle.sheet_expression.proofs.OneRecord.{argument-small, record-is}
+use Rattle.sheet_expression.proofs.OneRecord.{argument-small, kind-small, record-is}
 use Rattle.sheet_field.proofs.Fields.{code-most}
 use native.Mathlib.Omega.{arith}
 use Prim.Native.Nat.{_≤_}
@@ -10,7 +10,7 @@ code-requires : tie.Need-code-requires
 code-requires c κs = search needs
 
 take-argument-requires : tie.Need-take-argument-requires
-take-argument-requires c κs = search needs
+take-argument-requires c κs = (c .before .before .pre .0, rw (c .code .ensures) (kind-small _ _))
 
 take-constant-requires : tie.Need-take-constant-requires
 take-constant-requires c κs = search needs

@@ -1,55 +1,54 @@
-use Rattle.sheet_node.proofs.Nodes.{addresses-more, addresses-stopped}
-use Rattle.sheet_node.specs.Node.{addressesFrom}
+use Rattle.sheet_node.proofs.Checks.{addresses-count-ends, addresses-room, addresses-end, addresses-stop}
 use native.Mathlib.Omega.{arith}
 use borrow.Author.Needs.{needs}
-use mathlib.Core.Path.{_≡_, refl, sym, _∙_}
-use Prim.Native.Nat.{_≤_, _-_}
 use Rattle.sheet_node.proofs.check_addresses.Statement.{statement}
 use Rattle.sheet_node.proofs.check_addresses.Tie as tie
 
-abbrev Inv-loop : tie.InvT-loop
-Inv-loop s n next₀ i₀ next i =
-    (i ≤ n) × (next ≡ addressesFrom s next₀ i .next)
+count-requires : tie.Need-count-requires
+count-requires c κs = search needs
 
-abbrev μ-loop : tie.MeasureT-loop
-μ-loop s n next₀ i₀ next i = n - i
+enum-known-first : tie.Need-enum-known-first
+enum-known-first c = search needs
 
-loop-holds : tie.Need-loop-holds Inv-loop μ-loop
-unfolding addressesFrom
-loop-holds c = (search needs, refl)
+enum-told : tie.Need-enum-told
+enum-told c = search needs
 
-is-refused-requires : tie.Need-is-refused-requires Inv-loop μ-loop
-is-refused-requires c κs = search needs
+returns : tie.Need-returns
+returns c = addresses-count-ends _ _ (c .before .before .count .ensures) (c .enum-told .given .1)
 
-returns : tie.Need-returns Inv-loop μ-loop
-returns c = addresses-stopped _ _ _ _ _ (c .before .before .before .loop .inv .1) (sym (c .before .is-refused .ensures) ∙ c .if1 .taken) (omega arith)
+sub-room : tie.Need-sub-room
+sub-room c = let a = c .before .before .before .before .before .args in addresses-room (a .s .now) _ (c .before .before .before .count .ensures) (c .before .first .given .1) .0
 
-take-field-requires : tie.Need-take-field-requires Inv-loop μ-loop
-take-field-requires c κs = search needs
+mul-size : tie.Need-mul-size
+mul-size c = let a = c .before .before .before .before .before .args in omega (arith, addresses-room (a .s .now) _ (c .before .before .before .count .ensures) (c .before .first .given .1) .1)
 
-add-i : tie.Need-add-i Inv-loop μ-loop
-add-i c = search needs
+add-t11 : tie.Need-add-t11
+add-t11 c = search needs
 
-loop-less : tie.Need-loop-less Inv-loop μ-loop
-loop-less c = search needs
+returns-2 : tie.Need-returns-2
+returns-2 c = let a = c .before .before .before .before .before .before .args in addresses-end (a .s .now) _ (c .before .before .before .before .count .ensures) (c .before .before .first .given .1) (omega (arith, addresses-room (a .s .now) _ (c .before .before .before .before .count .ensures) (c .before .before .first .given .1) .0))
 
-loop-again : tie.Need-loop-again Inv-loop μ-loop
-loop-again c = (search needs, rw (c .take-field .ensures, c .before .before .before .before .loop .inv .1) (addresses-more _ _ _))
+mul-t12 : tie.Need-mul-t12
+mul-t12 c = search needs
 
-returns-2 : tie.Need-returns-2 Inv-loop μ-loop
-returns-2 c = let e : c .before .before .before .args .n ≡ c .before .loop .i = omega arith in rw e (c .before .loop .inv .1)
+add-t13 : tie.Need-add-t13
+add-t13 c = search needs
+
+returns-3 : tie.Need-returns-3
+returns-3 c = let a = c .before .before .before .before .before .before .args in addresses-stop (a .s .now) _ (c .before .before .before .before .count .ensures) (c .before .before .first .given .1) (omega (arith, addresses-room (a .s .now) _ (c .before .before .before .before .count .ensures) (c .before .before .first .given .1) .0))
 
 pub check-addresses-spec : {M : Type 1} → statement M
 check-addresses-spec =
     tie.close
     (tie.spec
-    Inv-loop
-    μ-loop
-    loop-holds
-    is-refused-requires
+    count-requires
+    enum-known-first
+    enum-told
     returns
-    take-field-requires
-    add-i
-    loop-less
-    loop-again
-    returns-2)
+    sub-room
+    mul-size
+    add-t11
+    returns-2
+    mul-t12
+    add-t13
+    returns-3)

@@ -6,14 +6,14 @@ use Rattle.sheet_node.proofs.take_front.Tie as tie
 count-requires : tie.Need-count-requires
 count-requires c κs = search needs
 
-check-types-requires : tie.Need-check-types-requires
-check-types-requires c κs = search needs
+types-end-of-requires : tie.Need-types-end-of-requires
+types-end-of-requires c κs = search needs
 
 count-requires-2 : tie.Need-count-requires-2
 count-requires-2 c κs = search needs
 
 returns : tie.Need-returns
-returns c = front-is _ _ (c .before .before .count .ensures) (c .before .check-types .ensures) (c .count2 .ensures)
+returns c = front-is _ _ (c .before .before .count .ensures) (c .before .types-end-of .ensures) (c .count2 .ensures)
 
 pub take-front-spec : {M : Type 1} → statement M
-take-front-spec = tie.close (tie.spec count-requires check-types-requires count-requires-2 returns)
+take-front-spec = tie.close (tie.spec count-requires types-end-of-requires count-requires-2 returns)
