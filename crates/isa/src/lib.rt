@@ -5,7 +5,8 @@ ghost use Prim.Native.Nat.{_<_};
 ghost use Rattle.isa.specs.Register.{wellFormed};
 ghost use Rattle.isa.specs.Mnemonics.{named};
 ghost use Rattle.isa.specs.FlagBits.{declares};
-ghost use Rattle.isa.specs.Modelled.{isRegister, isAbsent, takes, modelled, sizesDiffer, outside, isMov, declaresResult, declaresOwn, undeclared, atFault};
+ghost use Rattle.isa.specs.Modelled.{isRegister, isAbsent, takes, modelled, sizesDiffer, outside, isMov, declaresResult, declaresOwn, undeclared};
+ghost use Rattle.isa.specs.Contracts.{isSize, faultOf};
 
 // Class 1 are the general registers; index, size in bits and offset in bits name the part.
 pub struct Register {
@@ -166,15 +167,27 @@ pub fn is_declared(flags: u64, flag: u64) -> bool
     flags / flag % 2 == 1
 }
 
+fn is_size(size: u8) -> bool
+    ensures { λ r. ⌜ r ≡ isSize size ⌝ }
+{
+    match size {
+        8 | 16 | 32 | 64 => true,
+        _ => false,
+    }
+}
+
 pub fn well_formed(r: Register) -> bool
     ensures { λ ok. ⌜ ok ≡ wellFormed r ⌝ }
 {
+    if r.class != 1 {
+        return true;
+    }
     let index = r.index;
     let size = r.size;
-    let offset = r.offset;
-    let low = (offset == 0) & ((size == 8) | (size == 16) | (size == 32) | (size == 64));
-    let high = (offset == 8) & (size == 8) & (index <= 3);
-    (r.class != 1) | ((index <= 15) & (low | high))
+    if r.offset == 0 {
+        return (index <= 15) & is_size(size);
+    }
+    (index <= 15) & (r.offset == 8) & (size == 8) & (index <= 3)
 }
 
 fn is_register(o: Operand) -> bool
@@ -304,13 +317,13 @@ fn is_undeclared(m: Mnemonic, flags: u64) -> bool
     }
 }
 
-// Refusal 6.
-pub fn is_at_fault(i: Instruction) -> bool
-    ensures { λ r. ⌜ r ≡ atFault i ⌝ }
+// Refusal 6, from what it depends on.
+pub fn is_at_fault(m: Mnemonic, call: bool, first: Operand, second: Operand, flags: u64) -> bool
+    ensures { λ r. ⌜ r ≡ faultOf m call first second flags ⌝ }
 {
-    let m = i.mnemonic;
-    let first = i.first;
-    let second = i.second;
+    if call | !is_taken(m, is_register(first), is_absent(second)) {
+        return false;
+    }
     let other_class = !is_mov(m) & (is_outside(first) | is_outside(second));
-    is_modelled(i) & (sizes_differ(first, second) | other_class | is_undeclared(m, i.flags))
+    sizes_differ(first, second) | other_class | is_undeclared(m, flags)
 }

@@ -2,6 +2,7 @@
 use Prim.Native.Nat.{ℕ, zero, suc, _+_, _≤_, _<_}
 use mathlib.Core.Path.{_≡_, refl, sym, ap, _∙_}
 use mathlib.Core.List.{List, [], _∷_, _++_, map}
+use mathlib.Core.Bool.{true}
 use native.Mathlib.Omega.{arith}
 use native.Mathlib.Numerals.{add-one}
 use lib.Dec.{eqb}
@@ -14,6 +15,7 @@ use Rattle.sheet_field.proofs.Counted.{counted, nth}
 use Rattle.isa.specs.declared.Instruction.{Instruction}
 use Rattle.sheet_instruction.specs.declared.InstructionReading.{InstructionReading}
 use Rattle.sheet_instruction.specs.Instruction.{instructionAt}
+use Rattle.sheet_instruction.proofs.Accepted.{instruction-on}
 use Rattle.sheet.specs.Sheet.{InstructionsRead, NodesRead, instructionsFrom, blocksFrom, nodesFrom, sheetAt, readingOf}
 use Rattle.sheet.specs.declared.Sheet.{Sheet}
 use Rattle.sheet.specs.declared.Reading.the-variants as reading
@@ -118,24 +120,44 @@ unfolding instructionsFrom over addressesOf
 noting-none s from a p =
     record { before = refl; place = refl; noted = record { addresses = refl; places = refl } }
 
-module _ (s : List ℕ) (from : Place) (k : ℕ) {a₀ a a′ p₀ p p′ : List ℕ} {last start : ℕ} {next : Place} {r : InstructionReading}
-    (f : Noting k a₀ a p₀ p last next (instructionsFrom s from k)) (r-is : r ≡ instructionAt (eqb k 0) last s next)
-    (a-is : a′ ≡ set a k (r .instruction .address)) (start-is : start ≡ startOf next) (p-is : p′ ≡ set p k start) where
-  pub noting-more : Noting (k + 1) a₀ a′ p₀ p′ (r .instruction .address) (r .next) (instructionsFrom s from (k + 1))
-  unfolding instructionsFrom addressesOf
-  noting-more =
-      let u = instructionsFrom s from k in
-      let now : r ≡ instructionAt (eqb k 0) (u .last) s (u .next) = rw (← f .before, ← f .place) r-is in
-      let begin : startOf (u .next) ≡ start = rw (← f .place) (sym start-is) in
-      let long : length (u .list) ≡ k = instructions-length s from k in
-      rw (add-one k, ← now) record {
-        before = refl;
-        place = refl;
-        noted = record {
-          addresses = rw (a-is, map-more) (entry _ _ _ k (f .noted .addresses) (rw length-map long));
-          places = rw (p-is, begin) (entry _ _ _ k (f .noted .places) (places-length s from k));
-        };
-      }
+-- one instruction more, read at an offset
+module _ (s : List ℕ) (from : Place) (k : ℕ) {a₀ a p₀ p : List ℕ} {last at : ℕ} {next : Place}
+    (f : Noting k a₀ a p₀ p last (At at) (instructionsFrom s from k)) (next-is : next ≡ instructionAt (eqb k 0) last s (At at) .next) where
+  read : InstructionReading
+  read = instructionAt (eqb k 0) last s (At at)
+
+  read-is : instructionAt (eqb k 0) (instructionsFrom s from k .last) s (instructionsFrom s from k .next) ≡ read
+  unfolding read
+  read-is = rw (← f .before, ← f .place)
+
+  pub next-place : next ≡ instructionsFrom s from (k + 1) .next
+  unfolding instructionsFrom read
+  next-place = rw (add-one k, read-is) next-is
+
+  module _ {end : ℕ} (went : next ≡ At end) where
+    again : instructionAt true 0 s (At at) ≡ read
+    unfolding read
+    again = instruction-on (eqb k 0) last s (At at) (sym next-is ∙ went) .again
+
+    pub taken-on : WentOn (instructionAt true 0 s (At at) .next)
+    unfolding read
+    taken-on = (end, rw again (sym next-is ∙ went))
+
+    pub noting-more : {address : ℕ} {a′ p′ : List ℕ} → address ≡ instructionAt true 0 s (At at) .instruction .address
+        → a′ ≡ set a k address → p′ ≡ set p k at → Noting (k + 1) a₀ a′ p₀ p′ address (At end) (instructionsFrom s from (k + 1))
+    unfolding instructionsFrom addressesOf
+    noting-more {address} address-is a-is p-is =
+        let u = instructionsFrom s from k in
+        let the : address ≡ read .instruction .address = rw (← again) address-is in
+        let long : length (u .list) ≡ k = instructions-length s from k in
+        record {
+          before = rw (add-one k) (the ∙ ap (λ (r : InstructionReading). r .instruction .address) (sym read-is));
+          place = sym went ∙ next-place;
+          noted = rw (add-one k, read-is) record {
+            addresses = rw (a-is, the, map-more) (entry _ _ _ k (f .noted .addresses) (rw length-map long));
+            places = rw (p-is, ← f .place) (entry _ _ _ k (f .noted .places) (places-length s from k));
+          };
+        }
 
 -- the loop over nodes
 pub places-none : (s : List ℕ) (from : Place) (n : List ℕ) → n ≡ over (nodesFrom s from 0 .places) n

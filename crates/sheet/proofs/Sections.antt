@@ -1,6 +1,6 @@
 -- Laws of the sections: where reading is refused, and one record more.
 use Prim.Native.Nat.{ℕ, suc, _+_, _≤_}
-use mathlib.Core.Path.{_≡_}
+use mathlib.Core.Path.{_≡_, refl}
 use mathlib.Core.List.{List}
 use mathlib.Core.Bool.{true, false, false≢true}
 use native.Mathlib.Numerals.{add-one}
@@ -41,6 +41,13 @@ blocks-stopped s p = stopped (λ j. blocksFrom s p j .next) (blocks-keep s p)
 pub nodes-stopped : (s : List ℕ) (p : Place) (n j : ℕ) (q : Place) → q ≡ nodesFrom s p j .next → isRefused q ≡ true → j ≤ n
     → q ≡ nodesFrom s p n .next
 nodes-stopped s p = stopped (λ j. nodesFrom s p j .next) (nodes-keep s p)
+
+pub refused-is : {p : Place} {k at : ℕ} → p ≡ Refused k at → isRefused p ≡ true
+refused-is e = rw e
+
+pub none-read : (s : List ℕ) (p : Place) → p ≡ instructionsFrom s p 0 .next
+unfolding instructionsFrom
+none-read s p = refl
 
 -- nothing is said of the index where reading was refused
 pub not-on : {X : Type 0} {p : Place} → isRefused p ≡ true → WentOn p → X

@@ -52,22 +52,24 @@ fn note(list: &mut [u64], i: usize, x: u64)
 fn read_instructions(s: &[u8], p: Place, n: u64, addresses: &mut [u64], places: &mut [u64]) -> Place
     ensures { λ r. ⌜ (r ≡ instructionsFrom (now (s .entry)) p n .next) × (WentOn r → Noted (now (addresses .entry)) (now (addresses .exit)) (now (places .entry)) (now (places .exit)) (instructionsFrom (now (s .entry)) p n)) ⌝ }
 {
+    let Place::At(first) = p else {
+        return p;
+    };
     let mut last: u64 = 0;
-    let mut next = p;
+    let mut at = first;
     let mut i: u64 = 0;
     while i < n {
-        if sheet_field::is_refused(next) {
+        let next = sheet_instruction::check_instruction(s, at, i == 0, last);
+        let Place::At(end) = next else {
             return next;
-        }
-        let r = sheet_instruction::take_instruction(s, next, i == 0, last);
-        let it = r.instruction;
-        note(addresses, i as usize, it.address);
-        note(places, i as usize, sheet_field::start(next) as u64);
-        last = it.address;
-        next = r.next;
+        };
+        last = sheet_accepted::address_at(s, at);
+        note(addresses, i as usize, last);
+        note(places, i as usize, at as u64);
+        at = end;
         i += 1;
     }
-    next
+    Place::At(at)
 }
 
 // How many bytes a sheet has from an offset on.

@@ -22,7 +22,7 @@ use Rattle.sheet_accepted.specs.declared.Number.{Number}
 use Rattle.sheet_accepted.specs.declared.Part.{Part}
 use Rattle.sheet_accepted.specs.declared.Content.{Content}
 use Rattle.sheet_accepted.specs.Contracts.{numberIf, contentAt}
-use Rattle.sheet_accepted.proofs.Stages.{check-is, field-is, code-is, count-is, registers-place, register-inside}
+use Rattle.sheet_instruction.proofs.Stages.{check-is, field-is, code-is, count-is, registers-place, register-inside}
 
 -- optional fields
 optional-code-is : (there : Bool) (s : List ℕ) (a : ℕ) {b : ℕ} → optionalCode there 32 s (At a) .next ≡ At b
@@ -154,7 +154,11 @@ module _ (s : List ℕ) (at : ℕ) (on : WentOn (instructionAt true 0 s (At at) 
   unfolding headAt
   target-is = optional-field-is (bitOf (little s at 1) 1) s (at + 10) (rw (number-is .2, map-is) at (behind-head .1))
 
-  -- its mark and its target
+  -- its address, its mark and its target
+  pub address-here : {address : ℕ} → address ≡ little s (at + 1) 8 → address ≡ instructionAt true 0 s (At at) .instruction .address
+  unfolding instructionAt headAt
+  address-here read = rw (read, address-is)
+
   pub branch-here : {map : ℕ} → map ≡ little s at 1 → bitOf map 1 ≡ instructionAt true 0 s (At at) .instruction .branch
   unfolding instructionAt headAt
   branch-here map-read = rw (map-read, map-is)

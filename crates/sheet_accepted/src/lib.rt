@@ -9,7 +9,7 @@ ghost use Prim.Native.Nat.{_+_, _≤_};
 ghost use lib.ListN.{length};
 ghost use Rattle.sheet_field.specs.declared.Place.the-variants.{At};
 ghost use Rattle.sheet_field.specs.Field.{WentOn, bytesOf};
-ghost use Rattle.sheet_instruction.specs.Instruction.{registerAt, operandAt, registersFrom, optionalOperand, tailAt, instructionAt};
+ghost use Rattle.sheet_instruction.specs.Instruction.{operandAt, registersFrom, optionalOperand, tailAt, instructionAt};
 ghost use Rattle.sheet_accepted.specs.Contracts.{numberIf, contentAt};
 
 // A number, 0 where the record has none, and the offset after it.
@@ -47,25 +47,13 @@ fn number_if(there: bool, s: &[u8], at: usize, w: Width) -> Number
     }
 }
 
-fn register_at(s: &[u8], at: usize) -> Register
-    requires { ⌜ at + 4 ≤ length (now s) ⌝ }
-    ensures { λ r. ⌜ r ≡ registerAt (now (s .entry)) (At at) .register ⌝ }
-{
-    Register {
-        class: s[at],
-        index: s[at + 1],
-        size: s[at + 2],
-        offset: s[at + 3],
-    }
-}
-
 fn operand_at(s: &[u8], at: usize) -> Part
     requires { ⌜ WentOn (operandAt (now s) (At at) .next) ⌝ }
     ensures { λ r. ⌜ (r .operand ≡ operandAt (now (s .entry)) (At at) .operand) × (At (r .end) ≡ operandAt (now (s .entry)) (At at) .next) ⌝ }
 {
     let kind = s[at];
     if kind == 0 {
-        let register = register_at(s, at + 1);
+        let register = sheet_instruction::register_at(s, at + 1);
         return Part {
             operand: Operand::Reg(register),
             end: at + 5,
@@ -112,7 +100,7 @@ fn registers_at(s: &[u8], at: usize, n: u64) -> [Register; 8]
     let mut list = [none; 8];
     let mut i: usize = 0;
     while i < n as usize {
-        let register = register_at(s, at + 4 * i);
+        let register = sheet_instruction::register_at(s, at + 4 * i);
         list[i] = register;
         i += 1;
     }
@@ -138,6 +126,14 @@ fn content_at(s: &[u8], at: usize, map: u64) -> Content
         count: n.value,
         flags: f.value,
     }
+}
+
+// The address of the instruction that was read at that offset.
+pub fn address_at(s: &[u8], at: usize) -> u64
+    requires { ⌜ WentOn (instructionAt true 0 (now s) (At at) .next) ⌝ }
+    ensures { λ r. ⌜ r ≡ instructionAt true 0 (now (s .entry)) (At at) .instruction .address ⌝ }
+{
+    sheet_field::number(s, at + 1, Width::Eight)
 }
 
 // Whether the instruction that was read at that offset is a conditional branch.

@@ -17,12 +17,6 @@ pub struct Field {
     pub next: Place,
 }
 
-// The same of a field of one byte.
-pub struct Byte {
-    pub value: u8,
-    pub next: Place,
-}
-
 fn wide(byte: u8) -> u16
     ensures { λ r. ⌜ (r ≡ byte) × (r < 256) ⌝ }
 {
@@ -100,31 +94,6 @@ pub fn take_field(s: &[u8], p: Place, w: Width) -> Field
             Field {
                 value: 0,
                 next: Place::Refused(refusal::ENDS, at),
-            }
-        }
-    }
-}
-
-// A field of one byte, as a byte.
-pub fn take_byte(s: &[u8], p: Place) -> Byte
-    ensures { λ r. ⌜ (r .value ≡ fieldAt 1 (now (s .entry)) p .value) × (r .next ≡ fieldAt 1 (now (s .entry)) p .next) ⌝ }
-{
-    match p {
-        Place::Refused(k, at) => Byte {
-            value: 0,
-            next: Place::Refused(k, at),
-        },
-        Place::At(from) => {
-            if from < s.len() {
-                Byte {
-                    value: s[from],
-                    next: Place::At(from + 1),
-                }
-            } else {
-                Byte {
-                    value: 0,
-                    next: Place::Refused(refusal::ENDS, from),
-                }
             }
         }
     }

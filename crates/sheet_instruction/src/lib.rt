@@ -1,4 +1,5 @@
-// Instruction records: one reader, which both checks a record and takes its content.
+// Instruction records: what reading one gives, and a reader that checks one and keeps nothing of it. Each of its stages starts
+// where reading has come to, and the first refusal is the record's.
 use isa::Instruction;
 use isa::Mnemonic;
 use isa::Operand;
@@ -7,9 +8,12 @@ use sheet_field::Field;
 use sheet_field::Place;
 use sheet_field::Width;
 ghost use mathlib.Core.Path.{_≡_};
-ghost use Prim.Native.Nat.{_<_, _≤_};
+ghost use Prim.Native.Nat.{_+_, _<_, _≤_};
+ghost use lib.ListN.{length};
+ghost use Rattle.sheet_field.specs.declared.Place.the-variants.{At};
+ghost use Rattle.sheet_field.specs.Field.{WentOn, fieldAt, codeAt};
 ghost use Rattle.sheet_instruction.specs.Instruction.{registerAt, operandAt, registersFrom, registersAt, optionalRegisters, bitOf, mapOk, mapAt, addressAt, optionalField, optionalCode, optionalOperand, headAt, tailAt, instructionAt};
-ghost use Rattle.sheet_instruction.specs.Contracts.{operandsAt};
+ghost use Rattle.sheet_instruction.specs.Contracts.{operandsAt, HeadSeen, tailSeen};
 
 struct RegisterReading {
     register: Register,
@@ -57,141 +61,252 @@ pub struct InstructionReading {
     pub next: Place,
 }
 
-fn take_register(s: &[u8], p: Place) -> RegisterReading
-    ensures { λ r. ⌜ r ≡ registerAt (now (s .entry)) p ⌝ }
+// What the checks of a record need of its head, and the offset after it.
+struct HeadCheck {
+    map: u64,
+    number: u64,
+    next: Place,
+}
+
+// What the checks of a record need of its tail, and the offset after it.
+struct TailCheck {
+    first: Operand,
+    second: Operand,
+    flags: u64,
+    next: Place,
+}
+
+// The register in the four bytes from an offset on.
+pub fn register_at(s: &[u8], at: usize) -> Register
+    requires { ⌜ at + 4 ≤ length (now s) ⌝ }
+    ensures { λ r. ⌜ r ≡ registerAt (now (s .entry)) (At at) .register ⌝ }
 {
-    let class = sheet_field::take_byte(s, p);
-    let after_class = class.next;
-    let index = sheet_field::take_byte(s, after_class);
-    let after_index = index.next;
-    let size = sheet_field::take_byte(s, after_index);
-    let after_size = size.next;
-    let offset = sheet_field::take_byte(s, after_size);
-    let after_offset = offset.next;
-    let register = Register {
-        class: class.value,
-        index: index.value,
-        size: size.value,
-        offset: offset.value,
-    };
-    let ok = isa::well_formed(register);
-    RegisterReading {
-        register,
-        next: sheet_field::judged(after_offset, ok, refusal::REGISTER, sheet_field::start(p)),
+    Register {
+        class: s[at],
+        index: s[at + 1],
+        size: s[at + 2],
+        offset: s[at + 3],
     }
 }
 
-fn take_operand(s: &[u8], p: Place) -> OperandReading
-    ensures { λ r. ⌜ r ≡ operandAt (now (s .entry)) p ⌝ }
+fn check_register(s: &[u8], at: usize) -> Place
+    requires { ⌜ at ≤ length (now s) ⌝ }
+    ensures { λ r. ⌜ r ≡ registerAt (now (s .entry)) (At at) .next ⌝ }
 {
-    let kind = sheet_field::code(s, p, 3);
-    let after = kind.next;
+    if s.len() - at < 4 {
+        return Place::Refused(refusal::ENDS, s.len());
+    }
+    if isa::well_formed(register_at(s, at)) {
+        Place::At(at + 4)
+    } else {
+        Place::Refused(refusal::REGISTER, at)
+    }
+}
+
+// A number of eight bytes.
+fn check_number(s: &[u8], at: usize) -> Place
+    requires { ⌜ at ≤ length (now s) ⌝ }
+    ensures { λ r. ⌜ r ≡ fieldAt 8 (now (s .entry)) (At at) .next ⌝ }
+{
+    if s.len() - at < 8 {
+        Place::Refused(refusal::ENDS, at)
+    } else {
+        Place::At(at + 8)
+    }
+}
+
+// A code byte below limit.
+fn check_code(s: &[u8], at: usize, limit: u64) -> Field
+    ensures { λ r. ⌜ r ≡ codeAt limit (now (s .entry)) (At at) ⌝ }
+{
+    if s.len() <= at {
+        return Field {
+            value: 0,
+            next: Place::Refused(refusal::ENDS, at),
+        };
+    }
+    let value = sheet_field::number(s, at, Width::One);
+    if value < limit {
+        Field {
+            value,
+            next: Place::At(at + 1),
+        }
+    } else {
+        Field {
+            value: 0,
+            next: Place::Refused(refusal::CODE, at),
+        }
+    }
+}
+
+fn check_operand(s: &[u8], at: usize) -> OperandReading
+    ensures { λ r. ⌜ (r .next ≡ operandAt (now (s .entry)) (At at) .next) × (WentOn (r .next) → r ≡ operandAt (now (s .entry)) (At at)) ⌝ }
+{
+    let kind = check_code(s, at, 3);
+    let behind = kind.next;
+    let Place::At(p) = behind else {
+        return OperandReading {
+            operand: Operand::Absent,
+            next: behind,
+        };
+    };
     if kind.value == 0 {
-        let r = take_register(s, after);
-        let register = r.register;
-        let next = r.next;
+        let next = check_register(s, p);
+        let Place::At(_) = next else {
+            return OperandReading {
+                operand: Operand::Absent,
+                next,
+            };
+        };
+        let register = register_at(s, p);
         return OperandReading {
             operand: Operand::Reg(register),
             next,
         };
     }
     if kind.value == 1 {
-        let v = sheet_field::take_field(s, after, Width::Eight);
-        let next = v.next;
+        let next = check_number(s, p);
+        let Place::At(_) = next else {
+            return OperandReading {
+                operand: Operand::Absent,
+                next,
+            };
+        };
         return OperandReading {
-            operand: Operand::Imm(v.value),
+            operand: Operand::Imm(sheet_field::number(s, p, Width::Eight)),
             next,
         };
     }
     OperandReading {
         operand: Operand::Mem,
-        next: after,
+        next: Place::At(p),
     }
 }
 
-// The first n registers from an offset on; where reading is refused before them all, the rest stays nothing.
-fn registers_from(s: &[u8], p: Place, n: u64) -> Registers
-    requires { ⌜ n ≤ 8 ⌝ }
-    ensures { λ r. ⌜ r ≡ registersFrom (now (s .entry)) p n ⌝ }
+fn operand_if(there: bool, s: &[u8], at: usize) -> OperandReading
+    ensures { λ r. ⌜ (r .next ≡ optionalOperand there (now (s .entry)) (At at) .next) × (WentOn (r .next) → r ≡ optionalOperand there (now (s .entry)) (At at)) ⌝ }
 {
-    let none = Register {
-        class: 0,
-        index: 0,
-        size: 0,
-        offset: 0,
-    };
-    let mut list = [none; 8];
-    let mut next = p;
-    let mut i: u64 = 0;
-    while i < n {
-        if sheet_field::is_refused(next) {
-            return Registers {
-                list,
-                count: n,
-                next,
-            };
+    if there {
+        check_operand(s, at)
+    } else {
+        OperandReading {
+            operand: Operand::Absent,
+            next: Place::At(at),
         }
-        let r = take_register(s, next);
-        let register = r.register;
-        list[i as usize] = register;
-        next = r.next;
-        i += 1;
     }
-    Registers {
-        list,
-        count: n,
+}
+
+// The first operand where bit 2 is set, the second where bit 3 is.
+fn check_operands(s: &[u8], at: usize, map: u64) -> Operands
+    ensures { λ r. ⌜ (r .next ≡ operandsAt map (now (s .entry)) (At at) .next) × (WentOn (r .next) → r ≡ operandsAt map (now (s .entry)) (At at)) ⌝ }
+{
+    let one = operand_if(bit(map, 4), s, at);
+    let first = one.operand;
+    let behind = one.next;
+    let Place::At(p) = behind else {
+        return Operands {
+            first,
+            second: Operand::Absent,
+            next: behind,
+        };
+    };
+    let two = operand_if(bit(map, 8), s, p);
+    let second = two.operand;
+    let next = two.next;
+    Operands {
+        first,
+        second,
         next,
     }
 }
 
-fn take_registers(s: &[u8], p: Place) -> Registers
-    ensures { λ r. ⌜ r ≡ registersAt (now (s .entry)) p ⌝ }
+fn check_registers(s: &[u8], at: usize, n: u64) -> Place
+    requires { ⌜ at ≤ length (now s) ⌝ }
+    ensures { λ r. ⌜ r ≡ registersFrom (now (s .entry)) (At at) n .next ⌝ }
 {
-    let n = sheet_field::count(s, p, 0, 8);
-    let next = n.next;
-    registers_from(s, next, n.value)
+    let mut p = at;
+    let mut i: u64 = 0;
+    while i < n {
+        let next = check_register(s, p);
+        let Place::At(q) = next else {
+            return next;
+        };
+        p = q;
+        i += 1;
+    }
+    Place::At(p)
 }
 
-fn registers_if(there: bool, s: &[u8], p: Place) -> Registers
-    ensures { λ r. ⌜ r ≡ optionalRegisters there (now (s .entry)) p ⌝ }
+fn check_written(s: &[u8], at: usize) -> Place
+    ensures { λ r. ⌜ r ≡ registersAt (now (s .entry)) (At at) .next ⌝ }
+{
+    if s.len() <= at {
+        return Place::Refused(refusal::ENDS, at);
+    }
+    if s.len() - at < 2 {
+        return Place::Refused(refusal::ENDS, at);
+    }
+    let n = sheet_field::number(s, at, Width::Two);
+    if 8 < n {
+        return Place::Refused(refusal::COUNT, at);
+    }
+    check_registers(s, at + 2, n)
+}
+
+fn written_if(there: bool, s: &[u8], at: usize) -> Place
+    ensures { λ r. ⌜ r ≡ optionalRegisters there (now (s .entry)) (At at) .next ⌝ }
 {
     if there {
-        take_registers(s, p)
+        check_written(s, at)
     } else {
-        registers_from(s, p, 0)
+        Place::At(at)
     }
 }
 
-fn operand_if(there: bool, s: &[u8], p: Place) -> OperandReading
-    ensures { λ r. ⌜ r ≡ optionalOperand there (now (s .entry)) p ⌝ }
+fn flags_if(there: bool, s: &[u8], at: usize) -> Field
+    ensures { λ r. ⌜ r ≡ optionalCode there 32 (now (s .entry)) (At at) ⌝ }
 {
     if there {
-        take_operand(s, p)
+        check_code(s, at, 32)
     } else {
-        OperandReading {
-            operand: Operand::Absent,
-            next: p,
+        Field {
+            value: 0,
+            next: Place::At(at),
         }
     }
 }
 
-fn field_if(there: bool, s: &[u8], p: Place) -> Field
-    ensures { λ r. ⌜ r ≡ optionalField there (now (s .entry)) p ⌝ }
+fn check_tail(s: &[u8], at: usize, map: u64) -> TailCheck
+    ensures { λ r. ⌜ (r .next ≡ tailAt map (now (s .entry)) (At at) .next) × (WentOn (r .next) → r ≡ tailSeen (tailAt map (now (s .entry)) (At at))) ⌝ }
 {
-    if there {
-        sheet_field::take_field(s, p, Width::Eight)
-    } else {
-        Field { value: 0, next: p }
-    }
-}
-
-fn code_if(there: bool, s: &[u8], p: Place, limit: u64) -> Field
-    ensures { λ r. ⌜ r ≡ optionalCode there limit (now (s .entry)) p ⌝ }
-{
-    if there {
-        sheet_field::code(s, p, limit)
-    } else {
-        Field { value: 0, next: p }
+    let both = check_operands(s, at, map);
+    let first = both.first;
+    let second = both.second;
+    let behind = both.next;
+    let Place::At(list) = behind else {
+        return TailCheck {
+            first,
+            second,
+            flags: 0,
+            next: behind,
+        };
+    };
+    let written = written_if(bit(map, 16), s, list);
+    let Place::At(byte) = written else {
+        return TailCheck {
+            first,
+            second,
+            flags: 0,
+            next: written,
+        };
+    };
+    let f = flags_if(bit(map, 32), s, byte);
+    let next = f.next;
+    TailCheck {
+        first,
+        second,
+        flags: f.value,
+        next,
     }
 }
 
@@ -209,115 +324,113 @@ fn map_ok(map: u64) -> bool
     (map < 64) & !(bit(map, 1) & bit(map, 2)) & (!bit(map, 8) | bit(map, 4))
 }
 
-fn take_map(s: &[u8], p: Place) -> Field
-    ensures { λ r. ⌜ r ≡ mapAt (now (s .entry)) p ⌝ }
+fn check_map(s: &[u8], at: usize) -> Field
+    ensures { λ r. ⌜ r ≡ mapAt (now (s .entry)) (At at) ⌝ }
 {
-    let f = sheet_field::take_field(s, p, Width::One);
-    let ok = map_ok(f.value);
-    sheet_field::checked(f, ok, refusal::CODE, sheet_field::start(p))
+    if s.len() <= at {
+        return Field {
+            value: 0,
+            next: Place::Refused(refusal::ENDS, at),
+        };
+    }
+    let value = sheet_field::number(s, at, Width::One);
+    if map_ok(value) {
+        Field {
+            value,
+            next: Place::At(at + 1),
+        }
+    } else {
+        Field {
+            value: 0,
+            next: Place::Refused(refusal::CODE, at),
+        }
+    }
 }
 
 // An address above `last`, or any where the instruction opens the sheet.
-fn take_address(s: &[u8], p: Place, opens: bool, last: u64) -> Field
-    ensures { λ r. ⌜ r ≡ addressAt opens last (now (s .entry)) p ⌝ }
+fn check_address(s: &[u8], at: usize, opens: bool, last: u64) -> Place
+    requires { ⌜ at ≤ length (now s) ⌝ }
+    ensures { λ r. ⌜ r ≡ addressAt opens last (now (s .entry)) (At at) .next ⌝ }
 {
-    let f = sheet_field::take_field(s, p, Width::Eight);
-    let ok = opens | (last < f.value);
-    sheet_field::checked(f, ok, refusal::ADDRESS, sheet_field::start(p))
+    if s.len() - at < 8 {
+        return Place::Refused(refusal::ENDS, at);
+    }
+    let address = sheet_field::number(s, at, Width::Eight);
+    if opens | (last < address) {
+        Place::At(at + 8)
+    } else {
+        Place::Refused(refusal::ADDRESS, at)
+    }
 }
 
-fn take_head(s: &[u8], p: Place, opens: bool, last: u64) -> Head
-    ensures { λ r. ⌜ r ≡ headAt opens last (now (s .entry)) p ⌝ }
+fn target_if(there: bool, s: &[u8], at: usize) -> Place
+    requires { ⌜ at ≤ length (now s) ⌝ }
+    ensures { λ r. ⌜ r ≡ optionalField there (now (s .entry)) (At at) .next ⌝ }
 {
-    let map = take_map(s, p);
+    if there {
+        check_number(s, at)
+    } else {
+        Place::At(at)
+    }
+}
+
+fn check_head(s: &[u8], at: usize, opens: bool, last: u64) -> HeadCheck
+    ensures { λ r. ⌜ (r .next ≡ headAt opens last (now (s .entry)) (At at) .next) × (WentOn (r .next) → HeadSeen r (headAt opens last (now (s .entry)) (At at))) ⌝ }
+{
+    let map = check_map(s, at);
     let after_map = map.next;
-    let address = take_address(s, after_map, opens, last);
-    let after_address = address.next;
-    let number = sheet_field::code(s, after_address, 35);
+    let Place::At(address) = after_map else {
+        return HeadCheck {
+            map: 0,
+            number: 0,
+            next: after_map,
+        };
+    };
+    let after_address = check_address(s, address, opens, last);
+    let Place::At(code) = after_address else {
+        return HeadCheck {
+            map: 0,
+            number: 0,
+            next: after_address,
+        };
+    };
+    let number = check_code(s, code, 35);
     let after_number = number.next;
-    let mnemonic = isa::mnemonic_of(number.value);
-    let target = field_if(bit(map.value, 1), s, after_number);
-    let next = target.next;
-    Head {
+    let Place::At(target) = after_number else {
+        return HeadCheck {
+            map: 0,
+            number: 0,
+            next: after_number,
+        };
+    };
+    HeadCheck {
         map: map.value,
-        address: address.value,
-        mnemonic,
-        target: target.value,
-        next,
+        number: number.value,
+        next: target_if(bit(map.value, 1), s, target),
     }
 }
 
-// The first operand where bit 2 is set, the second where bit 3 is: a turn for each, which moves the one before to the first.
-fn take_operands(s: &[u8], p: Place, map: u64) -> Operands
-    ensures { λ r. ⌜ r ≡ operandsAt map (now (s .entry)) p ⌝ }
+// Where reading has come to after the instruction record at an offset. It opens the sheet where none stands before it; else `last`
+// is the address before.
+pub fn check_instruction(s: &[u8], at: usize, opens: bool, last: u64) -> Place
+    ensures { λ r. ⌜ r ≡ instructionAt opens last (now (s .entry)) (At at) .next ⌝ }
 {
-    let mut first = Operand::Absent;
-    let mut second = Operand::Absent;
-    let mut next = p;
-    let mut unit: u64 = 4;
-    while unit <= 8 {
-        let o = operand_if(bit(map, unit), s, next);
-        first = second;
-        second = o.operand;
-        next = o.next;
-        unit = unit * 2;
-    }
-    Operands {
-        first,
-        second,
-        next,
-    }
-}
-
-fn take_tail(s: &[u8], p: Place, map: u64) -> Tail
-    ensures { λ r. ⌜ r ≡ tailAt map (now (s .entry)) p ⌝ }
-{
-    let both = take_operands(s, p, map);
-    let after_both = both.next;
-    let w = registers_if(bit(map, 16), s, after_both);
-    let after_w = w.next;
-    let f = code_if(bit(map, 32), s, after_w, 32);
-    let next = f.next;
-    let first = both.first;
-    let second = both.second;
-    let written = w.list;
-    Tail {
-        first,
-        second,
-        written,
-        count: w.count,
-        flags: f.value,
-        next,
-    }
-}
-
-// The instruction record at an offset. It opens the sheet where none stands before it; else `last` is the address before.
-pub fn take_instruction(s: &[u8], p: Place, opens: bool, last: u64) -> InstructionReading
-    ensures { λ r. ⌜ r ≡ instructionAt opens last (now (s .entry)) p ⌝ }
-{
-    let head = take_head(s, p, opens, last);
-    let after = head.next;
-    let tail = take_tail(s, after, head.map);
+    let head = check_head(s, at, opens, last);
+    let after_head = head.next;
+    let Place::At(behind) = after_head else {
+        return after_head;
+    };
+    let tail = check_tail(s, behind, head.map);
     let first = tail.first;
     let second = tail.second;
-    let written = tail.written;
-    let end = tail.next;
-    let mnemonic = head.mnemonic;
-    let instruction = Instruction {
-        address: head.address,
-        mnemonic,
-        branch: bit(head.map, 1),
-        target: head.target,
-        call: bit(head.map, 2),
-        first,
-        second,
-        written,
-        count: tail.count,
-        flags: tail.flags,
+    let next = tail.next;
+    let Place::At(_) = next else {
+        return next;
     };
-    let fault = isa::is_at_fault(instruction);
-    InstructionReading {
-        instruction,
-        next: sheet_field::judged(end, !fault, refusal::INSTRUCTION, sheet_field::start(p)),
+    let mnemonic = isa::mnemonic_of(head.number);
+    if isa::is_at_fault(mnemonic, bit(head.map, 2), first, second, tail.flags) {
+        Place::Refused(refusal::INSTRUCTION, at)
+    } else {
+        next
     }
 }

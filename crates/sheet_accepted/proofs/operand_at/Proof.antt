@@ -1,5 +1,5 @@
 use native.Mathlib.Omega.{arith}
-use Rattle.sheet_accepted.proofs.Stages.{operand-inside, register-operand, immediate-operand, memory-operand}
+use Rattle.sheet_instruction.proofs.Stages.{operand-inside, register-operand, immediate-operand, memory-operand}
 use Rattle.sheet_accepted.proofs.operand_at.Statement.{statement}
 use Rattle.sheet_accepted.proofs.operand_at.Tie as tie
 

@@ -5,7 +5,7 @@ use borrow.Author.Needs.{needs}
 use Rattle.sheet_field.specs.declared.Place.the-variants.{At}
 use Rattle.sheet_instruction.specs.Instruction.{registersFrom}
 use Rattle.sheet_instruction.proofs.Instructions.{registers-more}
-use Rattle.sheet_accepted.proofs.Stages.{registers-place, register-inside}
+use Rattle.sheet_instruction.proofs.Stages.{registers-place, register-inside}
 use Rattle.sheet_accepted.proofs.registers_at.Statement.{statement}
 use Rattle.sheet_accepted.proofs.registers_at.Tie as tie
 
