@@ -1,6 +1,6 @@
 # 32-bit code: the address of a place is a distance from the table of slots.
 # as: --32
-# ld: -m elf_i386
+# ld: -m elf_i386 -X
 .intel_syntax noprefix
 .text
 .globl _start

@@ -1,6 +1,6 @@
 # 32-bit code: a table has distances of code from the table of slots.
 # as: --32
-# ld: -m elf_i386
+# ld: -m elf_i386 -X
 .intel_syntax noprefix
 .text
 .globl _start

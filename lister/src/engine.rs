@@ -33,7 +33,7 @@ pub fn listed(sheet: &[u8]) -> Result<Vec<Decided>, String> {
     }
     let mut list = vec![0; LIST];
     let mut out = 0;
-    // The pointers are good for the lengths beside them, and the list and `out` are lent to nobody else.
+    // The pointers are good for the lengths beside them, and nobody else has the list or `out`.
     let number = unsafe {
         pomthija_listing(sheet.as_ptr(), sheet.len(), list.as_mut_ptr(), list.len(), &mut out)
     };

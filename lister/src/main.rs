@@ -5,9 +5,9 @@ mod progress;
 
 use lister::disassembly::bits::Bits;
 use lister::disassembly::listing::{self, Job};
-use lister::disassembly::program::{content, Input, Kind, Word};
+use lister::disassembly::program::{content, Hints, Input, Kind};
 use lister::disassembly::{annotated, json, report, steps};
-use lister::options::{Options, Shape};
+use lister::options::{Known, Options};
 use lister::sheets::{from_text, reader, to_text};
 use progress::Progress;
 use std::io::{self, ErrorKind, Write};
@@ -37,14 +37,10 @@ Options stand anywhere. A file name of - is standard input or output. Addresses 
 hexadecimal, with or without 0x; # starts a comment in files of them.
 Status: 0 done, 1 refused, 2 wrong usage.";
 
-const LIST: Shape = Shape {
-    flags: &["--text", "--raw", "--assume-calls", "--json", "--annotate"],
+const KNOWN: Known = Known {
+    flags: &["--help", "--version", "--text", "--raw", "--assume-calls", "--json", "--annotate"],
     values: &["--bits", "--base", "--functions", "--entries", "--save", "--steps"],
-    words: &["the file to list"],
 };
-const WRITE: Shape = Shape { flags: &[], values: &[], words: &["the text", "the sheet"] };
-const SHOW: Shape = Shape { flags: &[], values: &[], words: &["the sheet"] };
-const FIELDS: Shape = Shape { flags: &[], values: &[], words: &["the text"] };
 
 enum Failure {
     Usage(String),
@@ -75,29 +71,28 @@ fn main() -> ExitCode {
 }
 
 fn command(words: &[String]) -> Outcome {
-    let before_others = words.iter().take_while(|word| *word != "--");
-    for word in before_others {
-        match word.as_str() {
-            "--help" => return say(&format!("{HELP}\n")),
-            "--version" => {
-                let (package, interface) = (env!("CARGO_PKG_VERSION"), engine::version());
-                return say(&format!("pomthija {package}, interface {interface}\n"));
-            }
-            _ => {}
-        }
+    let options = Options::parse(words, &KNOWN).map_err(Failure::Usage)?;
+    if options.has("--help") {
+        return say(&format!("{HELP}\n"));
     }
-    let Some(at) = words.iter().position(|word| !word.starts_with('-')) else {
-        return Err(Failure::Usage("no command is named".to_string()));
+    if options.has("--version") {
+        let (package, interface) = (env!("CARGO_PKG_VERSION"), engine::version());
+        return say(&format!("pomthija {package}, interface {interface}\n"));
+    }
+    let name = options.words.first().map_or("", String::as_str);
+    let (work, words): (fn(&Options) -> Outcome, &[&str]) = match name {
+        "list" => (list, &["the file to list"]),
+        "write" => (write_sheet, &["the text", "the sheet"]),
+        "show" => (show, &["the sheet"]),
+        "fields" => (fields, &["the text"]),
+        "" => return Err(Failure::Usage("no command is named".to_string())),
+        other => return Err(Failure::Usage(format!("'{other}' is no command"))),
     };
-    let rest: Vec<String> = [&words[..at], &words[at + 1..]].concat();
-    let options = |shape| Options::parse(&rest, shape).map_err(Failure::Usage);
-    match words[at].as_str() {
-        "list" => list(&options(&LIST)?),
-        "write" => write_sheet(&options(&WRITE)?),
-        "show" => show(&options(&SHOW)?),
-        "fields" => fields(&options(&FIELDS)?),
-        other => Err(Failure::Usage(format!("'{other}' is no command"))),
+    options.expect(words).map_err(Failure::Usage)?;
+    if name != "list" {
+        options.expect_none().map_err(Failure::Usage)?;
     }
+    work(&options)
 }
 
 fn refused(path: &str) -> impl Fn(String) -> Failure + '_ {
@@ -166,8 +161,8 @@ fn addresses(path: Option<&str>) -> Result<Vec<u64>, Failure> {
     lines.map(|(number, line)| address(line).ok_or_else(|| none(number))).collect()
 }
 
-fn word(options: &Options) -> Result<Word, Failure> {
-    Ok(Word {
+fn hints(options: &Options) -> Result<Hints, Failure> {
+    Ok(Hints {
         functions: addresses(options.value("--functions"))?,
         entries: addresses(options.value("--entries"))?,
         calls: options.has("--assume-calls"),
@@ -178,13 +173,13 @@ fn list(options: &Options) -> Outcome {
     if options.has("--json") && options.has("--annotate") {
         return Err(Failure::Usage("--json and --annotate exclude each other".to_string()));
     }
-    let path = &options.words[0];
-    let (kind, word) = (kind(options)?, word(options)?);
+    let path = &options.words[1];
+    let (kind, hints) = (kind(options)?, hints(options)?);
     let progress = Progress::start();
     progress.say(|| "the disassembly is read".to_string());
     let input = Input::read(path, kind).map_err(refused(path))?;
     progress.say(|| "entries are looked for".to_string());
-    let program = input.program(&word).map_err(refused(path))?;
+    let program = input.program(&hints).map_err(refused(path))?;
     let job = Job {
         judge: &engine::listed,
         save: options.value("--save"),
@@ -214,8 +209,8 @@ fn written(path: &str) -> Result<from_text::Written, Failure> {
 }
 
 fn write_sheet(options: &Options) -> Outcome {
-    let written = written(&options.words[0])?;
-    store(&options.words[1], &written.bytes)?;
+    let written = written(&options.words[1])?;
+    store(&options.words[2], &written.bytes)?;
     if let Err(refusal) = reader::read(&written.bytes) {
         eprintln!("note: reading this sheet is {refusal}");
     }
@@ -223,13 +218,13 @@ fn write_sheet(options: &Options) -> Outcome {
 }
 
 fn fields(options: &Options) -> Outcome {
-    let fields = written(&options.words[0])?.fields;
+    let fields = written(&options.words[1])?.fields;
     let lines = fields.iter().map(|field| format!("{:8}  {}\n", field.start, field.name));
     say(&lines.collect::<String>())
 }
 
 fn show(options: &Options) -> Outcome {
-    let path = &options.words[0];
+    let path = &options.words[1];
     let bytes = content(path).map_err(refused(path))?;
     say(&to_text::dump(&bytes))?;
     match reader::read(&bytes) {

@@ -1,24 +1,23 @@
 //! The words of a command line: options anywhere among the others, `--` before words that
 //! are none, `-` for standard input or output.
 
-use std::collections::{HashMap, HashSet};
+use std::collections::BTreeMap;
 
-/// What a command takes: options without and with a value, and how many other words.
-pub struct Shape {
+/// The options that there are, without and with a value.
+pub struct Known {
     pub flags: &'static [&'static str],
     pub values: &'static [&'static str],
-    pub words: &'static [&'static str],
 }
 
 #[derive(Debug, Default)]
 pub struct Options {
-    flags: HashSet<String>,
-    values: HashMap<String, String>,
+    /// The options that were named, with their values.
+    named: BTreeMap<String, Option<String>>,
     pub words: Vec<String>,
 }
 
 impl Options {
-    pub fn parse(words: &[String], shape: &Shape) -> Result<Options, String> {
+    pub fn parse(words: &[String], known: &Known) -> Result<Options, String> {
         let mut options = Options::default();
         let mut words = words.iter();
         while let Some(word) = words.next() {
@@ -30,32 +29,43 @@ impl Options {
                 options.words.extend(words.by_ref().cloned());
             } else if !word.starts_with('-') || word == "-" {
                 options.words.push(word.clone());
-            } else if shape.flags.contains(&name) && value.is_none() {
-                options.flags.insert(name.to_string());
-            } else if shape.values.contains(&name) {
+            } else if known.flags.contains(&name) && value.is_none() {
+                options.named.insert(name.to_string(), None);
+            } else if known.values.contains(&name) {
                 let value = value.or_else(|| words.next().cloned());
                 let value = value.ok_or_else(|| format!("{name} needs a value"))?;
-                options.values.insert(name.to_string(), value);
+                options.named.insert(name.to_string(), Some(value));
             } else {
                 return Err(format!("unknown option {word}"));
             }
         }
-        options.counted(shape)
+        Ok(options)
     }
 
-    fn counted(self, shape: &Shape) -> Result<Options, String> {
-        match (shape.words.get(self.words.len()), self.words.get(shape.words.len())) {
+    /// Whether there is a word for each of these, behind that for the command, and none
+    /// besides.
+    pub fn expect(&self, words: &[&str]) -> Result<(), String> {
+        let found = self.words.len() - 1;
+        match (words.get(found), self.words.get(words.len() + 1)) {
             (Some(missing), _) => Err(format!("{missing} is missing")),
             (_, Some(word)) => Err(format!("'{word}' is one word too many")),
-            (None, None) => Ok(self),
+            (None, None) => Ok(()),
         }
     }
 
-    pub fn has(&self, flag: &str) -> bool {
-        self.flags.contains(flag)
+    /// Whether no option is named.
+    pub fn expect_none(&self) -> Result<(), String> {
+        match self.named.keys().next() {
+            Some(name) => Err(format!("{name} is not for {}", self.words[0])),
+            None => Ok(()),
+        }
+    }
+
+    pub fn has(&self, name: &str) -> bool {
+        self.named.contains_key(name)
     }
 
     pub fn value(&self, name: &str) -> Option<&str> {
-        self.values.get(name).map(String::as_str)
+        self.named.get(name)?.as_deref()
     }
 }

@@ -38,6 +38,8 @@
     TRY(name eax); TRY(name ecx); TRY(name edx); TRY(name ebx); TRY(name ebp);           \
     TRY(name esi); TRY(name edi); TRY(name ax); TRY(name di)
 
+#define CHANGED inc eax; inc ecx; inc edx; inc ebx; inc ebp; inc esi; inc edi
+
 .bss
 .balign 64
 memory: .skip 1024
@@ -147,7 +149,7 @@ strings:
 .type not_in_64_bits, @function
 not_in_64_bits:
     ONE_BYTE(inc); ONE_BYTE(dec)
-    TRY(pusha; popa); TRY(pusha; mov eax, 5; popa); TRY(pushaw; popaw); TRY(pushfw; popfw)
+    TRY(pusha; CHANGED; popa); TRY(pushaw; CHANGED; popaw); TRY(pushfw; popfw)
     TRY(push ds; pop ds); TRY(push es; pop es); TRY(push ss; pop eax); TRY(push cs; pop ecx)
     TRY(push fs; pop fs); TRY(push gs; pop gs)
     TRY(les eax, [pointer]); TRY(lds ecx, [pointer]); TRY(les dx, [pointer+2])

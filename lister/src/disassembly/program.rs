@@ -24,7 +24,7 @@ pub enum Kind {
 
 /// What the user says of the code, and nobody checks.
 #[derive(Debug, Default)]
-pub struct Word {
+pub struct Hints {
     /// Where functions start.
     pub functions: Vec<u64>,
     /// What else is entered.
@@ -140,13 +140,13 @@ impl Input {
         Ok(Input { kind, bytes, text })
     }
 
-    pub fn program(&self, word: &Word) -> Result<Program<'_>, String> {
+    pub fn program(&self, hints: &Hints) -> Result<Program<'_>, String> {
         match self.kind {
             Kind::Text => Ok(of_text(text::read(&self.text, None)?)),
-            Kind::Linked => of_file(&elf::read(&self.bytes)?, text::read(&self.text, None)?, word),
+            Kind::Linked => of_file(&elf::read(&self.bytes)?, text::read(&self.text, None)?, hints),
             Kind::Raw { bits, base } => {
                 let file = elf::raw(&self.bytes, bits, base);
-                let mut program = of_file(&file, text::read(&self.text, Some(bits))?, word)?;
+                let mut program = of_file(&file, text::read(&self.text, Some(bits))?, hints)?;
                 let what =
                     format!("the image is {}-bit code, loaded at {base:#x}", 8 * bits.word());
                 program.assumed.push(Assumption::plain(&what));
@@ -160,9 +160,9 @@ impl Input {
 const ENTERED: &str =
     "nothing outside the image enters it but at its first byte and where the user says";
 
-fn of_file<'a>(file: &File, text: Disassembly<'a>, word: &Word) -> Result<Program<'a>, String> {
+fn of_file<'a>(file: &File, text: Disassembly<'a>, hints: &Hints) -> Result<Program<'a>, String> {
     let mut outside = outside(file)?;
-    let assumed = add_word(file, &text, word, &mut outside)?;
+    let assumed = add_hints(file, &text, hints, &mut outside)?;
     let control = control_flow::read(&text, &outside);
     add_hidden(file, &text, &control, &mut outside)?;
     add_tables(file, &control, &mut outside);
@@ -172,26 +172,26 @@ fn of_file<'a>(file: &File, text: Disassembly<'a>, word: &Word) -> Result<Progra
 }
 
 /// Adds what the user says, and gives it as assumptions.
-fn add_word(
+fn add_hints(
     file: &File,
     text: &Disassembly,
-    word: &Word,
+    hints: &Hints,
     outside: &mut Outside,
 ) -> Result<Vec<Assumption>, String> {
     let code = file.code();
     let inside = |address: &u64| code.iter().any(|span| span.holds(*address));
-    let mut named = word.functions.iter().chain(&word.entries);
+    let mut named = hints.functions.iter().chain(&hints.entries);
     if let Some(address) = named.find(|address| !inside(address)) {
         return Err(format!("{address:x}, which the user names, is no address of its code"));
     }
-    let calls = if word.calls { control_flow::call_targets(text) } else { Vec::new() };
+    let calls = if hints.calls { control_flow::call_targets(text) } else { Vec::new() };
     let calls: Vec<u64> = calls.into_iter().filter(inside).collect();
-    let starts = word.functions.iter().chain(&calls);
+    let starts = hints.functions.iter().chain(&calls);
     outside.functions.extend(starts.map(|start| Span { start: *start, end: *start }));
-    outside.entries.extend(&word.entries);
+    outside.entries.extend(&hints.entries);
     let said = [
-        (word.functions.len(), "functions start where the user says"),
-        (word.entries.len(), "what the user names is entered besides"),
+        (hints.functions.len(), "functions start where the user says"),
+        (hints.entries.len(), "what the user names is entered besides"),
         (calls.len(), "functions start where direct calls go"),
     ];
     let said = said.into_iter().filter(|(times, _)| *times > 0);

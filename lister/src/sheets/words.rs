@@ -25,7 +25,7 @@ pub fn error<T>(line: usize, message: impl Into<String>) -> Parsed<T> {
 }
 
 #[derive(Clone, Debug)]
-struct Word {
+struct Hints {
     line: usize,
     text: String,
 }
@@ -35,7 +35,7 @@ const LINE_END: &str = "\n";
 /// Copies beyond this many words are taken for a mistake.
 const MOST_WORDS: usize = 4_000_000;
 
-fn split(text: &str, first_line: usize) -> Vec<Word> {
+fn split(text: &str, first_line: usize) -> Vec<Hints> {
     let mut words = Vec::new();
     for (index, line) in text.lines().enumerate() {
         let mut spaced = String::new();
@@ -47,14 +47,14 @@ fn split(text: &str, first_line: usize) -> Vec<Word> {
             }
         }
         let at = first_line + index;
-        words.extend(spaced.split_whitespace().map(|w| Word { line: at, text: w.to_string() }));
-        words.push(Word { line: at, text: LINE_END.to_string() });
+        words.extend(spaced.split_whitespace().map(|w| Hints { line: at, text: w.to_string() }));
+        words.push(Hints { line: at, text: LINE_END.to_string() });
     }
     words
 }
 
 /// Where the brace that closes the one at `open` stands.
-fn closing(words: &[Word], open: usize) -> Parsed<usize> {
+fn closing(words: &[Hints], open: usize) -> Parsed<usize> {
     let mut depth = 0;
     for (index, word) in words.iter().enumerate().skip(open) {
         match word.text.as_str() {
@@ -69,7 +69,7 @@ fn closing(words: &[Word], open: usize) -> Parsed<usize> {
     error(words[open].line, "this { has no }")
 }
 
-fn expand(words: &[Word], out: &mut Vec<Word>) -> Parsed<()> {
+fn expand(words: &[Hints], out: &mut Vec<Hints>) -> Parsed<()> {
     let mut at = 0;
     while at < words.len() {
         let word = &words[at];
@@ -114,7 +114,7 @@ pub struct Line {
 }
 
 impl Line {
-    fn new(words: &[Word]) -> Line {
+    fn new(words: &[Hints]) -> Line {
         let number = words[0].line;
         Line { number, words: words.iter().map(|word| word.text.clone()).collect(), at: 0 }
     }
