@@ -1,32 +1,28 @@
--- A buffer for an equality: what is borrowed, or its own.
-use Prim.Native.Nat.{ℕ, _≤_}
-use mathlib.Core.Path.{_≡_, refl}
-use mathlib.Core.Bool.{Bool, true, false, _&&_, _||_}
+-- Buffers that suffice for an equality of so many words.
+use Prim.Native.Nat.{ℕ, _+_, _≤_}
+use mathlib.Core.Path.{_≡_}
 use mathlib.Core.List.{List}
 use native.Mathlib.Omega.{arith}
-use lib.Dec.{ltb}
 use lib.ListN.{length}
-use borrow.Author.Tests.{ltb-false}
+use Rattle.parity.specs.Lent.{LentTwo}
 use Rattle.exact.specs.Answers.{Buffers}
+use Rattle.decide.specs.Answers.{SidesOf}
 
--- the borrowed buffers suffice where the equality is small or they are full size
-pub buffers-enough : {w : ℕ} {atoms terms products : List ℕ} → w ≤ 256 → Buffers 36 atoms terms products
-    → (ltb 36 w && (ltb (length terms) 2320 || ltb (length products) 4096)) ≡ false → Buffers w atoms terms products
-buffers-enough {w} {atoms} {terms} {products} h b enough =
-    by (ltb 36 w) refl (ltb (length terms) 2320) refl (ltb (length products) 4096) refl enough
-  where
-    by : (x : Bool) → ltb 36 w ≡ x → (y : Bool) → ltb (length terms) 2320 ≡ y → (z : Bool) → ltb (length products) 4096 ≡ z
-        → (x && (y || z)) ≡ false → Buffers w atoms terms products
-    by false e y f z g k =
-        let small = ltb-false 36 w e in
-        record {
-          table = b .table;
-          space = omega (arith, b .space, small);
-          products = record { least = b .products .least; most = λ m. absurd (omega (arith, small, m)) };
-        }
-    by true e false f false g k =
-        let t = ltb-false (length terms) 2320 f in
-        let p = ltb-false (length products) 4096 g in
-        record { table = b .table; space = omega (arith, t, h); products = record { least = b .products .least; most = λ _. omega (arith, p) } }
-    by true e true f z g k = let c : _≡_ {A = ℕ} 0 1 = cc in absurd (omega arith)
-    by true e false f true g k = let c : _≡_ {A = ℕ} 0 1 = cc in absurd (omega arith)
+module _ {whole left right : List ℕ} (of : SidesOf whole left right) {atoms terms scratch : List ℕ} (table : 64 ≡ length atoms) where
+  pub short-room : length whole ≤ 36 → 560 ≡ length terms → 512 ≡ length scratch
+      → LentTwo whole 0 left right atoms 0 terms × Buffers (length left + length right + 2) atoms terms scratch
+  short-room short space pairs = (
+    of .lent atoms terms (omega arith) (omega arith),
+    record {
+      table = omega arith;
+      space = omega (arith, of .long);
+      products = record { least = omega arith; most = λ more. absurd (omega (arith, of .long, more)) };
+    },
+  )
+
+  pub long-room : length whole ≤ 256 → 2320 ≡ length terms → 4096 ≡ length scratch
+      → LentTwo whole 0 left right atoms 0 terms × Buffers (length left + length right + 2) atoms terms scratch
+  long-room long space pairs = (
+    of .lent atoms terms (omega arith) (omega arith),
+    record { table = omega arith; space = omega (arith, of .long); products = record { least = omega arith; most = λ _. omega arith } },
+  )

@@ -1,7 +1,11 @@
 -- The answers of the code's steps, each with the limits of refusal 11 beside it.
+use Prim.Native.Nat.{ℕ, _+_, _≤_}
+use mathlib.Core.List.{List}
 use mathlib.Core.Bool.{Bool, true, false, cond, _&&_}
 use mathlib.Core.Option.{none, some}
 use lib.Dec.{eqb}
+use lib.ListN.{length}
+use Rattle.parity.specs.Lent.{termsRoom, LentTwo}
 use Rattle.verdict.specs.declared.Reason.the-variants.{Parity}
 use Rattle.verdict.specs.declared.Verdict.{Verdict}
 use Rattle.verdict.specs.declared.Verdict.the-variants.{Undecided}
@@ -52,3 +56,8 @@ abbrev pub halvesOf : Bool → Decision.Decision → Decision.Decision → Decis
 halvesOf and (decisions.Of v) (decisions.Of w) = decisions.Of (cond and (both v w) (either v w))
 halvesOf and (decisions.Of v) decisions.TooMany = decisions.TooMany
 halvesOf and decisions.TooMany d = decisions.TooMany
+
+-- two sides of an equality stand in its words, whatever buffers are used for them
+pub record SidesOf (whole left right : List ℕ) : Type 0 where
+  pub lent : (atoms terms : List ℕ) → 64 ≤ length atoms → termsRoom (length whole) ≤ length terms → LentTwo whole 0 left right atoms 0 terms
+  pub long : length left + length right + 2 ≤ length whole

@@ -4,8 +4,7 @@ use exact::Parted;
 use verdict::Reason;
 use verdict::Verdict;
 ghost use mathlib.Core.Path.{_≡_};
-ghost use mathlib.Core.List.{List};
-ghost use Prim.Native.Nat.{ℕ, _+_, _≤_};
+ghost use Prim.Native.Nat.{_+_, _≤_};
 ghost use lib.Dec.{eqb};
 ghost use lib.ListN.{length};
 ghost use Rattle.expr.specs.Codes.{opEqual};
@@ -13,7 +12,7 @@ ghost use Rattle.expr.specs.Tree.{Wf, treeOf};
 ghost use Rattle.parity.specs.Lent.{LentTwo};
 ghost use Rattle.exact.specs.Answers.{Buffers};
 ghost use Rattle.decide.specs.Decide.{said as saidOf, asked as askedOf, orElse, equalSides, equality as equalityOf, unsignedCast, aboveZero, mirrored as mirroredOf, unsignedZero, both as bothOf, negated as negatedOf, either as eitherOf, decide as decideOf, equalityFits, fits};
-ghost use Rattle.decide.specs.Answers.{answered, exactVerdict, parityVerdict, knownFits, partedFits, firstStep, halvesOf};
+ghost use Rattle.decide.specs.Answers.{answered, exactVerdict, parityVerdict, knownFits, partedFits, firstStep, halvesOf, SidesOf};
 
 // A verdict, or that an equality passes the limits.
 pub enum Decision {
@@ -269,17 +268,33 @@ fn products_room() -> [u64; 4096]
     [0; 4096]
 }
 
-// == or !=, with buffers of its own.
-fn equality_apart(
-    operator: u64,
-    whole: &[u64],
-    left: &[u64],
-    right: &[u64],
-    atoms: &mut [u64],
-) -> Decision
-    requires { ⌜ ((ts : List ℕ) → 2320 ≡ length ts → LentTwo (now whole) 0 (now left) (now right) (now atoms) 0 ts) ⌝ }
+// == or != of up to 18 records, with buffers for these.
+fn equality_short(operator: u64, whole: &[u64], left: &[u64], right: &[u64]) -> Decision
+    requires { ⌜ SidesOf (now whole) (now left) (now right) ⌝ }
+    requires { ⌜ length (now whole) ≤ 36 ⌝ }
     ensures { λ r. ⌜ r ≡ answered (equalityFits (treeOf (now (left .entry))) (treeOf (now (right .entry)))) (orElse (equalSides operator (treeOf (now (left .entry))) (treeOf (now (right .entry)))) (equalityOf (eqb operator opEqual) (treeOf (now (left .entry))) (treeOf (now (right .entry))))) ⌝ }
 {
+    let mut atoms = [0u64; 64];
+    let mut terms = [0u64; 560];
+    let mut scratch = [0u64; 512];
+    equality(
+        operator,
+        whole,
+        left,
+        right,
+        &mut atoms,
+        &mut terms,
+        &mut scratch,
+    )
+}
+
+// == or !=, with buffers for the longest.
+fn equality_long(operator: u64, whole: &[u64], left: &[u64], right: &[u64]) -> Decision
+    requires { ⌜ SidesOf (now whole) (now left) (now right) ⌝ }
+    requires { ⌜ length (now whole) ≤ 256 ⌝ }
+    ensures { λ r. ⌜ r ≡ answered (equalityFits (treeOf (now (left .entry))) (treeOf (now (right .entry)))) (orElse (equalSides operator (treeOf (now (left .entry))) (treeOf (now (right .entry)))) (equalityOf (eqb operator opEqual) (treeOf (now (left .entry))) (treeOf (now (right .entry))))) ⌝ }
+{
+    let mut atoms = [0u64; 64];
     let mut terms = terms_room();
     let mut scratch = products_room();
     equality(
@@ -287,7 +302,7 @@ fn equality_apart(
         whole,
         left,
         right,
-        atoms,
+        &mut atoms,
         &mut terms,
         &mut scratch,
     )
@@ -337,12 +352,10 @@ fn relation(operator: u64, left: &[u64], right: &[u64]) -> Verdict
     )
 }
 
-// The verdict on a condition: && and || are decided half by half. Buffers for equalities of 18 records are borrowed, or for all; an equality
-// that needs more makes its own.
-pub fn decide(rs: &[u64], atoms: &mut [u64], terms: &mut [u64], scratch: &mut [u64]) -> Decision
+// The verdict on a condition: && and || are decided half by half.
+pub fn decide(rs: &[u64]) -> Decision
     requires { ⌜ Wf (now rs) ⌝ }
     requires { ⌜ length (now rs) ≤ 256 ⌝ }
-    requires { ⌜ Buffers 36 (now atoms) (now terms) (now scratch) ⌝ }
     ensures { λ r. ⌜ r ≡ answered (fits (treeOf (now (rs .entry)))) (decideOf (treeOf (now (rs .entry)))) ⌝ }
 {
     let n = rs.len() - 2;
@@ -362,15 +375,15 @@ pub fn decide(rs: &[u64], atoms: &mut [u64], terms: &mut [u64], scratch: &mut [u
     let right = &rs[m..n];
     let operator = expr::argument(tag);
     if (operator == expr::LOGICAL_AND) | (operator == expr::LOGICAL_OR) {
-        let a = decide(left, atoms, terms, scratch);
-        let b = decide(right, atoms, terms, scratch);
+        let a = decide(left);
+        let b = decide(right);
         return halves(operator == expr::LOGICAL_AND, a, b);
     }
     if (operator == expr::EQUAL) | (operator == expr::NOT_EQUAL) {
-        if (36 < rs.len()) & ((terms.len() < 2320) | (scratch.len() < 4096)) {
-            return equality_apart(operator, rs, left, right, atoms);
+        if rs.len() <= 36 {
+            return equality_short(operator, rs, left, right);
         }
-        return equality(operator, rs, left, right, atoms, terms, scratch);
+        return equality_long(operator, rs, left, right);
     }
     Decision::Of(relation(operator, left, right))
 }

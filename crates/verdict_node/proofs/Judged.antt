@@ -75,7 +75,7 @@ module _ (s : List ℕ) (node : NodeReading) (read : ReadNode s node) {front : N
   types-are from-is types-is = rw (types-is, from-is, front-is, parts s node read .start .1)
 
   module _ {types : List ℕ} (these : types ≡ typesIn s node) where
-    pub words-lent : {lengths words out atoms terms products : List ℕ} → LentNode lengths words out atoms terms products → LentWords types lengths words out
+    pub words-lent : {lengths words out : List ℕ} → LentNode lengths words out → LentWords types lengths words out
     words-lent lent = record {
       few = rw these (parts s node read .few);
       lengthsRoom = lent .lengthsRoom;

@@ -13,7 +13,6 @@ use Rattle.substitution.specs.Substitution.{Substituted, into, tooLong}
 use Rattle.verdict.specs.declared.Verdict.{Verdict}
 use Rattle.verdict.specs.declared.Answer.{Answer}
 use Rattle.verdict.specs.declared.Answer.the-variants.{Given, Refused}
-use Rattle.exact.specs.Answers.{Buffers}
 use Rattle.decide.specs.declared.Decision.{Decision}
 use Rattle.decide.specs.declared.Decision.the-variants.{Of, TooMany}
 use Rattle.verdict_node.specs.declared.JudgedNode.{JudgedNode}
@@ -26,12 +25,11 @@ pub record LentWords (types lengths words out : List ℕ) : Type 0 where
   pub wordsRoom : length words ≡ 256
   pub outRoom : length out ≡ 256
 
--- the same, and buffers for `decide` on 18 records; their contents do not matter
-pub record LentNode (lengths words out atoms terms products : List ℕ) : Type 0 where
+-- the same without the types
+pub record LentNode (lengths words out : List ℕ) : Type 0 where
   pub lengthsRoom : length lengths ≡ 32
   pub wordsRoom : length words ≡ 256
   pub outRoom : length out ≡ 256
-  pub buffers : Buffers 36 atoms terms products
 
 -- the answer from a decision: refusal 11 where an equality passes the limits
 abbrev pub onDecision : ℕ → Decision → Answer

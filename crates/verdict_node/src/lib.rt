@@ -13,7 +13,6 @@ ghost use Rattle.sheet_field.specs.Field.{WentOn};
 ghost use Rattle.sheet_expression.specs.Expression.{expressionAt};
 ghost use Rattle.sheet_node.specs.Node.{statementsFrom, nodeAt};
 ghost use Rattle.substitute_node.specs.Node.{MadeNode};
-ghost use Rattle.exact.specs.Answers.{Buffers};
 ghost use Rattle.verdict_node.specs.NodeVerdict.{onSubstituted};
 ghost use Rattle.verdict_node.specs.Contracts.{LentWords, LentNode, onDecision, WholeWords, substitutedOf, JudgedIs};
 
@@ -98,22 +97,14 @@ fn answer_at(d: Decision, place: usize) -> Answer
 }
 
 // The answer from what substitution has written: refusal 10, or that of the decision on the condition.
-fn answer_for(
-    written: Written,
-    out: &[u64],
-    place: usize,
-    atoms: &mut [u64],
-    terms: &mut [u64],
-    products: &mut [u64],
-) -> Answer
+fn answer_for(written: Written, out: &[u64], place: usize) -> Answer
     requires { ⌜ WholeWords written (now out) ⌝ }
     requires { ⌜ length (now out) ≡ 256 ⌝ }
-    requires { ⌜ Buffers 36 (now atoms) (now terms) (now products) ⌝ }
     ensures { λ r. ⌜ r ≡ onSubstituted place (substitutedOf written (now (out .entry))) ⌝ }
 {
     match written {
         Written::TooLong => Answer::Refused(refusal::RECORDS, place),
-        Written::From(at) => answer_at(decide::decide(&out[at..], atoms, terms, products), place),
+        Written::From(at) => answer_at(decide::decide(&out[at..]), place),
     }
 }
 
@@ -126,12 +117,9 @@ fn verdict_in(
     lengths: &mut [usize],
     words: &mut [u64],
     out: &mut [u64],
-    atoms: &mut [u64],
-    terms: &mut [u64],
-    products: &mut [u64],
 ) -> JudgedNode
     requires { ⌜ WentOn (nodeAt (now s) (At at) .next) ⌝ }
-    requires { ⌜ LentNode (now lengths) (now words) (now out) (now atoms) (now terms) (now products) ⌝ }
+    requires { ⌜ LentNode (now lengths) (now words) (now out) ⌝ }
     ensures { λ r. ⌜ JudgedIs r (now (s .entry)) (nodeAt (now (s .entry)) (At at)) at ⌝ }
 {
     let front = sheet_node::take_front(s, Place::At(at));
@@ -145,7 +133,7 @@ fn verdict_in(
     let after = made.next;
     let a = sheet_field::count(s, after, 0, 16);
     let sites = a.next;
-    let answer = answer_for(written, out, at, atoms, terms, products);
+    let answer = answer_for(written, out, at);
     JudgedNode {
         answer,
         addresses: a.value,
@@ -162,18 +150,5 @@ pub fn verdict_at(s: &[u8], at: usize) -> JudgedNode
     let mut lengths = [0usize; 32];
     let mut words = [0u64; 256];
     let mut out = [0u64; 256];
-    let mut atoms = [0u64; 64];
-    let mut terms = [0u64; 560];
-    let mut products = [0u64; 512];
-    verdict_in(
-        s,
-        at,
-        &mut table,
-        &mut lengths,
-        &mut words,
-        &mut out,
-        &mut atoms,
-        &mut terms,
-        &mut products,
-    )
+    verdict_in(s, at, &mut table, &mut lengths, &mut words, &mut out)
 }

@@ -11,19 +11,19 @@ enum-known-written : tie.Need-enum-known-written
 enum-known-written c = search needs
 
 mul-decide : tie.Need-mul-decide
-mul-decide c = omega (arith, words-place _ (c .before .before .before .before .before .before .before .pre .0) (c .before .written .given .1))
+mul-decide c = omega (arith, words-place _ (c .before .before .before .before .pre .0) (c .before .written .given .1))
 
 sub-decide : tie.Need-sub-decide
-sub-decide c = omega (arith, words-place _ (c .before .before .before .before .before .before .before .pre .0) (c .before .written .given .1))
+sub-decide c = omega (arith, words-place _ (c .before .before .before .before .pre .0) (c .before .written .given .1))
 
 part-decide-start : tie.Need-part-decide-start
-part-decide-start c = omega (arith, words-place _ (c .before .before .before .before .before .before .before .pre .0) (c .before .written .given .1))
+part-decide-start c = omega (arith, words-place _ (c .before .before .before .before .pre .0) (c .before .written .given .1))
 
 part-decide-end : tie.Need-part-decide-end
 part-decide-end c = search needs
 
 decide-requires : tie.Need-decide-requires
-decide-requires c κs = (words-tree _ (c .before .before .before .before .before .before .before .before .before .before .before .pre .0) (c .before .before .before .before .before .written .given .1), (words-few _ (c .before .before .before .before .before .before .before .before .before .before .before .pre .0) (c .before .before .before .before .before .written .given .1) (c .before .before .before .before .before .before .before .before .before .before .before .pre .1 .0), c .before .before .before .before .before .before .before .before .before .before .before .pre .1 .1))
+decide-requires c κs = (words-tree _ (c .before .before .before .before .before .pre .0) (c .before .before .written .given .1), words-few _ (c .before .before .before .before .before .pre .0) (c .before .before .written .given .1) (c .before .before .before .before .before .pre .1))
 
 answer-at-requires : tie.Need-answer-at-requires
 answer-at-requires c κs = search needs
@@ -31,17 +31,8 @@ answer-at-requires c κs = search needs
 returns : tie.Need-returns
 returns c = rw (c .enum-told .given .1)
 
-same-length : tie.Need-same-length
-same-length c = search needs
-
-same-length-2 : tie.Need-same-length-2
-same-length-2 c = search needs
-
-same-length-3 : tie.Need-same-length-3
-same-length-3 c = search needs
-
 returns-2 : tie.Need-returns-2
-returns-2 c = decided _ (c .before .before .before .before .before .before .before .before .before .before .before .before .before .before .before .before .before .before .before .pre .0) (c .before .before .before .before .before .before .before .before .before .before .before .before .before .written .given .1) _ (c .before .before .before .before .before .before .before .decide .ensures) (c .answer-at .ensures)
+returns-2 c = decided _ (c .before .before .before .before .before .before .before .pre .0) (c .before .before .before .before .written .given .1) _ (c .before .decide .ensures) (c .answer-at .ensures)
 
 pub answer-for-spec : {M : Type 1} → statement M
 answer-for-spec =
@@ -56,7 +47,4 @@ answer-for-spec =
     decide-requires
     answer-at-requires
     returns
-    same-length
-    same-length-2
-    same-length-3
     returns-2)

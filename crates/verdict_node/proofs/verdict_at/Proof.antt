@@ -1,4 +1,3 @@
-use native.Mathlib.Omega.{arith}
 use borrow.Author.Needs.{needs}
 use Rattle.verdict_node.proofs.verdict_at.Statement.{statement}
 use Rattle.verdict_node.proofs.verdict_at.Tie as tie
@@ -18,17 +17,8 @@ slice-aggregate-verdict-in-3 c = search needs
 slice-aggregate-verdict-in-4 : tie.Need-slice-aggregate-verdict-in-4
 slice-aggregate-verdict-in-4 c = search needs
 
-slice-aggregate-verdict-in-5 : tie.Need-slice-aggregate-verdict-in-5
-slice-aggregate-verdict-in-5 c = search needs
-
-slice-aggregate-verdict-in-6 : tie.Need-slice-aggregate-verdict-in-6
-slice-aggregate-verdict-in-6 c = search needs
-
-slice-aggregate-verdict-in-7 : tie.Need-slice-aggregate-verdict-in-7
-slice-aggregate-verdict-in-7 c = search needs
-
 verdict-in-requires : tie.Need-verdict-in-requires
-verdict-in-requires c κs = (search needs, record { lengthsRoom = search needs; wordsRoom = search needs; outRoom = search needs; buffers = record { table = search needs; space = search needs; products = record { least = search needs; most = λ more. absurd (omega (arith, more)) } } })
+verdict-in-requires c κs = (search needs, record { lengthsRoom = search needs; wordsRoom = search needs; outRoom = search needs })
 
 returns : tie.Need-returns
 returns c = search needs
@@ -42,8 +32,5 @@ verdict-at-spec =
     slice-aggregate-verdict-in-2
     slice-aggregate-verdict-in-3
     slice-aggregate-verdict-in-4
-    slice-aggregate-verdict-in-5
-    slice-aggregate-verdict-in-6
-    slice-aggregate-verdict-in-7
     verdict-in-requires
     returns)
