@@ -315,20 +315,15 @@ fn on_first(
     }
 }
 
+// stc, clc, cmc whatever their operands, all others by their first one.
 fn step_modelled(registers: &mut Registers, flags: Flags, i: Instruction) -> Flags
     ensures { λ r. ⌜ stateOf (now (registers .exit)) r ≡ modelledStep (stateOf (now (registers .entry)) flags) i (i .mnemonic) ⌝ }
 {
     let m = i.mnemonic;
     let first = i.first;
     match m {
-        Mnemonic::Other => forget(registers, flags, i),
         Mnemonic::Carry(c) => carry(flags, c),
-        Mnemonic::Mov => on_first(registers, flags, i, Mnemonic::Mov, first),
-        Mnemonic::Not => on_first(registers, flags, i, Mnemonic::Not, first),
-        Mnemonic::TwoOperand(op) => on_first(registers, flags, i, Mnemonic::TwoOperand(op), first),
-        Mnemonic::OneOperand(op) => on_first(registers, flags, i, Mnemonic::OneOperand(op), first),
-        Mnemonic::Jump(_) => forget(registers, flags, i),
-        Mnemonic::CountJump(_) => forget(registers, flags, i),
+        _ => on_first(registers, flags, i, m, first),
     }
 }
 

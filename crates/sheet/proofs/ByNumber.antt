@@ -8,6 +8,7 @@ use lib.ListN.{length, getD, length-map}
 use Rattle.sheet_field.specs.declared.Place.{Place}
 use Rattle.sheet_field.specs.declared.Place.the-variants.{At}
 use Rattle.sheet_field.specs.Field.{little, startOf, WentOn}
+use Rattle.isa.specs.declared.Mnemonic.{Mnemonic}
 use Rattle.isa.specs.declared.Instruction.{Instruction}
 use Rattle.sheet_instruction.specs.Instruction.{instructionAt}
 use Rattle.sheet_node.specs.declared.NodeReading.{NodeReading}
@@ -77,6 +78,10 @@ module _ (s : List ℕ) (sheet : Sheet) (read : readingOf s ≡ reading.Accepted
     unfolding code
     nth-instruction-is i-is d =
         rw (i-is, places-are, ← accepted s sheet read .instructions) (again-is s code (sheet .instructions .count) number code-on numbered d)
+
+    pub nth-mnemonic-is : {m : Mnemonic} → m ≡ instructionAt true 0 s (At (getD places number 0)) .instruction .mnemonic
+        → (d : Instruction) → m ≡ getD (sheetAt s .instructions .list) number d .mnemonic
+    nth-mnemonic-is is d = is ∙ ap (λ (i : Instruction). i .mnemonic) (nth-instruction-is refl d)
 
     -- a field of it
     nth-field : {A : Type 0} (f : Instruction → A) (e : A) → f (instructionAt true 0 s (At (getD places number 0)) .instruction) ≡ getD (map f (sheetAt s .instructions .list)) number e

@@ -1,6 +1,7 @@
 // The sheet: read whole, it is accepted, with the counts of its records and where they start, or refused. Reading fills an
 // index on the way, by which a block, an instruction or a node is found by its number.
 use isa::Instruction;
+use isa::Mnemonic;
 use sheet_field::Place;
 use sheet_field::Width;
 ghost use mathlib.Core.Path.{_≡_};
@@ -231,6 +232,17 @@ pub fn nth_instruction(s: &[u8], sheet: Sheet, places: &[u64], number: usize) ->
 {
     let at = places[number];
     sheet_accepted::instruction_at(s, at as usize)
+}
+
+// The mnemonic of the instruction of that number.
+pub fn nth_mnemonic(s: &[u8], sheet: Sheet, places: &[u64], number: usize) -> Mnemonic
+    requires { ⌜ readingOf (now s) ≡ Accepted sheet ⌝ }
+    requires { ⌜ now places ≡ sheetAt (now s) .instructions .places ⌝ }
+    requires { ⌜ number < length (now places) ⌝ }
+    ensures { λ r. ⌜ ((d : Instruction) → r ≡ getD (sheetAt (now (s .entry)) .instructions .list) number d .mnemonic) ⌝ }
+{
+    let at = places[number];
+    sheet_accepted::mnemonic_at(s, at as usize)
 }
 
 // Whether the instruction of that number is a conditional branch.

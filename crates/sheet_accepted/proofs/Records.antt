@@ -154,10 +154,14 @@ module _ (s : List ℕ) (at : ℕ) (on : WentOn (instructionAt true 0 s (At at) 
   unfolding headAt
   target-is = optional-field-is (bitOf (little s at 1) 1) s (at + 10) (rw (number-is .2, map-is) at (behind-head .1))
 
-  -- its address, its mark and its target
+  -- its address, its mnemonic, its mark and its target
   pub address-here : {address : ℕ} → address ≡ little s (at + 1) 8 → address ≡ instructionAt true 0 s (At at) .instruction .address
   unfolding instructionAt headAt
   address-here read = rw (read, address-is)
+
+  pub mnemonic-here : {number : ℕ} → number ≡ little s (at + 9) 1 → named number ≡ instructionAt true 0 s (At at) .instruction .mnemonic
+  unfolding instructionAt headAt
+  mnemonic-here read = rw (read, number-is .2)
 
   pub branch-here : {map : ℕ} → map ≡ little s at 1 → bitOf map 1 ≡ instructionAt true 0 s (At at) .instruction .branch
   unfolding instructionAt headAt
@@ -187,10 +191,10 @@ module _ (s : List ℕ) (at : ℕ) (on : WentOn (instructionAt true 0 s (At at) 
           let w : WentOn (tailAt (headAt true 0 s (At at) .map) s (headAt true 0 s (At at) .next) .next) = (on .0, behind-on true 0 s (At at) (on .1) .0) in
           rw head-is at w
 
-      pub instruction-is : {address number : ℕ} {call : Bool} {mnemonic : Mnemonic} {c : Content} → address ≡ little s (at + 1) 8
-          → number ≡ little s (at + 9) 1 → mnemonic ≡ named number → call ≡ bitOf map 2 → c ≡ contentAt map s (At (target .end))
+      pub instruction-is : {address : ℕ} {call : Bool} {mnemonic : Mnemonic} {c : Content} → address ≡ instructionAt true 0 s (At at) .instruction .address
+          → mnemonic ≡ instructionAt true 0 s (At at) .instruction .mnemonic → call ≡ bitOf map 2 → c ≡ contentAt map s (At (target .end))
           → _≡_ {A = Instruction}
           (record { address = address; mnemonic = mnemonic; branch = branch; target = target .value; call = call; first = c .first; second = c .second; written = c .written; count = c .count; flags = c .flags })
           (instructionAt true 0 s (At at) .instruction)
       unfolding instructionAt
-      instruction-is address-read number-read mnemonic-is call-is c-is = rw (head-is, c-is, address-read, mnemonic-is, number-read, call-is, branch-is)
+      instruction-is address-read mnemonic-is call-is c-is = rw (address-read, mnemonic-is, head-is, c-is, call-is, branch-is)

@@ -1,5 +1,6 @@
 // The instruction record at an offset of an accepted sheet: what it holds, with nothing checked again.
 use isa::Instruction;
+use isa::Mnemonic;
 use isa::Operand;
 use isa::Register;
 use sheet_field::Width;
@@ -136,6 +137,14 @@ pub fn address_at(s: &[u8], at: usize) -> u64
     sheet_field::number(s, at + 1, Width::Eight)
 }
 
+// The mnemonic of the instruction that was read at that offset.
+pub fn mnemonic_at(s: &[u8], at: usize) -> Mnemonic
+    requires { ⌜ WentOn (instructionAt true 0 (now s) (At at) .next) ⌝ }
+    ensures { λ r. ⌜ r ≡ instructionAt true 0 (now (s .entry)) (At at) .instruction .mnemonic ⌝ }
+{
+    isa::mnemonic_of(sheet_field::number(s, at + 9, Width::One))
+}
+
 // Whether the instruction that was read at that offset is a conditional branch.
 pub fn is_branch_at(s: &[u8], at: usize) -> bool
     requires { ⌜ WentOn (instructionAt true 0 (now s) (At at) .next) ⌝ }
@@ -160,8 +169,8 @@ pub fn instruction_at(s: &[u8], at: usize) -> Instruction
     ensures { λ r. ⌜ r ≡ instructionAt true 0 (now (s .entry)) (At at) .instruction ⌝ }
 {
     let map = sheet_field::number(s, at, Width::One);
-    let address = sheet_field::number(s, at + 1, Width::Eight);
-    let mnemonic = isa::mnemonic_of(sheet_field::number(s, at + 9, Width::One));
+    let address = address_at(s, at);
+    let mnemonic = mnemonic_at(s, at);
     let branch = sheet_instruction::bit(map, 1);
     let target = number_if(branch, s, at + 10, Width::Eight);
     let rest = content_at(s, target.end, map);

@@ -1,16 +1,20 @@
 -- Laws of stepping over a range of instructions.
 use Prim.Native.Nat.{ℕ, _+_, _≤_, _<_}
-use mathlib.Core.Path.{_≡_, refl, ap}
+use mathlib.Core.Path.{_≡_, refl, ap, sym, _∙_}
+use mathlib.Core.Bool.{Bool, true, false}
 use mathlib.Core.List.{List, [], _∷_, _++_}
 use native.Mathlib.Omega.{arith}
 use native.Mathlib.Numerals.{add-one}
 use lib.ListN.{length, getD, take, length-take, drop-of-length-le}
 use lib.Seq.{slice, slice-cons, length-take-le, take-suc, drop-append-le}
+use Rattle.isa.specs.declared.Mnemonic.{Mnemonic}
 use Rattle.isa.specs.declared.Instruction.{Instruction}
 use Rattle.machine.specs.declared.State.{State}
 use Rattle.machine.specs.Rules.{stepped, steppedAll}
+use Rattle.sheet.specs.Index.{branchesOf}
+use Rattle.sheet.proofs.Fronts.{one, map-at}
 use Rattle.verdict_block.specs.declared.Jump.{Jump}
-use Rattle.verdict_block.specs.declared.Jump.the-variants.{Nothing}
+use Rattle.verdict_block.specs.declared.Jump.the-variants.{Conditional, Nothing}
 use Rattle.verdict_block.specs.Verdict.{preceded, apart, jumpOf, endFrom}
 use Rattle.verdict_block.specs.Verdict.Parts.{none, ending}
 
@@ -58,9 +62,23 @@ module _ (l : List Instruction) where
       rw (← last-is, snoc-at first last d (omega arith) (omega arith)) (apart-last (slice first last l) (getD l last d))
 
   -- the last one
-  pub end-last : (first last end : ℕ) {x : Instruction} (start : State) {state : State} {jump : Jump} → first < end → last + 1 ≡ end
-      → end ≤ length l → state ≡ steppedAll start (slice first last l) → ((d : Instruction) → x ≡ getD l last d)
-      → jump ≡ jumpOf x → record { known = state; jump = jump } ≡ endFrom start (slice first end l)
+  pub end-last : (first last end : ℕ) (start : State) {state : State} {jump : Jump} → first < end → last + 1 ≡ end
+      → end ≤ length l → state ≡ steppedAll start (slice first last l) → ((d : Instruction) → jump ≡ jumpOf (getD l last d))
+      → record { known = state; jump = jump } ≡ endFrom start (slice first end l)
   unfolding endFrom
-  end-last first last end {x} start below last-is fits state-is x-is jump-is =
-      rw (apart-between first last end x below last-is fits, ← x-is x, state-is, jump-is)
+  end-last first last end start below last-is fits state-is jump-is =
+      let d = one l last (omega (arith, last-is, fits)) in
+      rw (apart-between first last end d below last-is fits, state-is, ← jump-is d)
+
+  -- what a verdict asks for of it
+  module _ (number : ℕ) (there : number < length l) {mark : Bool} (mark-is : mark ≡ getD (branchesOf l) number false) where
+    marked : (d : Instruction) → getD l number d .branch ≡ mark
+    unfolding branchesOf
+    marked d = sym (map-at (λ (i : Instruction). i .branch) l number d false there) ∙ sym mark-is
+
+    pub jump-there : {m : Mnemonic} → mark ≡ true → ((d : Instruction) → m ≡ getD l number d .mnemonic) → (d : Instruction)
+        → Conditional m ≡ jumpOf (getD l number d)
+    jump-there taken m-is d = rw (marked d, taken, m-is d)
+
+    pub no-jump : mark ≡ false → (d : Instruction) → Nothing ≡ jumpOf (getD l number d)
+    no-jump left d = rw (marked d, left)

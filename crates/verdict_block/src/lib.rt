@@ -2,7 +2,6 @@
 // known where it starts; what is known at its end judges its last instruction, where that is a conditional branch.
 use alu::Flag;
 use alu::Flags;
-use isa::Instruction;
 use isa::Mnemonic;
 use machine::Registers;
 use machine::State;
@@ -11,7 +10,8 @@ use verdict::Reason;
 use verdict::Verdict;
 ghost use mathlib.Core.Path.{_≡_};
 ghost use Prim.Native.Nat.{_≤_, _<_};
-ghost use lib.ListN.{length};
+ghost use lib.ListN.{length, getD};
+ghost use Rattle.isa.specs.declared.Instruction.{Instruction};
 ghost use lib.Seq.{slice};
 ghost use Rattle.machine.specs.States.{stateOf};
 ghost use Rattle.machine.specs.Registers.{nothingKnown};
@@ -34,11 +34,15 @@ pub struct Range {
     pub end: usize,
 }
 
-fn jump_of(i: Instruction) -> Jump
-    ensures { λ r. ⌜ r ≡ jumpOf i ⌝ }
+// What a verdict asks for of the instruction of that number, of an accepted sheet.
+fn jump_at(s: &[u8], sheet: Sheet, places: &[u64], number: usize) -> Jump
+    requires { ⌜ readingOf (now s) ≡ Accepted sheet ⌝ }
+    requires { ⌜ now places ≡ sheetAt (now s) .instructions .places ⌝ }
+    requires { ⌜ number < length (now places) ⌝ }
+    ensures { λ r. ⌜ ((d : Instruction) → r ≡ jumpOf (getD (sheetAt (now (s .entry)) .instructions .list) number d)) ⌝ }
 {
-    if i.branch {
-        let mnemonic = i.mnemonic;
+    if sheet::is_branch(s, sheet, places, number) {
+        let mnemonic = sheet::nth_mnemonic(s, sheet, places, number);
         Jump::Conditional(mnemonic)
     } else {
         Jump::Nothing
@@ -117,8 +121,7 @@ fn verdict_between(
     }
     let last = end - 1;
     let flags = step_over(s, sheet, places, first, last, registers, start);
-    let it = sheet::nth_instruction(s, sheet, places, last);
-    verdict_at(registers, flags, jump_of(it))
+    verdict_at(registers, flags, jump_at(s, sheet, places, last))
 }
 
 // The instructions of the block of that number, of an accepted sheet with its index: quickly found where they start at or shortly
