@@ -67,17 +67,24 @@ static void read_claims(const char *path)
     fclose(file);
 }
 
-static struct claim *claim_at(uint64_t address)
+/* The last claim at the address or before it. */
+static struct claim *claim_before(uint64_t address)
 {
     size_t low = 0, high = count;
     while (low < high) {
         size_t middle = low + (high - low) / 2;
-        if (claims[middle].address < address)
+        if (claims[middle].address <= address)
             low = middle + 1;
         else
             high = middle;
     }
-    return low < count && claims[low].address == address ? &claims[low] : NULL;
+    return low > 0 ? &claims[low - 1] : NULL;
+}
+
+static struct claim *claim_at(uint64_t address)
+{
+    struct claim *before = claim_before(address);
+    return before && before->address == address ? before : NULL;
 }
 
 /* Whether an ELF file is of 32 bits. */
@@ -229,7 +236,8 @@ static void check_control(struct claim *last, const struct claim *here, uint64_t
         if (last->verdict == 'n' && address != last->next)
             violation("never taken, and it was", last->address);
     }
-    if (here && here->verdict == 'd')
+    const struct claim *around = claim_before(address);
+    if (around && around->verdict == 'd' && (address == around->address || address < around->next))
         violation("dead, and it is run", address);
     if (!here || here->block == 'b')
         return;

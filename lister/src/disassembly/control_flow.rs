@@ -31,9 +31,11 @@ pub struct Outside {
     pub possible: Vec<u64>,
     /// Where the loader stores the addresses of functions for jumps through them.
     pub slots: Vec<Span>,
-    /// Jumps of code that the text does not show, from and to.
+    /// Code that is run and that the text does not show.
+    pub hidden: Vec<Span>,
+    /// Jumps of such code, from and to.
     pub joins: Vec<(u64, u64)>,
-    /// Where such code goes to an address that is not known.
+    /// Where it goes to an address that is not known.
     pub opens: Vec<u64>,
     /// What numbers in operands may be distances from: 0 where they may be addresses.
     pub bases: Vec<u64>,
@@ -55,6 +57,8 @@ pub struct ControlFlow {
     /// Other addresses that instructions name: immediates, and what they address
     /// relative to rip.
     pub named: Vec<u64>,
+    /// Addresses that 32-bit code gives as distances, and what from.
+    pub reckoned: Vec<(u64, u64)>,
     /// Lines that the processor may read otherwise than they are shown.
     pub unclear: Vec<u64>,
     /// Where code may go on that is not shown.
@@ -83,7 +87,8 @@ pub fn read(text: &Disassembly, outside: &Outside) -> ControlFlow {
         }
         control.steps.push(through_slot(text, outside, line, &parts, step));
     }
-    control.named.extend(distances::from_own_address(text, outside));
+    control.reckoned = distances::from_own_address(text, outside);
+    control.named.extend(control.reckoned.iter().map(|(address, _)| address));
     returns_as_jumps(text, outside, &mut control);
     control.unseen.extend(ends_of_runs(text, &control.steps));
     for list in [&mut control.targets, &mut control.named, &mut control.unseen] {

@@ -2,6 +2,7 @@
 //! place that is entered; it is dead where it would run if nothing were decided, and does
 //! not as things are.
 
+use crate::disassembly::elf::Span;
 use crate::disassembly::instruction::Flow;
 use crate::disassembly::listing::Branch;
 use crate::disassembly::operand::parts;
@@ -57,9 +58,13 @@ fn entered(program: &Program) -> Vec<usize> {
     let Program { text, control, outside, leaders, .. } = program;
     let labels = text.labels.iter().map(|label| label.address);
     let functions = outside.functions.iter().map(|span| span.start);
-    let outside = outside.entries.iter().chain(&outside.possible).chain(&control.named);
-    let addresses = labels.chain(functions).chain(outside.copied()).chain(calls(program));
+    let entries = outside.entries.iter().chain(&outside.possible).chain(&control.named);
+    let addresses = labels.chain(functions).chain(entries.copied()).chain(calls(program));
     let mut entered: Vec<usize> = addresses.filter_map(|at| text.line_at(at).ok()).collect();
+    // The bytes of these lines are also run as other instructions.
+    let up_to = |address: u64| text.lines.partition_point(|line| line.address < address);
+    let lines = |span: &Span| up_to(span.start + 1).saturating_sub(1)..up_to(span.end);
+    entered.extend(outside.hidden.iter().flat_map(lines));
     let by_itself = text.lines.iter().enumerate().filter(|(number, line)| {
         leaders.open[*number] || line.after_gap || line.text.starts_with("endbr")
     });

@@ -11,8 +11,8 @@ use std::collections::HashSet;
 /// How many lines behind the call a number may be added to the own address.
 const NEAR: usize = 8;
 
-/// What numbers are distances from, as far as it is known: the own address with what was
-/// added to it, its register, and the lines in which more may be added.
+/// What numbers are distances from, as far as it is known: the own address, or the one
+/// that was made of it by an addition; its register; and the lines in which that may be.
 #[derive(Clone, Copy)]
 struct Base<'a> {
     address: u64,
@@ -35,11 +35,12 @@ pub fn numbers<'a>(parts: &'a Parts) -> impl Iterator<Item = u64> + 'a {
     })
 }
 
-/// The addresses that 32-bit code names by distances from its own.
-pub fn from_own_address(text: &Disassembly, outside: &Outside) -> Vec<u64> {
-    let mut named = Vec::new();
+/// The addresses that 32-bit code names by distances from its own, and what each is
+/// reckoned from.
+pub fn from_own_address(text: &Disassembly, outside: &Outside) -> Vec<(u64, u64)> {
+    let mut found = Vec::new();
     if text.bits == Bits::B64 {
-        return named;
+        return found;
     }
     let labels = text.labels.iter().map(|label| label.address);
     let functions = outside.functions.iter().map(|span| span.start);
@@ -48,26 +49,26 @@ pub fn from_own_address(text: &Disassembly, outside: &Outside) -> Vec<u64> {
     for (number, line) in text.lines.iter().enumerate() {
         let kept = base.filter(|_| !starts.contains(&line.address));
         let parts = parts(line.text);
-        let at = |base: &Base| numbers(&parts).map(|n| n.wrapping_add(base.address)).collect();
-        let found: Vec<u64> = kept.as_ref().map(at).unwrap_or_default();
-        named.extend(found.into_iter().map(|address| text.bits.address(address)));
+        if let Some(Base { address, .. }) = kept {
+            let named = numbers(&parts).map(|n| text.bits.address(n.wrapping_add(address)));
+            found.extend(named.map(|named| (named, text.bits.address(address))));
+        }
         base = own_address(text, number, &parts).or(kept.map(|base| base.behind(&parts)));
     }
-    named
+    found
 }
 
 impl Base<'_> {
     /// Behind a line.
     fn behind(mut self, parts: &Parts) -> Self {
         let added = match (parts.mnemonic, parts.operands.as_slice()) {
-            ("add", [_, Operand::Immediate(value)]) => *value,
-            ("sub", [_, Operand::Immediate(value)]) => value.wrapping_neg(),
-            _ => 0,
+            _ if self.left == 0 || parts.words.first() != Some(&self.register) => None,
+            ("add", [_, Operand::Immediate(value)]) => Some(*value),
+            ("sub", [_, Operand::Immediate(value)]) => Some(value.wrapping_neg()),
+            _ => None,
         };
-        if self.left > 0 && parts.words.first() == Some(&self.register) {
-            self.address = self.address.wrapping_add(added);
-        }
-        self.left = self.left.saturating_sub(1);
+        self.left = if added.is_some() { 0 } else { self.left.saturating_sub(1) };
+        self.address = self.address.wrapping_add(added.unwrap_or(0));
         self
     }
 }

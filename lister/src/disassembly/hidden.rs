@@ -5,6 +5,7 @@
 
 use crate::disassembly::bits::Bits;
 use crate::disassembly::control_flow::{addresses, is_short_branch, Outside, LONGEST};
+use crate::disassembly::elf::Span;
 use crate::disassembly::instruction::{listed, Flow};
 use crate::disassembly::operand::parts;
 use crate::disassembly::returns;
@@ -26,6 +27,12 @@ impl Decoded {
         let size = self.bytes.split_whitespace().count() as u64;
         let Decoded { address, bytes, text, .. } = self;
         Line { address: *address, text, bytes, size, after_gap: false }
+    }
+
+    /// Its bytes; what cannot be decoded may be of any length.
+    fn span(&self) -> Span {
+        let size = if self.text.contains("(bad)") { LONGEST } else { self.line().size };
+        Span { start: self.address, end: self.address.saturating_add(size) }
     }
 }
 
@@ -93,6 +100,7 @@ impl Follower<'_> {
                 return;
             }
             let new = self.seen.insert((line.address, self.past));
+            self.outside.hidden.push(line.span());
             if !new || !self.line(&run.lines[..=number]) {
                 return;
             }

@@ -20,8 +20,10 @@ pub fn stored(file: &File, code: &[Span]) -> Vec<u64> {
     };
     let relocated = file.relocated().into_iter();
     found.extend(relocated.filter(|address| in_code(code, *address)));
-    // The jump tables of 32-bit code that may be loaded anywhere.
     found.extend(slot_table(file).into_iter().flat_map(|base| words(file, code, base)));
+    if !file.movable {
+        found.extend(gates(file, code));
+    }
     found.sort_unstable();
     found.dedup();
     found
@@ -38,8 +40,8 @@ fn numbers(file: &File, code: &[Span], size: usize) -> Vec<u64> {
 const UNWINDING: [&str; 2] = [".eh_frame", ".eh_frame_hdr"];
 
 /// The words of data of 32-bit code that may be loaded anywhere, each as a distance from
-/// the base. There an address is relocated, so that it stands in no code, and where it
-/// is not aligned a relocation says so.
+/// the base, as in its jump tables. An address is relocated there, so that it stands in no
+/// code, and where it is not aligned a relocation says so.
 fn words(file: &File, code: &[Span], base: u64) -> Vec<u64> {
     let is_data = |section: &&Section| !section.is_code() && !UNWINDING.contains(&section.name);
     let words = file.loaded().filter(is_data).flat_map(|section| section.bytes.chunks_exact(4));
@@ -53,6 +55,25 @@ fn words(file: &File, code: &[Span], base: u64) -> Vec<u64> {
 pub fn slot_table(file: &File) -> Option<u64> {
     let table = file.section(".got.plt").or_else(|| file.section(".got"))?;
     (file.bits == Bits::B32).then_some(table.address)
+}
+
+/// The bytes of a gate, by which the processor enters code on an interrupt, and those of
+/// an address in it; its kind is the byte before the last two of the 8 that both have.
+const GATE_32: (usize, [usize; 4]) = (8, [0, 1, 6, 7]);
+const GATE_64: (usize, [usize; 8]) = (16, [0, 1, 6, 7, 8, 9, 10, 11]);
+
+/// The addresses of code in all that looks like a gate: for interrupts, traps and calls.
+fn gates(file: &File, code: &[Span]) -> Vec<u64> {
+    let (size, places): (usize, &[usize]) = match file.bits {
+        Bits::B32 => (GATE_32.0, &GATE_32.1),
+        Bits::B64 => (GATE_64.0, &GATE_64.1),
+    };
+    let windows = file.loaded().flat_map(|section| section.bytes.windows(size));
+    let gates = windows.filter(|bytes| bytes[5] & 0x1c == 0x0c);
+    let address = |bytes: &[u8]| {
+        places.iter().rev().fold(0, |address, at| address << 8 | u64::from(bytes[*at]))
+    };
+    gates.map(address).filter(|address| in_code(code, *address)).collect()
 }
 
 /// endbr64 and endbr32 but for their last byte.
@@ -70,16 +91,16 @@ pub fn marked(file: &File) -> Vec<u64> {
     found
 }
 
-/// The targets of a table of 4-byte offsets from its own start, if `table` is
-/// one: as far as they lead to code.
-pub fn offsets(file: &File, code: &[Span], table: u64) -> Vec<u64> {
+/// The targets of a table of 4-byte offsets from a base, mostly its own start, if
+/// `table` is one: as far as they lead to code, and not more than so many.
+pub fn offsets(file: &File, code: &[Span], table: u64, base: u64, most: usize) -> Vec<u64> {
     let Some(section) = file.loaded().find(|section| covers(section, table)) else {
         return Vec::new();
     };
-    let entries = section.bytes[(table - section.address) as usize..].chunks_exact(4);
+    let entries = section.bytes[(table - section.address) as usize..].chunks_exact(4).take(most);
     let targets = entries.map(|entry| {
         let offset = i32::from_le_bytes(entry.try_into().expect("a chunk of four"));
-        file.bits.address(table.wrapping_add_signed(i64::from(offset)))
+        file.bits.address(base.wrapping_add_signed(i64::from(offset)))
     });
     targets.take_while(|address| in_code(code, *address)).collect()
 }

@@ -79,19 +79,35 @@ fn outside(file: &File) -> Result<Outside, String> {
 /// Adds the targets of tables that instructions address.
 fn add_tables(file: &File, control: &ControlFlow, outside: &mut Outside) {
     let code = file.code();
-    let targets = control.named.iter().flat_map(|table| pointers::offsets(file, &code, *table));
+    let targets = control
+        .named
+        .iter()
+        .flat_map(|table| pointers::offsets(file, &code, *table, *table, usize::MAX));
     outside.possible.extend(targets);
 }
 
-/// The targets of tables, each read no further than to the next address that an
-/// instruction names: what follows belongs to another table, and leads between lines.
-fn bounded_tables(file: &File, control: &ControlFlow) -> Vec<u64> {
+/// Adds the targets of tables of distances from own addresses. Those of distances from
+/// the table of slots are found without their address.
+fn add_reckoned(file: &File, control: &ControlFlow, outside: &mut Outside) {
+    let slots = pointers::slot_table(file);
+    let tables = control.reckoned.iter().copied().filter(|(_, base)| slots != Some(*base));
+    outside.possible.extend(bounded(file, control, tables));
+}
+
+/// The targets of tables of distances from a base, each read no further than to the next
+/// address that an instruction names: what follows belongs to another table, and leads
+/// between lines.
+fn bounded(
+    file: &File,
+    control: &ControlFlow,
+    tables: impl Iterator<Item = (u64, u64)>,
+) -> Vec<u64> {
     let code = file.code();
-    let ends = control.named.iter().skip(1).copied().chain([u64::MAX]);
-    let tables = control.named.iter().zip(ends);
-    let targets = tables.flat_map(|(table, end)| {
+    let targets = tables.flat_map(|(table, base)| {
+        let next = control.named.partition_point(|named| *named <= table);
+        let end = control.named.get(next).copied().unwrap_or(u64::MAX);
         let most = usize::try_from((end - table).div_ceil(4)).unwrap_or(usize::MAX);
-        pointers::offsets(file, &code, *table).into_iter().take(most)
+        pointers::offsets(file, &code, table, base, most)
     });
     targets.collect()
 }
@@ -111,7 +127,8 @@ fn add_hidden(
         .iter()
         .filter_map(|address| control_flow::wide_target(file.code_at(*address)?, *address));
     let starts = shown.chain(known).copied().chain(functions).chain(wide);
-    let starts = starts.chain(bounded_tables(file, control));
+    let tables = control.named.iter().map(|table| (*table, *table));
+    let starts = starts.chain(bounded(file, control, tables));
     let is_hidden = |at: &u64| text.line_at(*at).is_err() && file.code_at(*at).is_some();
     let starts = starts.filter(is_hidden).collect();
     hidden::follow(text, outside, starts, &|places| objdump::runs(file, places))
@@ -164,6 +181,7 @@ fn of_file<'a>(file: &File, text: Disassembly<'a>, hints: &Hints) -> Result<Prog
     let mut outside = outside(file)?;
     let assumed = add_hints(file, &text, hints, &mut outside)?;
     let control = control_flow::read(&text, &outside);
+    add_reckoned(file, &control, &mut outside);
     add_hidden(file, &text, &control, &mut outside)?;
     add_tables(file, &control, &mut outside);
     let mut program = program(text, control, outside, Vec::new());

@@ -173,3 +173,19 @@ fn a_raw_image_is_all_code() {
     assert_eq!(file.code_at(0x1232), Some(&bytes[2..]));
     assert_eq!(pointers::stored(&file, &file.code()), [0x1234]);
 }
+
+#[test]
+fn gates_have_addresses_in_two_parts() {
+    let mut bytes = [0x90; 0x20];
+    bytes[3..11].copy_from_slice(&[0x10, 0x80, 8, 0, 0, 0x8e, 0x01, 0]);
+    let stored = |bytes: &[u8], bits| {
+        let file = elf::raw(bytes, bits, 0x1_8000);
+        pointers::stored(&file, &file.code())
+    };
+    assert_eq!(stored(&bytes, Bits::B32), [0x1_8010]);
+    assert_eq!(stored(&bytes, Bits::B64), []);
+    bytes[11..15].copy_from_slice(&[0; 4]);
+    assert_eq!(stored(&bytes, Bits::B64), [0x1_8010]);
+    bytes[8] = 0x89;
+    assert_eq!(stored(&bytes, Bits::B32), []);
+}

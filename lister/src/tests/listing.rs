@@ -1,5 +1,6 @@
 //! Listings and their reports, with a judge of these tests in the product's place.
 
+use crate::disassembly::elf::Span;
 use crate::disassembly::judge::{decided, written, Decided};
 use crate::disassembly::listing::{list, Job, Listing};
 use crate::disassembly::program::{of_text, Program};
@@ -7,7 +8,7 @@ use crate::disassembly::undecided::Cause;
 use crate::disassembly::{annotated, json, report, steps, text};
 use crate::sheets::names::mnemonic;
 use crate::sheets::reader;
-use crate::tests::function;
+use crate::tests::{addressed, function};
 
 /// Always for each je of a block in which `xor eax, eax` is the last instruction that
 /// sets flags, never for each such jne.
@@ -66,6 +67,17 @@ fn what_only_a_dead_edge_leads_to_is_dead() {
         let program = of_text(text::read(&code, None).unwrap());
         assert_eq!(listed(&program).dead, [7..8], "{other}");
     }
+    // Its bytes are also run as other instructions, here from its second on.
+    let wide = addressed(&[
+        (0x1000, "xor    eax,eax"),
+        (0x1001, "je     1008 <f+0x8>"),
+        (0x1003, "cmp    eax,0x90909090"),
+        (0x1008, "ret"),
+    ]);
+    let mut program = of_text(text::read(&wide, None).unwrap());
+    assert_eq!(listed(&program).dead, [2..3]);
+    program.outside.hidden.push(Span { start: 0x1004, end: 0x1005 });
+    assert_eq!(listed(&program).dead, []);
     // A jump from dead code does not count; one to an unknown address opens everything.
     let from_dead = code.replace("nop", "jmp    1007 <f+0x7>");
     let program = of_text(text::read(&from_dead, None).unwrap());
