@@ -6,7 +6,7 @@ ghost use Rattle.isa.specs.Register.{wellFormed};
 ghost use Rattle.isa.specs.Mnemonics.{named};
 ghost use Rattle.isa.specs.FlagBits.{declares};
 ghost use Rattle.isa.specs.Modelled.{isRegister, isAbsent, takes, modelled, sizesDiffer, outside, isMov, declaresResult, declaresOwn, undeclared};
-ghost use Rattle.isa.specs.Contracts.{isSize, faultOf};
+ghost use Rattle.isa.specs.Contracts.{isSize, isUnary, faultOf};
 
 // Class 1 are the general registers; index, size in bits and offset in bits name the part.
 pub struct Register {
@@ -317,13 +317,35 @@ fn is_undeclared(m: Mnemonic, flags: u64) -> bool
     }
 }
 
-// Refusal 6, from what it depends on.
+fn is_unary(m: Mnemonic) -> bool
+    ensures { λ r. ⌜ r ≡ isUnary m ⌝ }
+{
+    match m {
+        Mnemonic::Other => false,
+        Mnemonic::Carry(_) => false,
+        Mnemonic::Mov => false,
+        Mnemonic::Not => false,
+        Mnemonic::TwoOperand(_) => false,
+        Mnemonic::OneOperand(_) => true,
+        Mnemonic::Jump(_) => false,
+        Mnemonic::CountJump(_) => false,
+    }
+}
+
+// Refusal 6, from what it depends on. An instruction without operands has no fault; nor has one whose registers are of class 1
+// and of one size, unless it must declare flags.
 pub fn is_at_fault(m: Mnemonic, call: bool, first: Operand, second: Operand, flags: u64) -> bool
     ensures { λ r. ⌜ r ≡ faultOf m call first second flags ⌝ }
 {
-    if call | !is_taken(m, is_register(first), is_absent(second)) {
+    let alone = is_absent(second);
+    if is_absent(first) & alone {
         return false;
     }
-    let other_class = !is_mov(m) & (is_outside(first) | is_outside(second));
-    sizes_differ(first, second) | other_class | is_undeclared(m, flags)
+    let differ = sizes_differ(first, second);
+    let outside = is_outside(first) | is_outside(second);
+    if !(differ | outside | is_unary(m)) {
+        return false;
+    }
+    let modelled = !call & is_taken(m, is_register(first), alone);
+    modelled & (differ | (!is_mov(m) & outside) | is_undeclared(m, flags))
 }
