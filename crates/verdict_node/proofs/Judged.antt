@@ -1,8 +1,8 @@
 -- The answer for a node that was read whole, from its substituted condition in borrowed words.
-use Prim.Native.Nat.{ℕ, _+_, _-_, _≤_, _<_}
+use Prim.Native.Nat.{ℕ, _+_, _*_, _-_, _≤_, _<_}
 use mathlib.Core.Path.{_≡_, refl, sym, ap, subst, _∙_}
 use mathlib.Core.Bool.{Bool, true, false, cond}
-use mathlib.Core.List.{List}
+use mathlib.Core.List.{List, []}
 use native.Mathlib.Omega.{arith}
 use lib.ListN.{length, take, drop, length-drop}
 use lib.Seq.{take-all}
@@ -13,6 +13,9 @@ use Rattle.sheet_field.specs.Field.{startOf, countAt, WentOn}
 use Rattle.expr.specs.Tree.{Expr, Wf, treeOf}
 use Rattle.expr.proofs.Laws.{wf-two}
 use Rattle.sheet_expression.specs.Expression.{Taken, expressionAt}
+use Rattle.sheet_expression.specs.Contracts.{Took}
+use Rattle.sheet_expression.proofs.Lists.{took-front}
+use Rattle.sheet_expression.proofs.Accepted.{took-tree}
 use Rattle.sheet_node.specs.declared.NodeReading.{NodeReading}
 use Rattle.sheet_node.specs.declared.NodeFront.{NodeFront}
 use Rattle.sheet_node.specs.Node.{StatementsRead, statementsFrom, typesOf, nodeAt, typesIn, nodeOf}
@@ -21,7 +24,8 @@ use Rattle.sheet_node.proofs.Accepted.{parts}
 use Rattle.substitution.specs.declared.Written.{Written}
 use Rattle.substitution.specs.declared.Written.the-variants.{From, TooLong}
 use Rattle.substitution.specs.Substitution.{withAssignments}
-use Rattle.substitute_node.specs.Node.{MadeNode}
+use Rattle.substitution.proofs.Nothing.{nothing-assigned}
+use Rattle.substitute_node.specs.Node.{Room, MadeNode}
 use Rattle.decide.specs.Decide.{decide, fits}
 use Rattle.decide.specs.Answers.{answered}
 use Rattle.decide.specs.declared.Decision.{Decision}
@@ -29,7 +33,7 @@ use Rattle.verdict.specs.declared.Verdict.{Verdict}
 use Rattle.verdict.specs.declared.Answer.{Answer}
 use Rattle.verdict.specs.declared.Answer.the-variants.{Given, Refused}
 use Rattle.verdict_node.specs.NodeVerdict.{onSubstituted, nodeVerdict}
-use Rattle.verdict_node.specs.Contracts.{LentWords, LentNode, onDecision, WholeWords, substitutedOf, JudgedIs}
+use Rattle.verdict_node.specs.Contracts.{LentNode, onDecision, WholeWords, substitutedOf, JudgedIs}
 
 -- the words of a condition that was written, as the code takes them
 module _ {w : Written} (out : List ℕ) {at : ℕ} (whole : WholeWords w out) (is : w ≡ From at) where
@@ -64,6 +68,9 @@ module _ {w : Written} (out : List ℕ) {at : ℕ} (whole : WholeWords w out) (i
 pub whole-at : (s : List ℕ) (p : Place) → WentOn (nodeAt s p .next) → ReadNode s (nodeAt s p)
 whole-at s p on = record { at = p; is = refl; on = on }
 
+pub variables-few : (s : List ℕ) (p : Place) → WentOn (nodeAt s p .next) → nodeAt s p .variables ≤ 32
+variables-few s p on = let whole = parts s (nodeAt s p) (whole-at s p on) in omega (arith, whole .few, whole .counted)
+
 -- for the start of a node that was read whole
 module _ (s : List ℕ) (node : NodeReading) (read : ReadNode s node) {front : NodeFront} (front-is : front ≡ frontOf node) where
   -- its types
@@ -75,9 +82,11 @@ module _ (s : List ℕ) (node : NodeReading) (read : ReadNode s node) {front : N
   types-are from-is types-is = rw (types-is, from-is, front-is, parts s node read .start .1)
 
   module _ {types : List ℕ} (these : types ≡ typesIn s node) where
-    pub words-lent : {lengths words out : List ℕ} → LentNode lengths words out → LentWords types lengths words out
-    words-lent lent = record {
+    pub words-lent : (n : ℕ) {table lengths words out : List ℕ} → LentNode (node .variables) table lengths words out → Room n types table lengths words out
+    words-lent n lent = record {
       few = rw these (parts s node read .few);
+      held = λ _. omega (arith, lent .held, parts s node read .counted, ap length these);
+      tableRoom = lent .tableRoom;
       lengthsRoom = lent .lengthsRoom;
       wordsRoom = lent .wordsRoom;
       outRoom = lent .outRoom;
@@ -134,3 +143,52 @@ module _ (s : List ℕ) (node : NodeReading) (read : ReadNode s node) {front : N
           addresses = λ v given. rw (a-is, after-condition v given, these, front-is, parts s node read .body) (parts s node read .addresses);
           sites = λ v given. rw (a-is, after-condition v given, these, front-is, parts s node read .body) (parts s node read .sites);
         }
+
+-- a node without statements: its condition stands as it was read
+module _ (s : List ℕ) (node : NodeReading) (read : ReadNode s node) {front : NodeFront} (front-is : front ≡ frontOf node) (none : front .statements ≡ 0) where
+  abbrev stands : Taken
+  stands = expressionAt (front .variables) s (front .body)
+
+  pub few-variables : front .variables ≤ 32
+  few-variables = rw front-is (omega (arith, parts s node read .few, parts s node read .counted))
+
+  passed-over : passed s node read front-is {types = typesIn s node} refl .next ≡ front .body
+  unfolding statementsFrom
+  passed-over = rw none
+
+  -- the condition of the node, with nothing passed before it
+  stands-there : stands ≡ condition s node read front-is {types = typesIn s node} refl
+  stands-there =
+      let variables : front .variables ≡ length (typesIn s node) = ap (λ (f : NodeFront). f .variables) front-is ∙ parts s node read .counted in
+      ap (λ (v : ℕ). expressionAt v s (front .body)) variables ∙ ap (expressionAt (length (typesIn s node)) s) (sym passed-over)
+
+  pub stands-on : WentOn (stands .next)
+  stands-on = rw stands-there (this-condition s node read front-is {types = typesIn s node} refl)
+
+  nothing-passed : passed s node read front-is {types = typesIn s node} refl .list ≡ []
+  unfolding statementsFrom
+  nothing-passed = rw none
+
+  module _ {records : ℕ} {next : Place} {before after : List ℕ} (took : Took records next before after stands) where
+    pub plain-words : Wf (take (2 * records) after) × (length (take (2 * records) after) ≤ 256)
+    plain-words = took-tree (front .variables) s (front .body) took stands-on
+
+    plain-made : MadeNode (From 0) next (take (2 * records) after) (passed s node read front-is {types = typesIn s node} refl .list) (condition s node read front-is {types = typesIn s node} refl)
+    plain-made =
+        let words : take (2 * records) after ≡ stands .words = took-front took stands-on in (
+          plain-words .0,
+          rw (nothing-passed, ← stands-there, words) (nothing-assigned (stands .words) (rw words at (plain-words .0)) (rw words at (plain-words .1))),
+          took .place ∙ ap (λ (t : Taken). t .next) stands-there,
+        )
+
+    pub judged-plain : (place : ℕ) {d : Decision} {r : Answer} {a : Field}
+        → d ≡ answered (fits (treeOf (take (2 * records) after))) (decide (treeOf (take (2 * records) after)))
+        → r ≡ onDecision place d → a ≡ countAt 0 16 s next
+        → JudgedIs (record { answer = r; addresses = a .value; sites = a .next }) s node place
+    judged-plain place d-is r-is a-is =
+        let words = take (2 * records) after in
+        let all : take (length words - 0) (drop 0 words) ≡ words = take-all (length words - 0) words (omega arith) in
+        judged-node s node read front-is {types = typesIn s node} refl (From 0) next (take (2 * records) after) plain-made place
+        (decided {w = From 0} (take (2 * records) after) {at = 0} (plain-words .0) refl place
+        (d-is ∙ ap (λ (ws : List ℕ). answered (fits (treeOf ws)) (decide (treeOf ws))) (sym all)) r-is)
+        a-is

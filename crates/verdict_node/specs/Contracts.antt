@@ -1,5 +1,5 @@
 -- What the contracts of a node verdict's parts ask and give.
-use Prim.Native.Nat.{ℕ, _≤_}
+use Prim.Native.Nat.{ℕ, _*_, _≤_}
 use mathlib.Core.Path.{_≡_}
 use mathlib.Core.List.{List}
 use lib.ListN.{length, drop}
@@ -18,16 +18,11 @@ use Rattle.decide.specs.declared.Decision.the-variants.{Of, TooMany}
 use Rattle.verdict_node.specs.declared.JudgedNode.{JudgedNode}
 use Rattle.verdict_node.specs.NodeVerdict.{nodeVerdict}
 
--- buffers for the lengths of what 32 variables hold, and for 256 words each of the records that are read and of those that are written
-pub record LentWords (types lengths words out : List ℕ) : Type 0 where
-  pub few : length types ≤ 32
-  pub lengthsRoom : length lengths ≡ 32
-  pub wordsRoom : length words ≡ 256
-  pub outRoom : length out ≡ 256
-
--- the same without the types
-pub record LentNode (lengths words out : List ℕ) : Type 0 where
-  pub lengthsRoom : length lengths ≡ 32
+-- buffers for what so many variables hold, and for 256 words each of the records that are read and of those that are written
+pub record LentNode (variables : ℕ) (table lengths words out : List ℕ) : Type 0 where
+  pub held : variables ≤ length lengths
+  pub tableRoom : 256 * length lengths ≤ length table
+  pub lengthsRoom : length lengths ≤ 32
   pub wordsRoom : length words ≡ 256
   pub outRoom : length out ≡ 256
 

@@ -13,22 +13,22 @@ start-requires c κs = search needs
 types-of-requires : tie.Need-types-of-requires
 types-of-requires c κs = types-fit _ _ (whole-at _ _ (c .before .before .before .before .before .before .before .pre .0)) (c .before .take-front .ensures) (c .start .ensures)
 
-substituted-requires : tie.Need-substituted-requires
-substituted-requires c κs =
+substitute-node-requires : tie.Need-substitute-node-requires
+substitute-node-requires c κs =
     let at-entry = c .before .before .before .before .before .before .before .before .before .before .before .before in
-    let read = (whole-at _ _ (at-entry .pre .0)) in let these = types-are _ _ read (c .before .before .before .before .before .before .take-front .ensures) (c .before .before .before .before .before .start .ensures) (c .before .before .before .before .types-of .ensures) in (words-lent _ _ read (c .before .before .before .before .before .before .take-front .ensures) these (at-entry .pre .1), (these-statements _ _ read (c .before .before .before .before .before .before .take-front .ensures) these, this-condition _ _ read (c .before .before .before .before .before .before .take-front .ensures) these))
+    let read = (whole-at _ _ (at-entry .pre .0)) in let these = types-are _ _ read (c .before .before .before .before .before .before .take-front .ensures) (c .before .before .before .before .before .start .ensures) (c .before .before .before .before .types-of .ensures) in (words-lent _ _ read (c .before .before .before .before .before .before .take-front .ensures) these _ (at-entry .pre .1), (these-statements _ _ read (c .before .before .before .before .before .before .take-front .ensures) these, this-condition _ _ read (c .before .before .before .before .before .before .take-front .ensures) these))
 
 count-requires : tie.Need-count-requires
 count-requires c κs = search needs
 
 answer-for-requires : tie.Need-answer-for-requires
 answer-for-requires c κs =
-    let at-substituted = c .before .before .before .before .before .before .before .before .before .before in
-    let at-types-of = at-substituted .before .before .before .before .before in
+    let at-substitute-node = c .before .before .before .before .before .before .before .before .before .before in
+    let at-types-of = at-substitute-node .before .before .before .before .before in
     let at-start = at-types-of .before in
     let at-take-front = at-start .before in
     let at-entry = at-take-front .before .before .before .before .before .before in
-    let read = (whole-at _ _ (at-entry .pre .0)) in let these = types-are _ _ read (at-take-front .take-front .ensures) (at-start .start .ensures) (at-types-of .types-of .ensures) in (made-whole _ _ read (at-take-front .take-front .ensures) these (at-substituted .substituted .result .written) (at-substituted .substituted .result .next) _ (at-substituted .substituted .ensures), omega (arith, at-substituted .substituted .kept .1 .1 .1 .1 .1 .1 .1 .0, at-entry .pre .1 .outRoom))
+    let read = (whole-at _ _ (at-entry .pre .0)) in let these = types-are _ _ read (at-take-front .take-front .ensures) (at-start .start .ensures) (at-types-of .types-of .ensures) in (made-whole _ _ read (at-take-front .take-front .ensures) these (at-substitute-node .substitute-node .result .written) (at-substitute-node .substitute-node .result .next) _ (at-substitute-node .substitute-node .ensures), omega (arith, at-substitute-node .substitute-node .kept .1 .1 .1 .1 .1 .1 .1 .0, at-entry .pre .1 .outRoom))
 
 same-length : tie.Need-same-length
 same-length c = search needs
@@ -44,12 +44,12 @@ same-length-4 c = search needs
 
 returns : tie.Need-returns
 returns c =
-    let at-substituted = c .before .before .before .before .before .before .before .before .before .before .before in
-    let at-types-of = at-substituted .before .before .before .before .before in
+    let at-substitute-node = c .before .before .before .before .before .before .before .before .before .before .before in
+    let at-types-of = at-substitute-node .before .before .before .before .before in
     let at-start = at-types-of .before in
     let at-take-front = at-start .before in
     let at-entry = at-take-front .before .before .before .before .before .before in
-    let read = (whole-at _ _ (at-entry .pre .0)) in let these = types-are _ _ read (at-take-front .take-front .ensures) (at-start .start .ensures) (at-types-of .types-of .ensures) in judged-node _ _ read (at-take-front .take-front .ensures) these (at-substituted .substituted .result .written) (at-substituted .substituted .result .next) _ (at-substituted .substituted .ensures) _ (c .answer-for .ensures) (c .before .before .count .ensures)
+    let read = (whole-at _ _ (at-entry .pre .0)) in let these = types-are _ _ read (at-take-front .take-front .ensures) (at-start .start .ensures) (at-types-of .types-of .ensures) in judged-node _ _ read (at-take-front .take-front .ensures) these (at-substitute-node .substitute-node .result .written) (at-substitute-node .substitute-node .result .next) _ (at-substitute-node .substitute-node .ensures) _ (c .answer-for .ensures) (c .before .before .count .ensures)
 
 pub verdict-in-spec : {M : Type 1} → statement M
 verdict-in-spec =
@@ -58,7 +58,7 @@ verdict-in-spec =
     take-front-requires
     start-requires
     types-of-requires
-    substituted-requires
+    substitute-node-requires
     count-requires
     answer-for-requires
     same-length
