@@ -31,7 +31,7 @@ program:
 	$(CC) $(CFLAGS) -Iinclude -o build/listing programs/listing.c target/staticlib/liblisting.a
 
 command: library
-	if command -v cargo > build/found; then cd lister && cargo build --release --quiet && cp target/release/pomthija ../build/; \
+	if [ -n "$$(command -v cargo)" ]; then cd lister && cargo build --release --quiet && cp target/release/pomthija ../build/; \
 	  else echo 'build/pomthija is not built: cargo is absent'; fi
 
 sample: program
