@@ -279,8 +279,6 @@ fn on_register(
 {
     let second = i.second;
     match m {
-        Mnemonic::Other => forget(registers, flags, i),
-        Mnemonic::Carry(_) => forget(registers, flags, i),
         Mnemonic::Mov => {
             let v = operand(registers, d.size, second);
             write(registers, d, v);
@@ -293,8 +291,7 @@ fn on_register(
         }
         Mnemonic::TwoOperand(op) => arith(registers, op, d, second),
         Mnemonic::OneOperand(op) => unary(registers, flags, i, op, d),
-        Mnemonic::Jump(_) => forget(registers, flags, i),
-        Mnemonic::CountJump(_) => forget(registers, flags, i),
+        _ => forget(registers, flags, i),
     }
 }
 
@@ -308,10 +305,8 @@ fn on_first(
     ensures { λ r. ⌜ stateOf (now (registers .exit)) r ≡ onFirst (stateOf (now (registers .entry)) flags) i m first ⌝ }
 {
     match first {
-        Operand::Absent => forget(registers, flags, i),
         Operand::Reg(d) => on_register(registers, flags, i, m, d),
-        Operand::Imm(_) => forget(registers, flags, i),
-        Operand::Mem => forget(registers, flags, i),
+        _ => forget(registers, flags, i),
     }
 }
 
