@@ -12,7 +12,7 @@ def loaded(address):
 path = askFile("The output of pomthija list --json", "Load").getPath()
 with open(path) as text:
     listing = json.load(text)
-shift = askInt("Distance", "Address in Ghidra minus address in the file (0 if they are the same)")
+shift = askLong("Distance", "Address in Ghidra minus address in the file (0 if they are the same)")
 for branch in listing["branches"]:
     setEOLComment(loaded(branch["address"]), "%s taken, by %s" % (branch["verdict"], ", ".join(branch["by"])))
 for dead in listing["dead"]:

@@ -10,6 +10,7 @@ use lister::disassembly::{annotated, json, report, steps};
 use lister::options::{Known, Options};
 use lister::sheets::{from_text, reader, to_text};
 use progress::Progress;
+use std::ffi::OsString;
 use std::io::{self, ErrorKind, Write};
 use std::process::ExitCode;
 use std::thread;
@@ -50,8 +51,8 @@ enum Failure {
 type Outcome = Result<(), Failure>;
 
 fn main() -> ExitCode {
-    let words: Vec<String> = std::env::args().skip(1).collect();
-    let work = thread::Builder::new().stack_size(engine::STACK).spawn(move || command(&words));
+    let words: Vec<OsString> = std::env::args_os().skip(1).collect();
+    let work = thread::Builder::new().stack_size(engine::STACK).spawn(move || command(words));
     let outcome = match work.map(|thread| thread.join()) {
         Ok(Ok(outcome)) => outcome,
         Ok(Err(_)) => return ExitCode::from(1),
@@ -70,8 +71,11 @@ fn main() -> ExitCode {
     }
 }
 
-fn command(words: &[String]) -> Outcome {
-    let options = Options::parse(words, &KNOWN).map_err(Failure::Usage)?;
+fn command(words: Vec<OsString>) -> Outcome {
+    let no_text = |word: OsString| Failure::Usage(format!("{word:?} is no text"));
+    let words = words.into_iter().map(|word| word.into_string().map_err(no_text));
+    let words = words.collect::<Result<Vec<String>, Failure>>()?;
+    let options = Options::parse(&words, &KNOWN).map_err(Failure::Usage)?;
     if options.has("--help") {
         return say(&format!("{HELP}\n"));
     }
