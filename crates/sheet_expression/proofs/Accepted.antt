@@ -125,7 +125,7 @@ pub record OneTree (variables : ℕ) (s : List ℕ) (p : Place) : Type 0 where
   pub tree : Wf (expressionAt variables s p .words)
   pub short : length (expressionAt variables s p .words) ≤ 256
 
-start-at : (variables total : ℕ) (s : List ℕ) (p : Place) (k : ℕ) {a : ℕ} → takenFrom variables total s p k .next ≡ At a → WentOn p
+pub start-at : (variables total : ℕ) (s : List ℕ) (p : Place) (k : ℕ) {a : ℕ} → takenFrom variables total s p k .next ≡ At a → WentOn p
 unfolding takenFrom
 start-at variables total s p k e = back (λ j. takenFrom variables total s p j .next) (taken-keep variables total s p) k 0 e (omega arith)
 

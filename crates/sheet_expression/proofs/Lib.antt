@@ -5,4 +5,5 @@ pub mod Tables
 pub mod Lists
 pub mod Accepted
 pub mod Typing
+pub mod Decoding
 pub mod Variables

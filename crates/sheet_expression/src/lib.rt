@@ -5,13 +5,14 @@ use sheet_field::Place;
 use sheet_field::Width;
 ghost use mathlib.Core.Path.{_≡_};
 ghost use mathlib.Core.Bool.{true};
-ghost use Prim.Native.Nat.{_*_, _≤_, _<_, max};
+ghost use Prim.Native.Nat.{ℕ, _*_, _≤_, _<_, max};
 ghost use lib.ListN.{length};
 ghost use Rattle.sheet_field.specs.declared.Place.the-variants.{At};
+ghost use Rattle.sheet_field.specs.Field.{WentOn};
 ghost use Rattle.expr.specs.Admission.{InTable};
 ghost use Rattle.expr.specs.Types.{together as togetherOf, binaryType, recordType};
 ghost use Rattle.sheet_expression.specs.Expression.{hasArgument, argumentOk, argumentAt, constantAt, fitsWidth, depthAfter, recordAt, takenFrom, expressionAt};
-ghost use Rattle.sheet_expression.specs.Contracts.{Took, Tagged, CheckedRecord, CheckedIs};
+ghost use Rattle.sheet_expression.specs.Contracts.{Took, Tagged, CheckedRecord, CheckedIs, WholeRecord, RecordIs, WholeExpression};
 
 // A record's two words, how many trees are complete after it, and the offset after it.
 pub struct RecordReading {
@@ -303,5 +304,70 @@ pub fn check_expression(s: &[u8], from: usize, types: &[u8]) -> Checked
     Checked {
         typing: stack[2] as u64,
         next: Place::At(at),
+    }
+}
+
+// A record's two words, and the offset after it.
+struct Record {
+    tag: u64,
+    value: u64,
+    end: usize,
+}
+
+// The record at an offset where one was read whole: what it holds, with nothing checked again.
+fn record_at(s: &[u8], at: usize) -> Record
+    requires { ⌜ WholeRecord (now s) at ⌝ }
+    ensures { λ r. ⌜ ((variables depth left : ℕ) → WentOn (recordAt variables depth left (now (s .entry)) (At at) .next) → RecordIs r (recordAt variables depth left (now (s .entry)) (At at))) ⌝ }
+{
+    let kind = sheet_field::number(s, at, Width::One);
+    if kind == expr::CONSTANT {
+        let width = sheet_field::number(s, at + 1, Width::One);
+        let value = sheet_field::number(s, at + 2, Width::Eight);
+        return Record {
+            tag: kind + 16 * width,
+            value,
+            end: at + 10,
+        };
+    }
+    if has_argument(kind) {
+        let argument = sheet_field::number(s, at + 1, Width::One);
+        return Record {
+            tag: kind + 16 * argument,
+            value: 0,
+            end: at + 2,
+        };
+    }
+    Record {
+        tag: kind,
+        value: 0,
+        end: at + 1,
+    }
+}
+
+// How many records an expression has that was read whole, and the offset after it.
+pub struct Whole {
+    pub records: u64,
+    pub end: usize,
+}
+
+// The expression at an offset where one was read whole: its records as words at the start of `out`, with nothing checked again.
+pub fn expression_at(s: &[u8], from: usize, out: &mut [u64]) -> Whole
+    requires { ⌜ WholeExpression (now s) from × (256 ≤ length (now out)) ⌝ }
+    ensures { λ r. ⌜ ((variables : ℕ) → WentOn (expressionAt variables (now (s .entry)) (At from) .next) → Took (r .records) (At (r .end)) (now (out .entry)) (now (out .exit)) (expressionAt variables (now (s .entry)) (At from))) ⌝ }
+{
+    let n = sheet_field::number(s, from, Width::Two);
+    let mut at = from + 2;
+    let mut i: u64 = 0;
+    while i < n {
+        let r = record_at(s, at);
+        let place = 2 * (i as usize);
+        out[place] = r.tag;
+        out[place + 1] = r.value;
+        at = r.end;
+        i += 1;
+    }
+    Whole {
+        records: n,
+        end: at,
     }
 }

@@ -25,7 +25,7 @@ map-on : (s : List ℕ) (p : Place) {a : ℕ} → mapAt s p .next ≡ At a → W
 unfolding mapAt
 map-on s p e = let w = field-at 1 s p (check-at _ 2 (startOf p) (fieldAt 1 s p) e .1) in (w .from, w .there)
 
-assignment-on : (types : List ℕ) (begin : ℕ) (s : List ℕ) (p : Place) {a : ℕ} → assignmentAt types begin s p .next ≡ At a → WentOn p
+pub assignment-on : (types : List ℕ) (begin : ℕ) (s : List ℕ) (p : Place) {a : ℕ} → assignmentAt types begin s p .next ≡ At a → WentOn p
 unfolding assignmentAt
 assignment-on types begin s p e =
     let value = one-tree (length types) s _ (judge-at _ 9 begin _ e .1) in

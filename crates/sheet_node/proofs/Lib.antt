@@ -2,5 +2,6 @@
 pub mod Statements
 pub mod Nodes
 pub mod Checks
+pub mod Decoding
 pub mod Accepted
 pub mod Variables

@@ -10,7 +10,7 @@ use Rattle.sheet_node.specs.declared.NodeReading.{NodeReading}
 use Rattle.sheet_node.specs.declared.NodeFront.{NodeFront}
 use Rattle.sheet_field.specs.Field.{countAt}
 use Rattle.sheet_expression.specs.Expression.{expressionAt}
-use Rattle.sheet_node.specs.Node.{StatementRead, statementsFrom, addressesFrom, nodeAt}
+use Rattle.sheet_node.specs.Node.{StatementRead, statementAt, statementsFrom, addressesFrom, nodeAt}
 
 -- What a reader of a statement leaves: the statement, and a borrowed list that was `before` and is `after`: where reading went
 -- on, the value's words stand at its start, and the rest is as it was.
@@ -41,3 +41,8 @@ unfoldable pub bodyEnd : List ℕ → List ℕ → Place → Place
 bodyEnd types s p =
     let n = countAt 0 64 s p in
     addressesEnd s (expressionAt (length types) s (statementsFrom types s (n .next) (n .value) .next) .next)
+
+-- at this offset a statement was read whole, in a node of variables of these types
+pub record WholeStatement (s : List ℕ) (p : Place) : Type 0 where
+  pub types : List ℕ
+  pub on : WentOn (statementAt types s p .next)

@@ -5,13 +5,15 @@ use sheet_field::Place;
 use sheet_field::Width;
 ghost use mathlib.Core.Path.{_≡_};
 ghost use Prim.Native.Nat.{ℕ, _+_, _*_, _<_, _≤_};
+ghost use mathlib.Core.List.{List};
 ghost use lib.ListN.{length};
+ghost use Rattle.sheet_field.specs.Field.{WentOn};
 ghost use Rattle.sheet_field.specs.declared.Place.the-variants.{At};
 ghost use Rattle.expr.specs.Tree.{Wf, treeOf};
 ghost use Rattle.expr.specs.Types.{typeOf};
 ghost use Rattle.expr.specs.Admission.{InTable};
 ghost use Rattle.sheet_node.specs.Node.{mapAt, typedAt, assignmentAt, statementAt, statementsFrom, typesFrom, typesOf, addressesFrom, nodeAt, typesIn};
-ghost use Rattle.sheet_node.specs.Contracts.{TookStatement, frontOf, ReadNode, addressesEnd, bodyEnd};
+ghost use Rattle.sheet_node.specs.Contracts.{TookStatement, frontOf, ReadNode, WholeStatement, addressesEnd, bodyEnd};
 
 // A statement: whether it is an assignment, to which variable, how many records its value has, and the offset after it.
 // Any other statement has no variable and no records.
@@ -357,4 +359,30 @@ pub fn check_node(s: &[u8], p: Place) -> Place
         return next;
     };
     check_body(s, end, &s[from..end])
+}
+
+// The statement at an offset where one was read whole: what it holds, with nothing checked again. The records of an assigned
+// value stand as words at the start of `out`.
+pub fn statement_at(s: &[u8], p: Place, out: &mut [u64]) -> StatementReading
+    requires { ⌜ WholeStatement (now s) p × (256 ≤ length (now out)) ⌝ }
+    ensures { λ r. ⌜ ((types : List ℕ) → WentOn (statementAt types (now (s .entry)) p .next) → TookStatement r (now (out .entry)) (now (out .exit)) (statementAt types (now (s .entry)) p)) ⌝ }
+{
+    let at = sheet_field::start(p);
+    let map = sheet_field::number(s, at, Width::One);
+    if map != 3 {
+        return StatementReading {
+            assigned: false,
+            variable: 0,
+            records: 0,
+            next: Place::At(at + 1),
+        };
+    }
+    let variable = sheet_field::number(s, at + 1, Width::One);
+    let e = sheet_expression::expression_at(s, at + 2, out);
+    StatementReading {
+        assigned: true,
+        variable,
+        records: e.records,
+        next: Place::At(e.end),
+    }
 }

@@ -8,8 +8,9 @@ use native.Mathlib.Omega.{arith}
 use native.Mathlib.Numerals.{add-one}
 use lib.ListN.{length, getD, take, drop, replicate, length-replicate, drop-of-length-le}
 use lib.Seq.{drop-cons}
-use Rattle.sheet_field.specs.Field.{WentOn}
+use Rattle.sheet_field.specs.Field.{startOf, WentOn}
 use Rattle.sheet_field.specs.declared.Place.{Place}
+use Rattle.sheet_field.specs.declared.Place.the-variants.{At}
 use Rattle.expr.specs.Tree.{Expr, Wf, treeOf}
 use Rattle.expr.proofs.Laws.{wf-flat, treeOf-flat}
 use Rattle.expr.specs.Statement.{Statement}
@@ -28,7 +29,7 @@ use Rattle.substitution.specs.declared.Written.the-variants.{From, TooLong}
 use Rattle.substitution.specs.Words.{tableOf, Slots, Holds, Assigned, Made}
 use Rattle.substitution.proofs.Entries.{cleared}
 use Rattle.substitute_node.specs.declared.Step.{Step}
-use Rattle.substitute_node.specs.Node.{Room, Lent, Stepped, Passed, MadeNode}
+use Rattle.substitute_node.specs.Node.{Room, Lent, Idle, Stepped, Passed, MadeNode}
 
 -- a statement that is no assignment
 pub stepped-other : {table lengths lengths′ : List ℕ} → Slots table lengths → lengths′ ≡ replicate (length lengths) 0 → (h : Table) (r : StatementRead)
@@ -40,6 +41,10 @@ stepped-other {table} {lengths} {lengths′} slots is h r unassigned =
       slots = b .slots;
       same = λ rest c. rw unassigned (ap (λ (t : Table). substituted t rest c) (sym (b .holds)));
     }
+
+-- nothing was held before it, or all that was held has ended
+pub idle-other : (lengths : List ℕ) {lengths′ : List ℕ} → lengths′ ≡ replicate (length lengths) 0 → lengths′ ≡ replicate (length lengths′) 0
+idle-other lengths is = is ∙ ap (λ (k : ℕ). replicate k 0) (sym (ap length is ∙ length-replicate {A = ℕ} (length lengths) 0))
 
 -- an assignment
 held-on : {table lengths : List ℕ} (h : Table) (v : ℕ) (e : Expr) → Holds table lengths (sub.assigned v (substitute h e) h) → long (substitute h e) ≡ false
@@ -69,17 +74,18 @@ stepped-assigned {fits} {table} {lengths} h r {v} {ws} yes-assigned number words
     rw (yes-assigned, ← number, ← words) (assigned-same h v (treeOf ws) a)
 
 -- the first i statements are passed
-pub record Passing (types s : List ℕ) (p : Place) (n : ℕ) (table lengths words out : List ℕ) (next : Place) (i : ℕ) : Type 0 where
+pub record Passing (types s : List ℕ) (p : Place) (n : ℕ) (table lengths words out : List ℕ) (idle : Bool) (next : Place) (i : ℕ) : Type 0 where
   pub within : i ≤ n
   pub place : next ≡ statementsFrom types s p i .next
   pub held : 0 < n → length types ≤ length lengths
   pub slots : Slots table lengths
   pub wordsRoom : length words ≡ 256
   pub outRoom : length out ≡ 256
+  pub quiet : Idle idle lengths
   pub due : (c : Expr) → withAssignments (statementsFrom types s p n .list) c ≡ substituted (tableOf table lengths) (drop i (statementsFrom types s p n .list)) c
 
 pub passing-start : (types s : List ℕ) (p : Place) (n : ℕ) {table lengths lengths′ words out : List ℕ} → Room n types table lengths words out
-    → lengths′ ≡ replicate (length lengths) 0 → Passing types s p n table lengths′ words out p 0
+    → lengths′ ≡ replicate (length lengths) 0 → Passing types s p n table lengths′ words out true p 0
 unfolding statementsFrom
 passing-start types s p n {table} {lengths} {lengths′} {words} {out} l is =
     let b : Holds table lengths′ nothingHeld = rw is (cleared table (length lengths) (l .tableRoom) (l .lengthsRoom)) in
@@ -90,11 +96,12 @@ passing-start types s p n {table} {lengths} {lengths′} {words} {out} l is =
       slots = b .slots;
       wordsRoom = l .wordsRoom;
       outRoom = l .outRoom;
+      quiet = λ _. idle-other lengths is;
       due = λ c. ap (λ (t : Table). substituted t (statementsFrom types s p n .list) c) (sym (b .holds));
     }
 
-module _ {types s : List ℕ} {p : Place} {n : ℕ} {table lengths words out : List ℕ} {next : Place} {i : ℕ}
-    (g : Passing types s p n table lengths words out next i) where
+module _ {types s : List ℕ} {p : Place} {n : ℕ} {table lengths words out : List ℕ} {idle : Bool} {next : Place} {i : ℕ}
+    (g : Passing types s p n table lengths words out idle next i) where
   pub passing-whole : WentOn (statementsFrom types s p n .next) → i < n → WentOn (statementAt types s next .next)
   passing-whole on below = statement-whole types s p n i on below (g .place)
 
@@ -114,28 +121,29 @@ module _ {types s : List ℕ} {p : Place} {n : ℕ} {table lengths words out : L
 
   module _ (below : i < n) {fits : Bool} {table′ lengths′ : List ℕ}
       (t : Stepped fits table′ lengths′ (tableOf table lengths) (statementOf (statementAt types s next))) where
-    pub passing-stop : fits ≡ false → (q : Place) → Passed (record { fits = false; next = q }) table′ lengths′ (statementsFrom types s p n)
-    passing-stop out-of q = record {
+    pub passing-stop : fits ≡ false → (q : Place) (b : Bool) → Passed (record { fits = false; idle = b; next = q }) table′ lengths′ (statementsFrom types s p n)
+    passing-stop out-of q b = record {
       slots = t .slots;
       place = λ e. absurd (false≢true e);
       same = λ c. due-here below c ∙ t .same (drop (suc i) (statementsFrom types s p n .list)) c
           ∙ ap (λ (b : Bool). cond b (substituted (tableOf table′ lengths′) (drop (suc i) (statementsFrom types s p n .list)) c) tooLong) out-of;
     }
 
-    pub passing-more : fits ≡ true → {next′ : Place} {words′ out′ : List ℕ} → next′ ≡ statementAt types s next .next
-        → length lengths′ ≡ length lengths → length words′ ≡ length words → length out′ ≡ length out → Passing types s p n table′ lengths′ words′ out′ next′ (i + 1)
-    passing-more within-limit {next′} place lengths-same words-same out-same = record {
+    pub passing-more : fits ≡ true → {next′ : Place} {words′ out′ : List ℕ} {idle′ : Bool} → next′ ≡ statementAt types s next .next → Idle idle′ lengths′
+        → length lengths′ ≡ length lengths → length words′ ≡ length words → length out′ ≡ length out → Passing types s p n table′ lengths′ words′ out′ idle′ next′ (i + 1)
+    passing-more within-limit {next′} place still lengths-same words-same out-same = record {
       within = omega arith;
       place = place ∙ ap (λ (q : Place). statementAt types s q .next) (g .place) ∙ statements-more types s p i;
       held = λ some. omega (arith, g .held some, lengths-same);
       slots = t .slots;
       wordsRoom = words-same ∙ g .wordsRoom;
       outRoom = out-same ∙ g .outRoom;
+      quiet = still;
       due = λ c. rw (add-one i) (due-here below c ∙ t .same (drop (suc i) (statementsFrom types s p n .list)) c
           ∙ ap (λ (b : Bool). cond b (substituted (tableOf table′ lengths′) (drop (suc i) (statementsFrom types s p n .list)) c) tooLong) within-limit);
     }
 
-  pub passing-end : n ≤ i → Passed (record { fits = true; next = next }) table lengths (statementsFrom types s p n)
+  pub passing-end : n ≤ i → Passed (record { fits = true; idle = idle; next = next }) table lengths (statementsFrom types s p n)
   passing-end end =
       let past : length (statementsFrom types s p n .list) ≤ i = omega (arith, statements-length types s p n) in
       let all : drop i (statementsFrom types s p n .list) ≡ [] = drop-of-length-le (statementsFrom types s p n .list) past in
@@ -149,8 +157,10 @@ module _ {r : Step} {table lengths : List ℕ} {read : StatementsRead} (g : Pass
   passed-long much c = g .same c ∙ ap (λ (b : Bool). cond b (substituted (tableOf table lengths) [] c) tooLong) much
 
   -- the condition is read at the offset after the statements
-  pub passed-here : r .fits ≡ true → (n : ℕ) (s : List ℕ) → WentOn (expressionAt n s (read .next) .next) → WentOn (expressionAt n s (r .next) .next)
-  passed-here short n s on = rw (g .place short) on
+  pub passed-start : r .fits ≡ true → WentOn (read .next) → {start : ℕ} → start ≡ startOf (r .next) → At start ≡ read .next
+  passed-start short on start-is =
+      let here : r .next ≡ At (on .0) = g .place short ∙ on .1 in
+      ap At (start-is ∙ ap startOf here) ∙ sym (on .1)
 
   module _ (short : r .fits ≡ true) (n : ℕ) (s : List ℕ) where
     substituted-here : (out ws : List ℕ) (w : Written) (next : Place) → treeOf ws ≡ treeOf (expressionAt n s (read .next) .words)
@@ -176,11 +186,10 @@ module _ {r : Step} {table lengths : List ℕ} {read : StatementsRead} (g : Pass
         )
         by TooLong m = last ∙ ap (λ (b : Bool). cond b tooLong (into made)) m
 
-    pub passed-made : (out : List ℕ) (w : Written) {records : ℕ} {next : Place} {before after : List ℕ}
-        → Took records next before after (expressionAt n s (r .next)) → WentOn (expressionAt n s (read .next) .next)
+    pub passed-made : (out : List ℕ) (w : Written) {start records : ℕ} {next : Place} {before after : List ℕ} → At start ≡ read .next
+        → Took records next before after (expressionAt n s (At start)) → WentOn (expressionAt n s (read .next) .next)
         → Made w out (substitute (tableOf table lengths) (treeOf (take (2 * records) after))) → MadeNode w next out (read .list) (expressionAt n s (read .next))
-    passed-made out w took on m =
-        let here : r .next ≡ read .next = g .place short in
+    passed-made out w here took on m =
         substituted-here out _ w _
         (ap treeOf (took-front took (rw here on)) ∙ ap (λ (q : Place). treeOf (expressionAt n s q .words)) here)
         (took .place ∙ ap (λ (q : Place). expressionAt n s q .next) here)

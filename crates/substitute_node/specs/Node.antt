@@ -3,7 +3,7 @@ use mathlib.Core.Path.{_≡_}
 use mathlib.Core.Bool.{Bool, true, cond}
 use mathlib.Core.List.{List, [], _∷_}
 use Prim.Native.Nat.{ℕ, _*_, _≤_, _<_}
-use lib.ListN.{length, drop}
+use lib.ListN.{length, drop, replicate}
 use Rattle.expr.specs.Tree.{Expr, Wf, treeOf}
 use Rattle.expr.specs.Statement.{Statement}
 use Rattle.sheet_field.specs.declared.Place.{Place}
@@ -31,6 +31,10 @@ pub record Lent (types table lengths words out : List ℕ) : Type 0 where
   pub slots : Slots table lengths
   pub wordsRoom : length words ≡ 256
   pub outRoom : length out ≡ 256
+
+-- where this is true, nothing is held
+abbrev pub Idle : Bool → List ℕ → Type 0
+Idle idle lengths = idle ≡ true → lengths ≡ replicate (length lengths) 0
 
 -- What one statement leaves of the table h: whatever comes after it, and whatever the condition, the table left in the words gives what h gave, or all
 -- is too long. (N1, N2, N26)

@@ -8,11 +8,13 @@ ghost use Rattle.sheet_field.specs.Field.{WentOn};
 ghost use Rattle.sheet_expression.specs.Expression.{expressionAt};
 ghost use Rattle.sheet_node.specs.Node.{statementAt, statementOf, statementsFrom};
 ghost use Rattle.substitution.specs.Words.{tableOf};
-ghost use Rattle.substitute_node.specs.Node.{Room, Lent, Stepped, Passed, MadeNode};
+ghost use Rattle.substitute_node.specs.Node.{Room, Lent, Idle, Stepped, Passed, MadeNode};
 
-// What one statement leaves: whether its substituted value is within its limit, and the offset after the statement.
+// What one statement leaves: whether its substituted value is within its limit, that nothing is held where `idle`, and the offset after
+// the statement.
 pub struct Step {
     pub fits: bool,
+    pub idle: bool,
     pub next: Place,
 }
 
@@ -27,6 +29,7 @@ fn take_statement(
     s: &[u8],
     p: Place,
     types: &[u8],
+    idle: bool,
     table: &mut [u64],
     lengths: &mut [usize],
     words: &mut [u64],
@@ -34,17 +37,33 @@ fn take_statement(
 ) -> Step
     requires { ⌜ Lent (now types) (now table) (now lengths) (now words) (now out) ⌝ }
     requires { ⌜ WentOn (statementAt (now types) (now s) p .next) ⌝ }
-    ensures { λ r. ⌜ (r .next ≡ statementAt (now (types .entry)) (now (s .entry)) p .next) × Stepped (r .fits) (now (table .exit)) (now (lengths .exit)) (tableOf (now (table .entry)) (now (lengths .entry))) (statementOf (statementAt (now (types .entry)) (now (s .entry)) p)) ⌝ }
+    requires { ⌜ Idle idle (now lengths) ⌝ }
+    ensures { λ r. ⌜ (r .next ≡ statementAt (now (types .entry)) (now (s .entry)) p .next) × Stepped (r .fits) (now (table .exit)) (now (lengths .exit)) (tableOf (now (table .entry)) (now (lengths .entry))) (statementOf (statementAt (now (types .entry)) (now (s .entry)) p)) × Idle (r .idle) (now (lengths .exit)) ⌝ }
 {
-    let r = sheet_node::take_statement(s, p, types, words);
+    let r = sheet_node::statement_at(s, p, words);
     let next = r.next;
     if !r.assigned {
+        if idle {
+            return Step {
+                fits: true,
+                idle,
+                next,
+            };
+        }
         substitution::clear(lengths);
-        return Step { fits: true, next };
+        return Step {
+            fits: true,
+            idle: true,
+            next,
+        };
     }
     let n = 2 * (r.records as usize);
     let fits = substitution::take_assignment(r.variable, &words[..n], table, lengths, out);
-    Step { fits, next }
+    Step {
+        fits,
+        idle: false,
+        next,
+    }
 }
 
 // The n statements from an offset on, which were read whole, with nothing held before them, and the offset after them; no fit where a substituted value is
@@ -64,21 +83,31 @@ fn take_statements(
     ensures { λ r. ⌜ Passed r (now (table .exit)) (now (lengths .exit)) (statementsFrom (now (types .entry)) (now (s .entry)) p n) ⌝ }
 {
     substitution::clear(lengths);
+    let mut idle = true;
     let mut next = p;
     let mut i: u64 = 0;
     while i < n {
-        let r = take_statement(s, next, types, table, lengths, words, out);
+        let r = take_statement(s, next, types, idle, table, lengths, words, out);
         if !r.fits {
-            return Step { fits: false, next };
+            return Step {
+                fits: false,
+                idle,
+                next,
+            };
         }
+        idle = r.idle;
         next = r.next;
         i += 1;
     }
-    Step { fits: true, next }
+    Step {
+        fits: true,
+        idle,
+        next,
+    }
 }
 
 // A node's condition with its n statements substituted, at the end of 256 borrowed words. The statements from `body` on and the condition after them were
-// read whole, and are read once more.
+// read whole, and are read once more, with nothing checked again.
 pub fn substitute_node(
     s: &[u8],
     types: &[u8],
@@ -102,9 +131,11 @@ pub fn substitute_node(
             next: condition,
         };
     }
-    let e = sheet_expression::take_expression(s, condition, types.len() as u64, words);
-    let next = e.next;
+    let e = sheet_expression::expression_at(s, sheet_field::start(condition), words);
     let k = 2 * (e.records as usize);
     let written = substitution::substitute(&words[..k], table, lengths, out);
-    SubstitutedNode { written, next }
+    SubstitutedNode {
+        written,
+        next: Place::At(e.end),
+    }
 }

@@ -9,11 +9,11 @@ use Rattle.substitute_node.proofs.take_statements.Statement.{statement}
 use Rattle.substitute_node.proofs.take_statements.Tie as tie
 
 abbrev Inv-loop : tie.InvT-loop
-Inv-loop s types n table₀ lengths₀ words₀ out₀ next₀ i₀ table lengths words out next i =
-    (length table ≡ length table₀) × (length lengths ≡ length lengths₀) × Passing types s next₀ n table lengths words out next i
+Inv-loop s types n table₀ lengths₀ words₀ out₀ idle₀ next₀ i₀ table lengths words out idle next i =
+    (length table ≡ length table₀) × (length lengths ≡ length lengths₀) × Passing types s next₀ n table lengths words out idle next i
 
 abbrev μ-loop : tie.MeasureT-loop
-μ-loop s types n table₀ lengths₀ words₀ out₀ next₀ i₀ table lengths words out next i = n - i
+μ-loop s types n table₀ lengths₀ words₀ out₀ idle₀ next₀ i₀ table lengths words out idle next i = n - i
 
 clear-requires : tie.Need-clear-requires Inv-loop μ-loop
 clear-requires c κs = search needs
@@ -27,7 +27,7 @@ take-statement-requires : tie.Need-take-statement-requires Inv-loop μ-loop
 take-statement-requires c κs =
     let loop = c .before .before .before .before .before .loop in
     let start = c .before .before .before .before .before .before .before .before .before .before .before .before .before .before .before .before in
-    (passing-lent (loop .inv .2) (omega arith), passing-whole (loop .inv .2) (start .pre .1) (omega arith))
+    (passing-lent (loop .inv .2) (omega arith), (passing-whole (loop .inv .2) (start .pre .1) (omega arith), loop .inv .2 .quiet))
 
 same-length : tie.Need-same-length Inv-loop μ-loop
 same-length c =
@@ -57,7 +57,7 @@ returns : tie.Need-returns Inv-loop μ-loop
 returns c =
     let took = c .before .before .before .before .before .before .before .before .before .before .take-statement in
     let loop = c .before .before .before .before .before .before .before .before .before .before .before .before .before .before .before .before .loop in
-    passing-stop (loop .inv .2) (omega arith) (took .ensures .1) (not-true _ (c .if1 .taken)) _
+    passing-stop (loop .inv .2) (omega arith) (took .ensures .1) (not-true _ (c .if1 .taken)) _ _
 
 add-i : tie.Need-add-i Inv-loop μ-loop
 add-i c = omega arith
@@ -69,7 +69,7 @@ loop-again : tie.Need-loop-again Inv-loop μ-loop
 loop-again c =
     let took = c .before .before .before .before .before .before .before .before .before .before .take-statement in
     let loop = c .before .before .before .before .before .before .before .before .before .before .before .before .before .before .before .before .loop in
-    (omega (arith, loop .inv .0), omega (arith, loop .inv .1), passing-more (loop .inv .2) (omega arith) (took .ensures .1) (not-false _ (c .if1 .left)) (took .ensures .0) (omega arith) (omega arith) (omega arith))
+    (omega (arith, loop .inv .0), omega (arith, loop .inv .1), passing-more (loop .inv .2) (omega arith) (took .ensures .1) (not-false _ (c .if1 .left)) (took .ensures .0) (took .ensures .2) (omega arith) (omega arith) (omega arith))
 
 same-length-5 : tie.Need-same-length-5 Inv-loop μ-loop
 same-length-5 c =

@@ -1,0 +1,92 @@
+-- Statements that were read whole, at plain offsets. Assumes nothing.
+use Prim.Native.Nat.{ℕ, _+_, _≤_}
+use mathlib.Core.Path.{_≡_, refl, sym, ap, _∙_}
+use mathlib.Core.List.{List}
+use mathlib.Core.Bool.{Bool, true, false}
+use native.Mathlib.Omega.{arith}
+use lib.Dec.{eqb}
+use lib.ListN.{length}
+use borrow.Author.Tests.{eq-eqb, ne-eqb}
+use Rattle.sheet_field.specs.declared.Place.{Place}
+use Rattle.sheet_field.specs.declared.Place.the-variants.{At}
+use Rattle.sheet_field.specs.Field.{little, fieldAt, startOf, codeAt, WentOn}
+use Rattle.sheet_field.proofs.Fields.{judge-at, check-at}
+use Rattle.sheet_expression.specs.declared.Whole.{Whole}
+use Rattle.sheet_expression.specs.Expression.{expressionAt}
+use Rattle.sheet_expression.specs.Contracts.{Took}
+use Rattle.sheet_expression.proofs.Accepted.{one-tree}
+use Rattle.sheet_expression.proofs.Decoding.{field-from, code-from}
+use Rattle.sheet_node.specs.Node.{mapAt, assignmentAt, statementAt}
+use Rattle.sheet_node.specs.Contracts.{TookStatement}
+use Rattle.sheet_node.proofs.Accepted.{statement-on, assignment-on}
+
+map-from : (s : List ℕ) (p : Place) (at : ℕ) {b : ℕ} → p ≡ At at → mapAt s p .next ≡ At b
+    → (at + 1 ≤ length s) × (mapAt s p ≡ record { value = little s at 1; next = At (at + 1) })
+unfolding mapAt
+map-from s p at p-is on =
+    let c = check-at _ 2 (startOf p) (fieldAt 1 s p) on in
+    let f = field-from 1 s at (rw p-is at (c .1)) in
+    (f .0, c .2 ∙ rw p-is (f .1))
+
+module _ (types s : List ℕ) (p : Place) (on : WentOn (statementAt types s p .next)) {at : ℕ} (at-is : at ≡ startOf p) where
+  place-is : p ≡ At at
+  place-is = let w = statement-on types s p (on .1) in w .1 ∙ ap At (sym (at-is ∙ ap startOf (w .1)))
+
+  map-place : WentOn (mapAt s p .next)
+  unfolding statementAt
+  map-place = go (eqb (mapAt s p .value) 3) refl
+    where
+      go : (t : Bool) → eqb (mapAt s p .value) 3 ≡ t → WentOn (mapAt s p .next)
+      go true q = assignment-on types (startOf p) s (mapAt s p .next) (rw q at (on .1))
+      go false q = (on .0, rw q at (on .1))
+
+  map-read : (at + 1 ≤ length s) × (mapAt s p ≡ record { value = little s at 1; next = At (at + 1) })
+  map-read = map-from s p at place-is (map-place .1)
+
+  pub map-inside : at + 1 ≤ length s
+  map-inside = map-read .0
+
+  module _ {map : ℕ} (map-is : map ≡ little s at 1) where
+    pub other-took : (before : List ℕ) → (map ≡ 3 → ⊥)
+        → TookStatement (record { assigned = false; variable = 0; records = 0; next = At (at + 1) }) before before (statementAt types s p)
+    unfolding statementAt
+    other-took before other =
+        rw (map-read .1, ← map-is, ne-eqb map 3 other)
+        record { assigned = refl; variable = refl; size = refl; few = omega arith; place = refl; list = λ went. refl }
+
+    module _ (three : map ≡ 3) where
+      statement-is : statementAt types s p ≡ assignmentAt types (startOf p) s (At (at + 1))
+      unfolding statementAt
+      statement-is = rw (map-read .1, ← map-is, eq-eqb map 3 three)
+
+      value-place : expressionAt (length types) s (codeAt (length types) s (At (at + 1)) .next) .next ≡ At (on .0)
+      unfolding assignmentAt
+      value-place = judge-at _ 9 (startOf p) _ (rw statement-is at (on .1)) .1
+
+      variable-read : (at + 1 + 1 ≤ length s) × (codeAt (length types) s (At (at + 1)) ≡ record { value = little s (at + 1) 1; next = At (at + 1 + 1) })
+      variable-read = code-from (length types) s (at + 1) (one-tree (length types) s _ value-place .there)
+
+      pub variable-inside : at + 2 ≤ length s
+      variable-inside = omega (arith, variable-read .0)
+
+      value-is : expressionAt (length types) s (At (at + 2)) .next ≡ At (on .0)
+      value-is = let two : at + 1 + 1 ≡ at + 2 = omega arith in rw (variable-read .1, two) at value-place
+
+      pub value-on : WentOn (expressionAt (length types) s (At (at + 2)) .next)
+      value-on = (on .0, value-is)
+
+      pub assigned-took : {v : ℕ} {e : Whole} {before after : List ℕ} → v ≡ little s (at + 1) 1
+          → Took (e .records) (At (e .end)) before after (expressionAt (length types) s (At (at + 2)))
+          → TookStatement (record { assigned = true; variable = v; records = e .records; next = At (e .end) }) before after (statementAt types s p)
+      unfolding assignmentAt
+      assigned-took {v} {e} v-is took =
+          let two : at + 1 + 1 ≡ at + 2 = omega arith in
+          let words : statementAt types s p .words ≡ expressionAt (length types) s (At (at + 2)) .words = rw (statement-is, variable-read .1, two) in
+          record {
+            assigned = rw statement-is;
+            variable = v-is ∙ rw (statement-is, variable-read .1);
+            size = rw words (took .size);
+            few = took .few;
+            place = took .place ∙ value-is ∙ sym (on .1);
+            list = λ went. rw words (took .list value-on);
+          }
