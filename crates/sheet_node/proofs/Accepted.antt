@@ -44,7 +44,7 @@ pub statements-on : (types s : List ℕ) (p : Place) (k : ℕ) {a : ℕ} → sta
 unfolding statementsFrom
 statements-on types s p k e = back (λ j. statementsFrom types s p j .next) (statements-keep types s p) k 0 e (omega arith)
 
-types-on : (s : List ℕ) (p : Place) (k : ℕ) {a : ℕ} → typesFrom s p k ≡ At a → WentOn p
+pub types-on : (s : List ℕ) (p : Place) (k : ℕ) {a : ℕ} → typesFrom s p k ≡ At a → WentOn p
 unfolding typesFrom
 types-on s p k e = back (λ j. typesFrom s p j) (types-keep s p) k 0 e (omega arith)
 

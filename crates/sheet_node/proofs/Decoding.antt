@@ -9,16 +9,18 @@ use lib.ListN.{length}
 use borrow.Author.Tests.{eq-eqb, ne-eqb}
 use Rattle.sheet_field.specs.declared.Place.{Place}
 use Rattle.sheet_field.specs.declared.Place.the-variants.{At}
-use Rattle.sheet_field.specs.Field.{little, fieldAt, startOf, codeAt, WentOn}
-use Rattle.sheet_field.proofs.Fields.{judge-at, check-at}
+use Rattle.sheet_field.specs.Field.{little, fieldAt, startOf, codeAt, countAt, WentOn}
+use Rattle.sheet_field.proofs.Fields.{judge-at, check-at, count-on}
 use Rattle.sheet_expression.specs.declared.Whole.{Whole}
 use Rattle.sheet_expression.specs.Expression.{expressionAt}
 use Rattle.sheet_expression.specs.Contracts.{Took}
 use Rattle.sheet_expression.proofs.Accepted.{one-tree}
 use Rattle.sheet_expression.proofs.Decoding.{field-from, code-from}
-use Rattle.sheet_node.specs.Node.{mapAt, assignmentAt, statementAt}
-use Rattle.sheet_node.specs.Contracts.{TookStatement}
-use Rattle.sheet_node.proofs.Accepted.{statement-on, assignment-on}
+use Rattle.sheet_node.specs.declared.NodeFront.{NodeFront}
+use Rattle.sheet_node.specs.Node.{mapAt, assignmentAt, statementAt, typesFrom, nodeAt}
+use Rattle.sheet_node.specs.Contracts.{TookStatement, frontOf}
+use Rattle.sheet_node.proofs.Accepted.{statement-on, assignment-on, types-on, whole-node}
+use Rattle.sheet_node.proofs.Nodes.{types-end}
 
 map-from : (s : List ℕ) (p : Place) (at : ℕ) {b : ℕ} → p ≡ At at → mapAt s p .next ≡ At b
     → (at + 1 ≤ length s) × (mapAt s p ≡ record { value = little s at 1; next = At (at + 1) })
@@ -90,3 +92,44 @@ module _ (types s : List ℕ) (p : Place) (on : WentOn (statementAt types s p .n
             place = took .place ∙ value-is ∙ sym (on .1);
             list = λ went. rw words (took .list value-on);
           }
+
+count-from : (least most : ℕ) (s : List ℕ) (at : ℕ) {b : ℕ} → countAt least most s (At at) .next ≡ At b
+    → (at + 2 ≤ length s) × (countAt least most s (At at) ≡ record { value = little s at 2; next = At (at + 2) })
+unfolding countAt
+count-from least most s at on =
+    let c = check-at _ 3 at (fieldAt 2 s (At at)) on in
+    let f = field-from 2 s at (c .1) in
+    (f .0, c .2 ∙ f .1)
+
+-- the first part of a node that was read whole
+module _ (s : List ℕ) (at : ℕ) (on : WentOn (nodeAt s (At at) .next)) where
+  body-on : WentOn (countAt 0 64 s (typesFrom s (countAt 0 32 s (At at) .next) (countAt 0 32 s (At at) .value)) .next)
+  unfolding nodeAt
+  body-on = whole-node s (At at) (on .1) .start
+
+  types-place : WentOn (typesFrom s (countAt 0 32 s (At at) .next) (countAt 0 32 s (At at) .value))
+  types-place = count-on 0 64 s _ (body-on .1)
+
+  variables-read : (at + 2 ≤ length s) × (countAt 0 32 s (At at) ≡ record { value = little s at 2; next = At (at + 2) })
+  variables-read = count-from 0 32 s at (types-on s (countAt 0 32 s (At at) .next) (countAt 0 32 s (At at) .value) (types-place .1) .1)
+
+  pub variables-inside : at + 2 ≤ length s
+  variables-inside = variables-read .0
+
+  types-read : (at + 2 + little s at 2 ≤ length s) × (typesFrom s (At (at + 2)) (little s at 2) ≡ At (at + 2 + little s at 2))
+  types-read =
+      let there : typesFrom s (At (at + 2)) (little s at 2) ≡ At (types-place .0) = rw (variables-read .1) at (types-place .1) in
+      let e = types-end s (At (at + 2)) (little s at 2) (types-place .0) (λ b q. let z : b ≡ at + 2 = cc in omega (arith, variables-read .0)) there in
+      (omega (arith, e .0, e .1), there ∙ ap At (sym (e .0)))
+
+  statements-read : (at + 2 + little s at 2 + 2 ≤ length s)
+      × (countAt 0 64 s (At (at + 2 + little s at 2)) ≡ record { value = little s (at + 2 + little s at 2) 2; next = At (at + 2 + little s at 2 + 2) })
+  statements-read = count-from 0 64 s (at + 2 + little s at 2) (rw (variables-read .1, types-read .1) at (body-on .1))
+
+  pub statements-inside : at + 2 + little s at 2 + 2 ≤ length s
+  statements-inside = statements-read .0
+
+  pub front-whole : {variables end statements : ℕ} → variables ≡ little s at 2 → end ≡ at + 2 + variables → statements ≡ little s end 2
+      → _≡_ {A = NodeFront} (record { variables = variables; types = At (at + 2); statements = statements; body = At (end + 2) }) (frontOf (nodeAt s (At at)))
+  unfolding nodeAt
+  front-whole variables-is end-is statements-is = rw (variables-read .1, types-read .1, statements-read .1, statements-is, end-is, variables-is)

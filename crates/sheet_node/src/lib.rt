@@ -184,20 +184,18 @@ pub fn types_of(s: &[u8], end: Place, from: usize, n: usize) -> &[u8]
     }
 }
 
-// The first part of the node record at an offset.
-pub fn take_front(s: &[u8], p: Place) -> NodeFront
-    ensures { λ r. ⌜ r ≡ frontOf (nodeAt (now (s .entry)) p) ⌝ }
+// The first part of the node record at an offset where one was read whole, with nothing checked again.
+pub fn front_at(s: &[u8], at: usize) -> NodeFront
+    requires { ⌜ WentOn (nodeAt (now s) (At at) .next) ⌝ }
+    ensures { λ r. ⌜ r ≡ frontOf (nodeAt (now (s .entry)) (At at)) ⌝ }
 {
-    let v = sheet_field::count(s, p, 0, 32);
-    let types = v.next;
-    let end = types_end_of(s, types, v.value);
-    let k = sheet_field::count(s, end, 0, 64);
-    let body = k.next;
+    let variables = sheet_field::number(s, at, Width::Two);
+    let end = at + 2 + (variables as usize);
     NodeFront {
-        variables: v.value,
-        types,
-        statements: k.value,
-        body,
+        variables,
+        types: Place::At(at + 2),
+        statements: sheet_field::number(s, end, Width::Two),
+        body: Place::At(end + 2),
     }
 }
 

@@ -149,9 +149,6 @@ module _ (s : List ℕ) (node : NodeReading) (read : ReadNode s node) {front : N
   abbrev stands : Taken
   stands = expressionAt (front .variables) s (front .body)
 
-  pub few-variables : front .variables ≤ 32
-  few-variables = rw front-is (omega (arith, parts s node read .few, parts s node read .counted))
-
   passed-over : passed s node read front-is {types = typesIn s node} refl .next ≡ front .body
   unfolding statementsFrom
   passed-over = rw none
@@ -164,6 +161,20 @@ module _ (s : List ℕ) (node : NodeReading) (read : ReadNode s node) {front : N
 
   pub stands-on : WentOn (stands .next)
   stands-on = rw stands-there (this-condition s node read front-is {types = typesIn s node} refl)
+
+  module _ {start : ℕ} (start-is : start ≡ startOf (front .body)) where
+    body-at : At start ≡ front .body
+    body-at =
+        let body = parts s node read .start in
+        let here : front .body ≡ At (body .0) = ap (λ (f : NodeFront). f .body) front-is ∙ body .1 in
+        ap At (start-is ∙ ap startOf here) ∙ sym here
+
+    pub plain-on : WentOn (expressionAt (front .variables) s (At start) .next)
+    plain-on = rw body-at stands-on
+
+    pub plain-took : {records : ℕ} {next : Place} {before after : List ℕ} → Took records next before after (expressionAt (front .variables) s (At start))
+        → Took records next before after (expressionAt (front .variables) s (front .body))
+    plain-took took = rw (← body-at) took
 
   nothing-passed : passed s node read front-is {types = typesIn s node} refl .list ≡ []
   unfolding statementsFrom

@@ -71,7 +71,7 @@ fn verdict_in(
     requires { ⌜ LentNode (nodeAt (now s) (At at) .variables) (now table) (now lengths) (now words) (now out) ⌝ }
     ensures { λ r. ⌜ JudgedIs r (now (s .entry)) (nodeAt (now (s .entry)) (At at)) at ⌝ }
 {
-    let front = sheet_node::take_front(s, Place::At(at));
+    let front = sheet_node::front_at(s, at);
     let types_at = front.types;
     let body = front.body;
     let from = sheet_field::start(types_at);
@@ -139,11 +139,10 @@ fn verdict_plain(s: &[u8], at: usize, front: NodeFront) -> JudgedNode
 {
     let condition = front.body;
     let mut words = [0u64; 256];
-    let e = sheet_expression::take_expression(s, condition, front.variables, &mut words);
-    let after = e.next;
+    let e = sheet_expression::expression_at(s, sheet_field::start(condition), &mut words);
     let n = 2 * (e.records as usize);
     let answer = answer_at(decide::decide(&words[..n]), at);
-    let a = sheet_field::count(s, after, 0, 16);
+    let a = sheet_field::count(s, Place::At(e.end), 0, 16);
     let sites = a.next;
     JudgedNode {
         answer,
@@ -157,7 +156,7 @@ pub fn verdict_at(s: &[u8], at: usize) -> JudgedNode
     requires { ⌜ WentOn (nodeAt (now s) (At at) .next) ⌝ }
     ensures { λ r. ⌜ JudgedIs r (now (s .entry)) (nodeAt (now (s .entry)) (At at)) at ⌝ }
 {
-    let front = sheet_node::take_front(s, Place::At(at));
+    let front = sheet_node::front_at(s, at);
     if front.statements == 0 {
         return verdict_plain(s, at, front);
     }

@@ -1,28 +1,31 @@
 use native.Mathlib.Omega.{arith}
 use mathlib.Core.Path.{sym}
 use lib.Seq.{length-take-le}
-use Rattle.verdict_node.proofs.Judged.{whole-at, few-variables, plain-words, judged-plain}
+use Rattle.verdict_node.proofs.Judged.{whole-at, plain-on, plain-took, plain-words, judged-plain}
 use borrow.Author.Needs.{needs}
 use Rattle.verdict_node.proofs.verdict_plain.Statement.{statement}
 use Rattle.verdict_node.proofs.verdict_plain.Tie as tie
 
-slice-aggregate-take-expression : tie.Need-slice-aggregate-take-expression
-slice-aggregate-take-expression c = search needs
+start-requires : tie.Need-start-requires
+start-requires c κs = search needs
 
-take-expression-requires : tie.Need-take-expression-requires
-take-expression-requires c κs = (few-variables _ _ (whole-at _ _ (c .before .before .pre .0)) (c .before .before .pre .1 .0) (c .before .before .pre .1 .1), search needs)
+slice-aggregate-expression-at : tie.Need-slice-aggregate-expression-at
+slice-aggregate-expression-at c = search needs
+
+expression-at-requires : tie.Need-expression-at-requires
+expression-at-requires c κs = (record { variables = c .before .before .before .args .front .variables; on = plain-on _ _ (whole-at _ _ (c .before .before .before .pre .0)) (c .before .before .before .pre .1 .0) (c .before .before .before .pre .1 .1) (c .before .start .ensures) }, search needs)
 
 mul-n : tie.Need-mul-n
-mul-n c = search needs
+mul-n c = omega (arith, (plain-took _ _ (whole-at _ _ (c .before .before .before .before .before .pre .0)) (c .before .before .before .before .before .pre .1 .0) (c .before .before .before .before .before .pre .1 .1) (c .before .before .before .start .ensures) (c .before .expression-at .ensures _ (plain-on _ _ (whole-at _ _ (c .before .before .before .before .before .pre .0)) (c .before .before .before .before .before .pre .1 .0) (c .before .before .before .before .before .pre .1 .1) (c .before .before .before .start .ensures)))) .few)
 
 array-share-prefix-words : tie.Need-array-share-prefix-words
-array-share-prefix-words c = search needs
+array-share-prefix-words c = omega (arith, (plain-took _ _ (whole-at _ _ (c .before .before .before .before .before .pre .0)) (c .before .before .before .before .before .pre .1 .0) (c .before .before .before .before .before .pre .1 .1) (c .before .before .before .start .ensures) (c .before .expression-at .ensures _ (plain-on _ _ (whole-at _ _ (c .before .before .before .before .before .pre .0)) (c .before .before .before .before .before .pre .1 .0) (c .before .before .before .before .before .pre .1 .1) (c .before .before .before .start .ensures)))) .few, c .before .expression-at .kept .1 .1 .0)
 
 slice-aggregate-decide : tie.Need-slice-aggregate-decide
-slice-aggregate-decide c = sym (length-take-le _ _ (omega (arith, c .before .before .take-expression .ensures .few, c .before .before .take-expression .kept .1 .1 .1 .0)))
+slice-aggregate-decide c = sym (length-take-le _ _ (omega (arith, (plain-took _ _ (whole-at _ _ (c .before .before .before .before .before .before .pre .0)) (c .before .before .before .before .before .before .pre .1 .0) (c .before .before .before .before .before .before .pre .1 .1) (c .before .before .before .before .start .ensures) (c .before .before .expression-at .ensures _ (plain-on _ _ (whole-at _ _ (c .before .before .before .before .before .before .pre .0)) (c .before .before .before .before .before .before .pre .1 .0) (c .before .before .before .before .before .before .pre .1 .1) (c .before .before .before .before .start .ensures)))) .few, c .before .before .expression-at .kept .1 .1 .0)))
 
 decide-requires : tie.Need-decide-requires
-decide-requires c κs = plain-words _ _ (whole-at _ _ (c .before .before .before .before .before .pre .0)) (c .before .before .before .before .before .pre .1 .0) (c .before .before .before .before .before .pre .1 .1) (c .before .before .take-expression .ensures)
+decide-requires c κs = plain-words _ _ (whole-at _ _ (c .before .before .before .before .before .before .pre .0)) (c .before .before .before .before .before .before .pre .1 .0) (c .before .before .before .before .before .before .pre .1 .1) (plain-took _ _ (whole-at _ _ (c .before .before .before .before .before .before .pre .0)) (c .before .before .before .before .before .before .pre .1 .0) (c .before .before .before .before .before .before .pre .1 .1) (c .before .before .before .before .start .ensures) (c .before .before .expression-at .ensures _ (plain-on _ _ (whole-at _ _ (c .before .before .before .before .before .before .pre .0)) (c .before .before .before .before .before .before .pre .1 .0) (c .before .before .before .before .before .before .pre .1 .1) (c .before .before .before .before .start .ensures))))
 
 answer-at-requires : tie.Need-answer-at-requires
 answer-at-requires c κs = search needs
@@ -31,16 +34,15 @@ count-requires : tie.Need-count-requires
 count-requires c κs = search needs
 
 returns : tie.Need-returns
-returns c =
-    let at-entry = c .before .before .before .before .before .before .before .before in
-    judged-plain _ _ (whole-at _ _ (at-entry .pre .0)) (at-entry .pre .1 .0) (at-entry .pre .1 .1) (c .before .before .before .before .before .take-expression .ensures) _ (c .before .before .decide .ensures) (c .before .answer-at .ensures) (c .count .ensures)
+returns c = judged-plain _ _ (whole-at _ _ (c .before .before .before .before .before .before .before .before .before .pre .0)) (c .before .before .before .before .before .before .before .before .before .pre .1 .0) (c .before .before .before .before .before .before .before .before .before .pre .1 .1) (plain-took _ _ (whole-at _ _ (c .before .before .before .before .before .before .before .before .before .pre .0)) (c .before .before .before .before .before .before .before .before .before .pre .1 .0) (c .before .before .before .before .before .before .before .before .before .pre .1 .1) (c .before .before .before .before .before .before .before .start .ensures) (c .before .before .before .before .before .expression-at .ensures _ (plain-on _ _ (whole-at _ _ (c .before .before .before .before .before .before .before .before .before .pre .0)) (c .before .before .before .before .before .before .before .before .before .pre .1 .0) (c .before .before .before .before .before .before .before .before .before .pre .1 .1) (c .before .before .before .before .before .before .before .start .ensures)))) _ (c .before .before .decide .ensures) (c .before .answer-at .ensures) (c .count .ensures)
 
 pub verdict-plain-spec : {M : Type 1} → statement M
 verdict-plain-spec =
     tie.close
     (tie.spec
-    slice-aggregate-take-expression
-    take-expression-requires
+    start-requires
+    slice-aggregate-expression-at
+    expression-at-requires
     mul-n
     array-share-prefix-words
     slice-aggregate-decide
