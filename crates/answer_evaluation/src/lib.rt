@@ -12,7 +12,7 @@ pub fn evaluation(s: &[u8], number: u64, values: &[u64]) -> Evaluation
     match found {
         Place::At(at) => {
             let mut words = [0u64; 256];
-            let node = sheet_node::take_node(s, found, &mut words);
+            let node = sheet_node::node_at(s, at, &mut words);
             evaluate_node::evaluate_node(s, node, at, values)
         }
         Place::Refused(k, at) => Evaluation::Refused(k, at),

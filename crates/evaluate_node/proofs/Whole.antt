@@ -1,19 +1,20 @@
 -- A node that was read whole, and its evaluation from its parts.
 use Prim.Native.Nat.{ℕ, suc, _*_, _≤_}
-use mathlib.Core.Path.{_≡_, refl, sym, _∙_}
+use mathlib.Core.Path.{_≡_, refl, sym, ap, _∙_}
 use mathlib.Core.List.{List, [], _∷_}
 use mathlib.Core.Bool.{Bool, true, false, _&&_}
 use native.Mathlib.Omega.{arith}
 use lib.ListN.{length, take}
-use Rattle.sheet_field.specs.Field.{WentOn}
+use Rattle.sheet_field.specs.declared.Place.{Place}
+use Rattle.sheet_field.specs.declared.Place.the-variants.{At}
+use Rattle.sheet_field.specs.Field.{startOf, WentOn}
 use Rattle.expr.specs.Tree.{treeOf}
 use Rattle.expr.specs.Scan.{plainExpr}
 use Rattle.arith.specs.Numbers.{fits}
-use Rattle.sheet_expression.specs.declared.Expression.{Expression}
 use Rattle.sheet_expression.specs.Expression.{expressionAt}
 use Rattle.sheet_expression.specs.Contracts.{Took}
 use Rattle.sheet_expression.proofs.Lists.{took-front}
-use Rattle.sheet_expression.proofs.Accepted.{took-tree}
+use Rattle.sheet_expression.proofs.Accepted.{one-tree, took-tree}
 use Rattle.sheet_node.specs.declared.NodeReading.{NodeReading}
 use Rattle.sheet_node.specs.Node.{typesIn, nodeOf}
 use Rattle.sheet_node.specs.Contracts.{ReadNode}
@@ -43,21 +44,32 @@ and-false false = refl
 
 -- for a list of types that is known to be the node's, and the condition's words
 module _ (s : List ℕ) (node : NodeReading) (read : ReadNode s node) where
-  pub few-variables : node .variables ≤ 32
-  few-variables = rw (parts s node read .counted) (parts s node read .few)
-
   pub this-condition : WentOn (expressionAt (node .variables) s (node .condition) .next)
   this-condition = rw (parts s node read .counted) (parts s node read .condition)
 
-  module _ {e : Expression} {before after : List ℕ} (took : Took (e .records) (e .next) before after (expressionAt (node .variables) s (node .condition)))
-      {b : Bool} (b-is : b ≡ plainExpr (treeOf (take (2 * e .records) after))) where
+  -- the condition is read at its offset
+  module _ {start : ℕ} (start-is : start ≡ startOf (node .condition)) where
+    condition-at : At start ≡ node .condition
+    condition-at =
+        let one = one-tree (node .variables) s (node .condition) (this-condition .1) in
+        ap At (start-is ∙ ap startOf (one .there)) ∙ sym (one .there)
+
+    pub condition-on : WentOn (expressionAt (node .variables) s (At start) .next)
+    condition-on = rw condition-at this-condition
+
+    pub condition-took : {records : ℕ} {next : Place} {before after : List ℕ} → Took records next before after (expressionAt (node .variables) s (At start))
+        → Took records next before after (expressionAt (node .variables) s (node .condition))
+    condition-took took = rw (← condition-at) took
+
+  module _ {records : ℕ} {next : Place} {before after : List ℕ} (took : Took records next before after (expressionAt (node .variables) s (node .condition)))
+      {b : Bool} (b-is : b ≡ plainExpr (treeOf (take (2 * records) after))) where
     pub condition-refused : b ≡ false → (place : ℕ) (values : List ℕ) → Refused 15 place ≡ evaluationOf (nodeOf s node) place values
     unfolding evaluationOf nodeOf
     condition-refused fails place values =
         let out : plainExpr (treeOf (expressionAt (node .variables) s (node .condition) .words)) ≡ false = rw (← took-front took this-condition) (sym b-is ∙ fails) in
         sym (rw (out, and-false))
 
-    pub running : b ≡ true → {ts : List ℕ} → ts ≡ typesIn s node → Running s node ts (take (2 * e .records) after)
+    pub running : b ≡ true → {ts : List ℕ} → ts ≡ typesIn s node → Running s node ts (take (2 * records) after)
     running holds {ts} these =
         let words = took-tree (node .variables) s (node .condition) took this-condition in
         record {

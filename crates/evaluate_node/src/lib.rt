@@ -75,7 +75,7 @@ fn run_statement(
     requires { ⌜ WentOn (statementAt (now types) (now s) p .next) ⌝ }
     ensures { λ r. ⌜ Stepped r (now (values .exit)) (now (types .entry)) (stateOf going (now (values .entry))) (statementAt (now (types .entry)) (now (s .entry)) p) ⌝ }
 {
-    let r = sheet_node::take_statement(s, p, types, words);
+    let r = sheet_node::statement_at(s, p, words);
     let next = r.next;
     if !r.assigned {
         return Step {
@@ -242,7 +242,7 @@ pub fn evaluate_node(s: &[u8], node: NodeReading, place: usize, values: &[u64]) 
     let types = sheet_node::node_types(s, node);
     let mut words = [0u64; 256];
     let condition = node.condition;
-    let e = sheet_expression::take_expression(s, condition, node.variables, &mut words);
+    let e = sheet_expression::expression_at(s, sheet_field::start(condition), &mut words);
     let m = 2 * (e.records as usize);
     if !expr::is_plain(&words[..m]) {
         return Evaluation::Refused(refusal::NOT_PLAIN, place);

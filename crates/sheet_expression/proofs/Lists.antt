@@ -1,7 +1,6 @@
 -- Laws of records read one after the other.
 use Prim.Native.Nat.{ℕ, zero, suc, _+_, _-_, _*_, _≤_}
-use mathlib.Core.Path.{_≡_, refl, sym, ap, _∙_}
-use mathlib.Core.Bool.{true, false≢true}
+use mathlib.Core.Path.{_≡_, refl, ap, _∙_}
 use mathlib.Core.List.{List, [], _∷_, _++_, append-assoc}
 use native.Mathlib.Omega.{arith}
 use native.Mathlib.Numerals.{add-one}
@@ -9,12 +8,10 @@ use lib.ListN.{length, take, drop, set, getD, length-append, length-drop}
 use lib.Seq.{take-at, set-at, drop-cons, append-snoc}
 use Rattle.sheet_field.specs.declared.Place.{Place}
 use Rattle.sheet_expression.specs.declared.RecordReading.{RecordReading}
-use Rattle.sheet_expression.specs.Expression.{argumentAt, constantAt, recordAt, Taken, takenMore, takenFrom, expressionAt}
+use Rattle.sheet_expression.specs.Expression.{argumentAt, constantAt, recordAt, Taken, takenMore, takenFrom}
 use Rattle.sheet_expression.specs.Contracts.{Took}
 use Rattle.sheet_field.specs.declared.Place.the-variants.{Refused}
-use Rattle.sheet_field.specs.declared.Field.{Field}
-use Rattle.sheet_field.specs.Field.{fieldAt, checkField, codeAt, countAt, isRefused, WentOn}
-use Rattle.sheet_field.proofs.Counted.{stopped}
+use Rattle.sheet_field.specs.Field.{fieldAt, checkField, codeAt, WentOn}
 
 pub taken-length : (variables total : ℕ) (s : List ℕ) (p : Place) (k : ℕ) → length (takenFrom variables total s p k .words) ≡ 2 * k
 unfolding takenFrom takenMore
@@ -98,17 +95,6 @@ module _ (variables total : ℕ) (s : List ℕ) (p : Place) where
         let long : length (takenFrom variables total s p k .words) ≡ 2 * k = taken-length variables total s p k in
         rw (stored .list, length-append, length-drop) (omega arith)
 
-    -- the loop may end where reading was refused
-    pub took-stopped : isRefused next ≡ true → k ≤ total → total ≤ 128 → Took total next before after (takenFrom variables total s p total)
-    took-stopped refused within few =
-        let last = stopped (λ j. takenFrom variables total s p j .next) (taken-keep variables total s p) total k next (stored .place) refused within in
-        record {
-          size = taken-length variables total s p total;
-          few = few;
-          place = last;
-          list = λ on. absurd (false≢true (ap isRefused (sym (last ∙ on .1)) ∙ refused));
-        }
-
   -- and ends after all records
   pub took-all : {depth : ℕ} {next : Place} {before after : List ℕ} → Stored depth next before after (takenFrom variables total s p total) → total ≤ 128
       → Took total next before after (takenFrom variables total s p total)
@@ -120,9 +106,3 @@ module _ (variables total : ℕ) (s : List ℕ) (p : Place) where
 pub took-front : {records : ℕ} {next : Place} {before after : List ℕ} {t : Taken} → Took records next before after t → WentOn (t .next)
     → take (2 * records) after ≡ t .words
 took-front {records} {before = before} {t = t} took on = rw (took .list on) (take-at (t .words) (drop (2 * records) before) (2 * records) (took .size))
-
-pub took-expression : (variables : ℕ) (s : List ℕ) (p : Place) {n : Field} {next : Place} {before after : List ℕ}
-    → n ≡ countAt 1 128 s p → Took (n .value) next before after (takenFrom variables (n .value) s (n .next) (n .value))
-    → Took (n .value) next before after (expressionAt variables s p)
-unfolding expressionAt
-took-expression variables s p n-is took = rw (← n-is) took

@@ -19,7 +19,7 @@ use Rattle.sheet_field.proofs.Counted.{back, counted, nth}
 use Rattle.sheet_node.proofs.Nodes.{types-keep, statements-keep, addresses-keep, types-inside}
 use Rattle.sheet_node.specs.declared.NodeReading.{NodeReading}
 use Rattle.sheet_node.specs.Node.{mapAt, assignmentAt, statementAt, statementOf, statementsFrom, typesFrom, typesOf, addressesFrom, nodeAt, typesIn}
-use Rattle.sheet_node.specs.Contracts.{ReadNode}
+use Rattle.sheet_node.specs.Contracts.{ReadNode, addressesEnd}
 
 map-on : (s : List ℕ) (p : Place) {a : ℕ} → mapAt s p .next ≡ At a → WentOn p
 unfolding mapAt
@@ -107,12 +107,13 @@ pub record Parts (s : List ℕ) (node : NodeReading) (types : List ℕ) : Type 0
   pub condition : WentOn (expressionAt (length types) s (node .condition) .next)
   pub addresses : countAt 0 16 s (expressionAt (length types) s (node .condition) .next) .value ≡ node .addresses
   pub sites : countAt 0 16 s (expressionAt (length types) s (node .condition) .next) .next ≡ node .sites
+  pub end : addressesEnd s (expressionAt (length types) s (node .condition) .next) ≡ node .next
 
 types-whole : {end : Place} {a : ℕ} (from n : ℕ) (s : List ℕ) → end ≡ At a → typesOf end from n s ≡ take n (drop from s)
 types-whole from n s e = rw e
 
 pub whole-node : (s : List ℕ) (p : Place) {a : ℕ} → nodeAt s p .next ≡ At a → Parts s (nodeAt s p) (typesIn s (nodeAt s p))
-unfolding nodeAt
+unfolding nodeAt addressesEnd
 whole-node s p e =
     let v = countAt 0 32 s p in
     let typesEnd = typesFrom s (v .next) (v .value) in
@@ -139,6 +140,7 @@ whole-node s p e =
       condition = judged;
       addresses = refl;
       sites = refl;
+      end = refl;
     }
 
 pub parts : (s : List ℕ) (node : NodeReading) → ReadNode s node → Parts s node (typesIn s node)

@@ -9,17 +9,19 @@ use lib.ListN.{length}
 use borrow.Author.Tests.{eq-eqb, ne-eqb}
 use Rattle.sheet_field.specs.declared.Place.{Place}
 use Rattle.sheet_field.specs.declared.Place.the-variants.{At}
+use Rattle.sheet_field.specs.declared.Field.{Field}
 use Rattle.sheet_field.specs.Field.{little, fieldAt, startOf, codeAt, countAt, WentOn}
 use Rattle.sheet_field.proofs.Fields.{judge-at, check-at, count-on}
 use Rattle.sheet_expression.specs.declared.Whole.{Whole}
 use Rattle.sheet_expression.specs.Expression.{expressionAt}
-use Rattle.sheet_expression.specs.Contracts.{Took}
+use Rattle.sheet_expression.specs.Contracts.{Took, WholeExpression}
 use Rattle.sheet_expression.proofs.Accepted.{one-tree}
 use Rattle.sheet_expression.proofs.Decoding.{field-from, code-from}
 use Rattle.sheet_node.specs.declared.NodeFront.{NodeFront}
-use Rattle.sheet_node.specs.Node.{mapAt, assignmentAt, statementAt, typesFrom, nodeAt}
-use Rattle.sheet_node.specs.Contracts.{TookStatement, frontOf}
-use Rattle.sheet_node.proofs.Accepted.{statement-on, assignment-on, types-on, whole-node}
+use Rattle.sheet_node.specs.declared.NodeReading.{NodeReading}
+use Rattle.sheet_node.specs.Node.{mapAt, assignmentAt, statementAt, statementsFrom, typesFrom, nodeAt, typesIn}
+use Rattle.sheet_node.specs.Contracts.{TookStatement, frontOf, WholeStatements, addressesEnd}
+use Rattle.sheet_node.proofs.Accepted.{statement-on, assignment-on, types-on, Parts, whole-node}
 use Rattle.sheet_node.proofs.Nodes.{types-end}
 
 map-from : (s : List ℕ) (p : Place) (at : ℕ) {b : ℕ} → p ≡ At at → mapAt s p .next ≡ At b
@@ -133,3 +135,50 @@ module _ (s : List ℕ) (at : ℕ) (on : WentOn (nodeAt s (At at) .next)) where
       → _≡_ {A = NodeFront} (record { variables = variables; types = At (at + 2); statements = statements; body = At (end + 2) }) (frontOf (nodeAt s (At at)))
   unfolding nodeAt
   front-whole variables-is end-is statements-is = rw (variables-read .1, types-read .1, statements-read .1, statements-is, end-is, variables-is)
+
+node-path : {v v′ n n′ a a′ : ℕ} {t t′ b b′ c c′ x x′ y y′ : Place} → v ≡ v′ → t ≡ t′ → n ≡ n′ → b ≡ b′ → c ≡ c′ → a ≡ a′ → x ≡ x′ → y ≡ y′
+    → _≡_ {A = NodeReading}
+    (record { variables = v; types = t; statements = n; body = b; condition = c; addresses = a; sites = x; next = y })
+    (record { variables = v′; types = t′; statements = n′; body = b′; condition = c′; addresses = a′; sites = x′; next = y′ })
+node-path e f g h i j k l = rw (e, f, g, h, i, j, k, l)
+
+-- a node that was read whole, from its parts
+module _ (s : List ℕ) (at : ℕ) (on : WentOn (nodeAt s (At at) .next)) {front : NodeFront} (front-is : front ≡ frontOf (nodeAt s (At at))) where
+  whole : Parts s (nodeAt s (At at)) (typesIn s (nodeAt s (At at)))
+  whole = whole-node s (At at) (on .1)
+
+  statements-on : WentOn (statementsFrom (typesIn s (nodeAt s (At at))) s (front .body) (front .statements) .next)
+  statements-on = rw front-is (whole .statements)
+
+  pub these-statements : WholeStatements s (front .body) (front .statements)
+  these-statements = record { types = typesIn s (nodeAt s (At at)); on = statements-on }
+
+  module _ {condition : Place}
+      (condition-is : (types : List ℕ) → WentOn (statementsFrom types s (front .body) (front .statements) .next) → condition ≡ statementsFrom types s (front .body) (front .statements) .next) where
+    condition-there : condition ≡ nodeAt s (At at) .condition
+    condition-there = condition-is (typesIn s (nodeAt s (At at))) statements-on ∙ rw front-is (whole .body)
+
+    module _ {start : ℕ} (start-is : start ≡ startOf condition) where
+      condition-at : At start ≡ nodeAt s (At at) .condition
+      condition-at =
+          let one = one-tree (length (typesIn s (nodeAt s (At at)))) s _ (whole .condition .1) in
+          ap At (start-is ∙ ap startOf (condition-there ∙ one .there)) ∙ sym (one .there)
+
+      condition-on : WentOn (expressionAt (length (typesIn s (nodeAt s (At at)))) s (At start) .next)
+      condition-on = rw condition-at (whole .condition)
+
+      pub this-condition : WholeExpression s start
+      this-condition = record { variables = length (typesIn s (nodeAt s (At at))); on = condition-on }
+
+      module _ {e : Whole} {before after : List ℕ}
+          (took : (variables : ℕ) → WentOn (expressionAt variables s (At start) .next) → Took (e .records) (At (e .end)) before after (expressionAt variables s (At start))) where
+        end-is : At (e .end) ≡ expressionAt (length (typesIn s (nodeAt s (At at)))) s (nodeAt s (At at) .condition) .next
+        end-is = took (length (typesIn s (nodeAt s (At at)))) condition-on .place ∙ rw condition-at
+
+        pub node-made : {a : Field} {next : Place} → a ≡ countAt 0 16 s (At (e .end)) → next ≡ addressesEnd s (At (e .end))
+            → _≡_ {A = NodeReading}
+            (record { variables = front .variables; types = front .types; statements = front .statements; body = front .body; condition = condition; addresses = a .value; sites = a .next; next = next })
+            (nodeAt s (At at))
+        node-made a-is next-is =
+            node-path (ap (λ (f : NodeFront). f .variables) front-is) (ap (λ (f : NodeFront). f .types) front-is) (ap (λ (f : NodeFront). f .statements) front-is) (ap (λ (f : NodeFront). f .body) front-is)
+            condition-there (rw (a-is, end-is) (whole .addresses)) (rw (a-is, end-is) (whole .sites)) (next-is ∙ rw end-is (whole .end))

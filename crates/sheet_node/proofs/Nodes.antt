@@ -12,11 +12,7 @@ use Rattle.sheet_field.specs.declared.Field.{Field}
 use Rattle.sheet_field.specs.Field.{fieldAt, codeAt, checkField, countAt, startOf, isRefused}
 use Rattle.sheet_field.proofs.Fields.{code-at, count-at, count-most}
 use Rattle.sheet_field.proofs.Counted.{stopped}
-use Rattle.sheet_expression.specs.Expression.{expressionAt}
-use Rattle.sheet_node.specs.declared.NodeReading.{NodeReading}
-use Rattle.sheet_node.specs.declared.NodeFront.{NodeFront}
-use Rattle.sheet_node.specs.Node.{mapAt, statementAt, statementsFrom, typesFrom, typesOf, addressesFrom, nodeAt}
-use Rattle.sheet_node.specs.Contracts.{frontOf}
+use Rattle.sheet_node.specs.Node.{mapAt, statementAt, statementsFrom, typesFrom, typesOf, addressesFrom}
 
 -- one type, statement or address more
 pub types-more : (s : List ℕ) (p : Place) (k : ℕ) → codeAt 10 s (typesFrom s p k) .next ≡ typesFrom s p (k + 1)
@@ -83,27 +79,6 @@ types-inside s p {v} v-is end-is start-is a e =
 pub types-few : (end : Place) (from n : ℕ) (s : List ℕ) → length (typesOf end from n s) ≤ n
 types-few (At a) from n s = rw length-take (omega arith)
 types-few (Refused k at) from n s = omega arith
-
--- a node from its parts
-pub node-is : (s : List ℕ) (p : Place) {v k a : Field} {typesEnd condition conditionEnd next : Place} {start : ℕ} {types : List ℕ}
-    → v ≡ countAt 0 32 s p → typesEnd ≡ typesFrom s (v .next) (v .value)
-    → start ≡ startOf (v .next) → types ≡ typesOf typesEnd start (v .value) s
-    → k ≡ countAt 0 64 s typesEnd → condition ≡ statementsFrom types s (k .next) (k .value) .next
-    → conditionEnd ≡ expressionAt (length types) s condition .next
-    → a ≡ countAt 0 16 s conditionEnd → next ≡ addressesFrom s (a .next) (a .value) .next
-    → _≡_ {A = NodeReading}
-    (record { variables = v .value; types = v .next; statements = k .value; body = k .next; condition = condition; addresses = a .value; sites = a .next; next = next })
-    (nodeAt s p)
-unfolding nodeAt
-node-is s p v-is typesEnd-is start-is types-is k-is condition-is conditionEnd-is a-is next-is =
-    rw (next-is, a-is, conditionEnd-is, condition-is, k-is, types-is, start-is, typesEnd-is, v-is)
-
--- its start
-pub front-is : (s : List ℕ) (p : Place) {v k : Field} {end : Place} → v ≡ countAt 0 32 s p → end ≡ typesFrom s (v .next) (v .value)
-    → k ≡ countAt 0 64 s end
-    → _≡_ {A = NodeFront} (record { variables = v .value; types = v .next; statements = k .value; body = k .next }) (frontOf (nodeAt s p))
-unfolding nodeAt
-front-is s p v-is end-is k-is = rw (k-is, end-is, v-is)
 
 -- there are at most 32 of them
 pub types-32 : (s : List ℕ) (p : Place) {v : Field} (end : Place) (from : ℕ) (types : List ℕ) → v ≡ countAt 0 32 s p

@@ -46,3 +46,8 @@ bodyEnd types s p =
 pub record WholeStatement (s : List ℕ) (p : Place) : Type 0 where
   pub types : List ℕ
   pub on : WentOn (statementAt types s p .next)
+
+-- from this offset on n statements were read whole
+pub record WholeStatements (s : List ℕ) (p : Place) (n : ℕ) : Type 0 where
+  pub types : List ℕ
+  pub on : WentOn (statementsFrom types s p n .next)

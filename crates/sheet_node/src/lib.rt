@@ -1,5 +1,5 @@
-// Node records of a sheet: one reader, which checks a record, says where its parts stand, and takes each statement's
-// content.
+// Node records of a sheet: a check, and readers of a node that was read whole, which say where its parts stand and take each
+// statement's content.
 use sheet_field::Field;
 use sheet_field::Place;
 use sheet_field::Width;
@@ -13,7 +13,7 @@ ghost use Rattle.expr.specs.Tree.{Wf, treeOf};
 ghost use Rattle.expr.specs.Types.{typeOf};
 ghost use Rattle.expr.specs.Admission.{InTable};
 ghost use Rattle.sheet_node.specs.Node.{mapAt, typedAt, assignmentAt, statementAt, statementsFrom, typesFrom, typesOf, addressesFrom, nodeAt, typesIn};
-ghost use Rattle.sheet_node.specs.Contracts.{TookStatement, frontOf, ReadNode, WholeStatement, addressesEnd, bodyEnd};
+ghost use Rattle.sheet_node.specs.Contracts.{TookStatement, frontOf, ReadNode, WholeStatement, WholeStatements, addressesEnd, bodyEnd};
 
 // A statement: whether it is an assignment, to which variable, how many records its value has, and the offset after it.
 // Any other statement has no variable and no records.
@@ -59,120 +59,6 @@ fn take_map(s: &[u8], p: Place) -> Field
     )
 }
 
-// The check that a value has its variable's type, made where the value was read whole.
-fn typed(end: Place, begin: usize, words: &[u64], types: &[u8], variable: u64) -> Place
-    requires { ⌜ ((a : ℕ) → end ≡ At a → Wf (now words) × (length (now words) ≤ 256) × (variable < length (now types))) ⌝ }
-    ensures { λ r. ⌜ r ≡ typedAt (now (types .entry)) variable (now (words .entry)) begin end ⌝ }
-{
-    match end {
-        Place::Refused(k, at) => Place::Refused(k, at),
-        Place::At(_) => {
-            let own = types[variable as usize];
-            let of_value = expr::static_type(words, types);
-            sheet_field::judged(
-                end,
-                expr::same_type(of_value, own as u64),
-                refusal::TYPE,
-                begin,
-            )
-        }
-    }
-}
-
-// The rest of an assignment after its map byte; begin is the statement's offset.
-fn take_assignment(
-    s: &[u8],
-    p: Place,
-    begin: usize,
-    types: &[u8],
-    out: &mut [u64],
-) -> StatementReading
-    requires { ⌜ (length (now types) ≤ 32) × (256 ≤ length (now out)) ⌝ }
-    ensures { λ r. ⌜ TookStatement r (now (out .entry)) (now (out .exit)) (assignmentAt (now (types .entry)) begin (now (s .entry)) p) ⌝ }
-{
-    let variables = types.len() as u64;
-    let v = sheet_field::code(s, p, variables);
-    let after = v.next;
-    let e = sheet_expression::take_expression(s, after, variables, out);
-    let end = e.next;
-    let n = 2 * (e.records as usize);
-    StatementReading {
-        assigned: true,
-        variable: v.value,
-        records: e.records,
-        next: typed(end, begin, &out[..n], types, v.value),
-    }
-}
-
-// The statement at an offset. The records of an assigned value stand as words at the start of `out`.
-pub fn take_statement(s: &[u8], p: Place, types: &[u8], out: &mut [u64]) -> StatementReading
-    requires { ⌜ (length (now types) ≤ 32) × (256 ≤ length (now out)) ⌝ }
-    ensures { λ r. ⌜ TookStatement r (now (out .entry)) (now (out .exit)) (statementAt (now (types .entry)) (now (s .entry)) p) ⌝ }
-{
-    let map = take_map(s, p);
-    let after = map.next;
-    if map.value == 3 {
-        take_assignment(s, after, sheet_field::start(p), types, out)
-    } else {
-        StatementReading {
-            assigned: false,
-            variable: 0,
-            records: 0,
-            next: after,
-        }
-    }
-}
-
-// The offset after n statements. The words of their values are taken into `words`, one after the other.
-fn statements_end(s: &[u8], p: Place, types: &[u8], n: u64, words: &mut [u64]) -> Place
-    requires { ⌜ (length (now types) ≤ 32) × (256 ≤ length (now words)) ⌝ }
-    ensures { λ r. ⌜ r ≡ statementsFrom (now (types .entry)) (now (s .entry)) p n .next ⌝ }
-{
-    let mut next = p;
-    let mut i: u64 = 0;
-    while i < n {
-        if sheet_field::is_refused(next) {
-            return next;
-        }
-        let r = take_statement(s, next, types, words);
-        next = r.next;
-        i += 1;
-    }
-    next
-}
-
-fn types_end_of(s: &[u8], p: Place, n: u64) -> Place
-    ensures { λ r. ⌜ r ≡ typesFrom (now (s .entry)) p n ⌝ }
-{
-    let mut next = p;
-    let mut i: u64 = 0;
-    while i < n {
-        if sheet_field::is_refused(next) {
-            return next;
-        }
-        let f = sheet_field::code(s, next, 10);
-        next = f.next;
-        i += 1;
-    }
-    next
-}
-
-fn addresses_end(s: &[u8], p: Place, n: u64) -> Place
-    ensures { λ r. ⌜ r ≡ addressesFrom (now (s .entry)) p n .next ⌝ }
-{
-    let mut next = p;
-    let mut i: u64 = 0;
-    while i < n {
-        if sheet_field::is_refused(next) {
-            return next;
-        }
-        let f = sheet_field::take_field(s, next, Width::Eight);
-        next = f.next;
-        i += 1;
-    }
-    next
-}
-
 // The types as a part of the sheet: n bytes from an offset on, where reading went on after them, else none.
 pub fn types_of(s: &[u8], end: Place, from: usize, n: usize) -> &[u8]
     requires { ⌜ ((a : ℕ) → end ≡ At a → from + n ≤ length (now s)) ⌝ }
@@ -208,34 +94,6 @@ pub fn node_types(s: &[u8], node: NodeReading) -> &[u8]
     let from = sheet_field::start(types);
     let n = node.variables as usize;
     &s[from..from + n]
-}
-
-// The node record at an offset. `words` is a buffer for the words of its expressions, one after the other.
-pub fn take_node(s: &[u8], p: Place, words: &mut [u64]) -> NodeReading
-    requires { ⌜ 256 ≤ length (now words) ⌝ }
-    ensures { λ r. ⌜ r ≡ nodeAt (now (s .entry)) p ⌝ }
-{
-    let v = sheet_field::count(s, p, 0, 32);
-    let types_at = v.next;
-    let types_end = types_end_of(s, types_at, v.value);
-    let types = types_of(s, types_end, sheet_field::start(types_at), v.value as usize);
-    let k = sheet_field::count(s, types_end, 0, 64);
-    let body = k.next;
-    let condition = statements_end(s, body, types, k.value, words);
-    let e = sheet_expression::take_expression(s, condition, types.len() as u64, words);
-    let condition_end = e.next;
-    let a = sheet_field::count(s, condition_end, 0, 16);
-    let sites = a.next;
-    NodeReading {
-        variables: v.value,
-        types: types_at,
-        statements: k.value,
-        body,
-        condition,
-        addresses: a.value,
-        sites,
-        next: addresses_end(s, sites, a.value),
-    }
 }
 
 // The offset after the statement at an offset.
@@ -382,5 +240,45 @@ pub fn statement_at(s: &[u8], p: Place, out: &mut [u64]) -> StatementReading
         variable,
         records: e.records,
         next: Place::At(e.end),
+    }
+}
+
+// The offset after n statements that were read whole. The words of their values are taken into `words`, one after the other.
+fn statements_end(s: &[u8], p: Place, n: u64, words: &mut [u64]) -> Place
+    requires { ⌜ WholeStatements (now s) p n × (256 ≤ length (now words)) ⌝ }
+    ensures { λ r. ⌜ ((types : List ℕ) → WentOn (statementsFrom types (now (s .entry)) p n .next) → r ≡ statementsFrom types (now (s .entry)) p n .next) ⌝ }
+{
+    let mut next = p;
+    let mut i: u64 = 0;
+    while i < n {
+        let r = statement_at(s, next, words);
+        next = r.next;
+        i += 1;
+    }
+    next
+}
+
+// The node record at an offset where one was read whole, with nothing checked again. `words` is a buffer for the words of its
+// expressions, one after the other.
+pub fn node_at(s: &[u8], at: usize, words: &mut [u64]) -> NodeReading
+    requires { ⌜ WentOn (nodeAt (now s) (At at) .next) × (256 ≤ length (now words)) ⌝ }
+    ensures { λ r. ⌜ r ≡ nodeAt (now (s .entry)) (At at) ⌝ }
+{
+    let front = front_at(s, at);
+    let types = front.types;
+    let body = front.body;
+    let condition = statements_end(s, body, front.statements, words);
+    let e = sheet_expression::expression_at(s, sheet_field::start(condition), words);
+    let a = sheet_field::count(s, Place::At(e.end), 0, 16);
+    let sites = a.next;
+    NodeReading {
+        variables: front.variables,
+        types,
+        statements: front.statements,
+        body,
+        condition,
+        addresses: a.value,
+        sites,
+        next: check_addresses(s, e.end),
     }
 }

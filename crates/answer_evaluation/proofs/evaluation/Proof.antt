@@ -10,20 +10,20 @@ find-node-requires c κs = search needs
 enum-known-found : tie.Need-enum-known-found
 enum-known-found c = search needs
 
-slice-aggregate-take-node : tie.Need-slice-aggregate-take-node
-slice-aggregate-take-node c = search needs
+slice-aggregate-node-at : tie.Need-slice-aggregate-node-at
+slice-aggregate-node-at c = search needs
 
-take-node-requires : tie.Need-take-node-requires
-take-node-requires c κs = search needs
+node-at-requires : tie.Need-node-at-requires
+node-at-requires c κs = (found-whole _ _ (c .before .before .before .before .find-node .ensures) (c .before .before .found .given .1) .on, search needs)
 
 evaluate-node-requires : tie.Need-evaluate-node-requires
-evaluate-node-requires c κs = rw (c .before .take-node .ensures) (found-whole _ _ (c .before .before .before .before .before .before .find-node .ensures) (c .before .before .before .before .found .given .1))
+evaluate-node-requires c κs = rw (c .before .node-at .ensures) (found-whole _ _ (c .before .before .before .before .before .before .find-node .ensures) (c .before .before .before .before .found .given .1))
 
 enum-known-found-2 : tie.Need-enum-known-found-2
 enum-known-found-2 c = search needs
 
 returns : tie.Need-returns
-returns c = evaluation-is _ _ _ (c .before .before .before .before .before .before .before .find-node .ensures) (c .before .before .before .before .before .found .given .1) (c .before .before .take-node .ensures) (c .evaluate-node .ensures)
+returns c = evaluation-is _ _ _ (c .before .before .before .before .before .before .before .find-node .ensures) (c .before .before .before .before .before .found .given .1) (c .before .before .node-at .ensures) (c .evaluate-node .ensures)
 
 returns-2 : tie.Need-returns-2
 returns-2 c = evaluation-refused _ _ _ (c .before .before .before .find-node .ensures) (c .before .found2 .given .1)
@@ -34,8 +34,8 @@ evaluation-spec =
     (tie.spec
     find-node-requires
     enum-known-found
-    slice-aggregate-take-node
-    take-node-requires
+    slice-aggregate-node-at
+    node-at-requires
     evaluate-node-requires
     enum-known-found-2
     returns

@@ -1,46 +1,48 @@
--- `evaluate_node::evaluate_node` meets its contract: a condition that is not plain is refused, and else the node is run. Assumes nothing.
 use mathlib.Core.Path.{sym}
 use native.Mathlib.Omega.{arith}
 use lib.Seq.{length-take-le}
 use borrow.Author.Tests.{not-true, not-false}
 use Rattle.sheet_expression.proofs.Accepted.{took-tree}
-use Rattle.evaluate_node.proofs.Whole.{few-variables, this-condition, condition-refused, running}
+use Rattle.evaluate_node.proofs.Whole.{this-condition, condition-on, condition-took, condition-refused, running}
 use borrow.Author.Needs.{needs}
 use Rattle.evaluate_node.proofs.evaluate_node.Statement.{statement}
 use Rattle.evaluate_node.proofs.evaluate_node.Tie as tie
 
 node-types-requires : tie.Need-node-types-requires
-node-types-requires c κs = c .before .before .pre
+node-types-requires c κs = search needs
 
-slice-aggregate-take-expression : tie.Need-slice-aggregate-take-expression
-slice-aggregate-take-expression c = search needs
+start-requires : tie.Need-start-requires
+start-requires c κs = search needs
 
-take-expression-requires : tie.Need-take-expression-requires
-take-expression-requires c κs = (few-variables (c .before .before .before .before .args .s .now) (c .before .before .before .before .args .node) (c .before .before .before .before .pre), omega arith)
+slice-aggregate-expression-at : tie.Need-slice-aggregate-expression-at
+slice-aggregate-expression-at c = search needs
+
+expression-at-requires : tie.Need-expression-at-requires
+expression-at-requires c κs = let a = c .before .before .before .before .before .args in let read = c .before .before .before .before .before .pre in (record { variables = a .node .variables; on = (condition-on (a .s .now) (a .node) read (c .before .start .ensures)) }, omega arith)
 
 mul-m : tie.Need-mul-m
-mul-m c = omega (arith, c .before .take-expression .ensures .few, c .before .take-expression .kept .1 .1 .1 .0)
+mul-m c = let a = c .before .before .before .before .before .before .before .args in let read = c .before .before .before .before .before .before .before .pre in omega (arith, (condition-took (a .s .now) (a .node) read (c .before .before .before .start .ensures) (c .before .expression-at .ensures (a .node .variables) (condition-on (a .s .now) (a .node) read (c .before .before .before .start .ensures)))) .few)
 
 array-share-prefix-words : tie.Need-array-share-prefix-words
-array-share-prefix-words c = omega (arith, c .before .take-expression .ensures .few, c .before .take-expression .kept .1 .1 .1 .0)
+array-share-prefix-words c = let a = c .before .before .before .before .before .before .before .args in let read = c .before .before .before .before .before .before .before .pre in omega (arith, (condition-took (a .s .now) (a .node) read (c .before .before .before .start .ensures) (c .before .expression-at .ensures (a .node .variables) (condition-on (a .s .now) (a .node) read (c .before .before .before .start .ensures)))) .few, c .before .expression-at .kept .1 .1 .0)
 
 slice-aggregate-is-plain : tie.Need-slice-aggregate-is-plain
-slice-aggregate-is-plain c = sym (length-take-le _ _ (omega (arith, c .before .before .take-expression .ensures .few, c .before .before .take-expression .kept .1 .1 .1 .0)))
+slice-aggregate-is-plain c = let a = c .before .before .before .before .before .before .before .before .args in let read = c .before .before .before .before .before .before .before .before .pre in sym (length-take-le _ _ (omega (arith, (condition-took (a .s .now) (a .node) read (c .before .before .before .before .start .ensures) (c .before .before .expression-at .ensures (a .node .variables) (condition-on (a .s .now) (a .node) read (c .before .before .before .before .start .ensures)))) .few, c .before .before .expression-at .kept .1 .1 .0)))
 
 is-plain-requires : tie.Need-is-plain-requires
-is-plain-requires c κs = took-tree _ _ _ (c .before .before .take-expression .ensures) (this-condition (c .before .before .before .before .before .before .before .args .s .now) (c .before .before .before .before .before .before .before .args .node) (c .before .before .before .before .before .before .before .pre)) .0
+is-plain-requires c κs = let a = c .before .before .before .before .before .before .before .before .args in let read = c .before .before .before .before .before .before .before .before .pre in took-tree _ _ _ (condition-took (a .s .now) (a .node) read (c .before .before .before .before .start .ensures) (c .before .before .expression-at .ensures (a .node .variables) (condition-on (a .s .now) (a .node) read (c .before .before .before .before .start .ensures)))) (this-condition (a .s .now) (a .node) read) .0
 
 returns : tie.Need-returns
-returns c = condition-refused (c .before .before .before .before .before .before .before .before .before .args .s .now) (c .before .before .before .before .before .before .before .before .before .args .node) (c .before .before .before .before .before .before .before .before .before .pre) (c .before .before .before .before .take-expression .ensures) (c .before .is-plain .ensures) (not-true _ (c .if1 .taken)) (c .before .before .before .before .before .before .before .before .before .args .place) (c .before .before .before .before .before .before .before .before .before .args .values .now)
+returns c = let a = c .before .before .before .before .before .before .before .before .before .before .args in let read = c .before .before .before .before .before .before .before .before .before .before .pre in condition-refused (a .s .now) (a .node) read (condition-took (a .s .now) (a .node) read (c .before .before .before .before .before .before .start .ensures) (c .before .before .before .before .expression-at .ensures (a .node .variables) (condition-on (a .s .now) (a .node) read (c .before .before .before .before .before .before .start .ensures)))) (c .before .is-plain .ensures) (not-true _ (c .if1 .taken)) (a .place) (a .values .now)
 
 array-share-prefix-words-2 : tie.Need-array-share-prefix-words-2
-array-share-prefix-words-2 c = omega (arith, c .before .before .before .before .take-expression .ensures .few, c .before .before .before .before .take-expression .kept .1 .1 .1 .0)
+array-share-prefix-words-2 c = let a = c .before .before .before .before .before .before .before .before .before .before .args in let read = c .before .before .before .before .before .before .before .before .before .before .pre in omega (arith, (condition-took (a .s .now) (a .node) read (c .before .before .before .before .before .before .start .ensures) (c .before .before .before .before .expression-at .ensures (a .node .variables) (condition-on (a .s .now) (a .node) read (c .before .before .before .before .before .before .start .ensures)))) .few, c .before .before .before .before .expression-at .kept .1 .1 .0)
 
 slice-aggregate-run-node : tie.Need-slice-aggregate-run-node
-slice-aggregate-run-node c = sym (length-take-le _ _ (omega (arith, c .before .before .before .before .before .take-expression .ensures .few, c .before .before .before .before .before .take-expression .kept .1 .1 .1 .0)))
+slice-aggregate-run-node c = let a = c .before .before .before .before .before .before .before .before .before .before .before .args in let read = c .before .before .before .before .before .before .before .before .before .before .before .pre in sym (length-take-le _ _ (omega (arith, (condition-took (a .s .now) (a .node) read (c .before .before .before .before .before .before .before .start .ensures) (c .before .before .before .before .before .expression-at .ensures (a .node .variables) (condition-on (a .s .now) (a .node) read (c .before .before .before .before .before .before .before .start .ensures)))) .few, c .before .before .before .before .before .expression-at .kept .1 .1 .0)))
 
 run-node-requires : tie.Need-run-node-requires
-run-node-requires c κs = running (c .before .before .before .before .before .before .before .before .before .before .args .s .now) (c .before .before .before .before .before .before .before .before .before .before .args .node) (c .before .before .before .before .before .before .before .before .before .before .pre) (c .before .before .before .before .before .take-expression .ensures) (c .before .before .is-plain .ensures) (not-false _ (c .before .if1 .left)) (c .before .before .before .before .before .before .before .node-types .ensures)
+run-node-requires c κs = let a = c .before .before .before .before .before .before .before .before .before .before .before .args in let read = c .before .before .before .before .before .before .before .before .before .before .before .pre in running (a .s .now) (a .node) read (condition-took (a .s .now) (a .node) read (c .before .before .before .before .before .before .before .start .ensures) (c .before .before .before .before .before .expression-at .ensures (a .node .variables) (condition-on (a .s .now) (a .node) read (c .before .before .before .before .before .before .before .start .ensures)))) (c .before .before .is-plain .ensures) (not-false _ (c .before .if1 .left)) (c .before .before .before .before .before .before .before .before .node-types .ensures)
 
 returns-2 : tie.Need-returns-2
 returns-2 c = search needs
@@ -50,8 +52,9 @@ evaluate-node-spec =
     tie.close
     (tie.spec
     node-types-requires
-    slice-aggregate-take-expression
-    take-expression-requires
+    start-requires
+    slice-aggregate-expression-at
+    expression-at-requires
     mul-m
     array-share-prefix-words
     slice-aggregate-is-plain

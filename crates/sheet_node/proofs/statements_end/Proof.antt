@@ -1,50 +1,44 @@
-use Rattle.sheet_node.proofs.Nodes.{statements-more, statements-stopped}
+use Rattle.sheet_node.proofs.Statements.{statement-whole}
+use Rattle.sheet_node.proofs.Nodes.{statements-more}
 use Rattle.sheet_node.specs.Node.{statementsFrom}
+use Rattle.sheet_field.specs.Field.{WentOn}
 use lib.ListN.{length}
+use mathlib.Core.List.{List}
+use mathlib.Core.Path.{_≡_, refl, sym, ap, _∙_}
 use native.Mathlib.Omega.{arith}
 use borrow.Author.Needs.{needs}
-use mathlib.Core.Path.{_≡_, refl, sym, _∙_}
-use Prim.Native.Nat.{_≤_, _-_}
+use Prim.Native.Nat.{ℕ, _≤_, _-_}
 use Rattle.sheet_node.proofs.statements_end.Statement.{statement}
 use Rattle.sheet_node.proofs.statements_end.Tie as tie
 
 abbrev Inv-loop : tie.InvT-loop
-Inv-loop s types n words₀ next₀ i₀ words next i =
-    (i ≤ n) × (next ≡ statementsFrom types s next₀ i .next) × (length words ≡ length words₀)
+Inv-loop s n words₀ next₀ i₀ words next i =
+    (i ≤ n) × (length words ≡ length words₀) × ((types : List ℕ) → WentOn (statementsFrom types s next₀ n .next) → next ≡ statementsFrom types s next₀ i .next)
 
 abbrev μ-loop : tie.MeasureT-loop
-μ-loop s types n words₀ next₀ i₀ words next i = n - i
+μ-loop s n words₀ next₀ i₀ words next i = n - i
 
 loop-holds : tie.Need-loop-holds Inv-loop μ-loop
 unfolding statementsFrom
-loop-holds c = (search needs, refl, refl)
+loop-holds c = (omega arith, refl, λ types on. refl)
 
-is-refused-requires : tie.Need-is-refused-requires Inv-loop μ-loop
-is-refused-requires c κs = search needs
-
-same-length : tie.Need-same-length Inv-loop μ-loop
-same-length c = c .before .before .before .loop .inv .2
-
-returns : tie.Need-returns Inv-loop μ-loop
-returns c = statements-stopped _ _ _ _ _ _ (c .before .before .before .loop .inv .1) (sym (c .before .is-refused .ensures) ∙ c .if1 .taken) (omega arith)
-
-take-statement-requires : tie.Need-take-statement-requires Inv-loop μ-loop
-take-statement-requires c κs = (c .before .before .before .before .before .before .before .before .pre .0, omega (arith, c .before .before .before .before .loop .inv .2, c .before .before .before .before .before .before .before .before .pre .1))
+statement-at-requires : tie.Need-statement-at-requires Inv-loop μ-loop
+statement-at-requires c κs = let a = c .before .before .before .before .before .args in let p = c .before .before .before .before .before .pre in let l = c .before .before .loop in (record { types = p .0 .types; on = statement-whole (p .0 .types) (a .s .now) (a .p) (a .n) (l .i) (p .0 .on) (omega arith) (l .inv .2 (p .0 .types) (p .0 .on)) }, omega (arith, l .inv .1, p .1))
 
 add-i : tie.Need-add-i Inv-loop μ-loop
 add-i c = search needs
 
 loop-less : tie.Need-loop-less Inv-loop μ-loop
-loop-less c = search needs
+loop-less c = omega arith
 
 loop-again : tie.Need-loop-again Inv-loop μ-loop
-loop-again c = (search needs, rw (c .before .before .take-statement .ensures .place, c .before .before .before .before .before .before .before .loop .inv .1) (statements-more _ _ _ _), search needs)
+loop-again c = let a = c .before .before .before .before .before .before .before .before .args in let p = c .before .before .before .before .before .before .before .before .pre in let l = c .before .before .before .before .before .loop in (omega arith, search needs, λ types on. rw (c .before .before .statement-at .ensures types (statement-whole types (a .s .now) (a .p) (a .n) (l .i) on (omega arith) (l .inv .2 types on)) .place, l .inv .2 types on) (statements-more types (a .s .now) (a .p) (l .i)))
 
-same-length-2 : tie.Need-same-length-2 Inv-loop μ-loop
-same-length-2 c = c .before .loop .inv .2
+same-length : tie.Need-same-length Inv-loop μ-loop
+same-length c = c .before .loop .inv .1
 
-returns-2 : tie.Need-returns-2 Inv-loop μ-loop
-returns-2 c = let e : c .before .before .before .before .before .args .n ≡ c .before .loop .i = omega arith in rw e (c .before .loop .inv .1)
+returns : tie.Need-returns Inv-loop μ-loop
+returns c = let a = c .before .before .before .before .args in let p = c .before .before .before .before .pre in let l = c .before .loop in λ types on. let e : a .n ≡ l .i = omega arith in l .inv .2 types on ∙ ap (λ (k : ℕ). statementsFrom types (a .s .now) (a .p) k .next) (sym e)
 
 pub statements-end-spec : {M : Type 1} → statement M
 statements-end-spec =
@@ -53,12 +47,9 @@ statements-end-spec =
     Inv-loop
     μ-loop
     loop-holds
-    is-refused-requires
-    same-length
-    returns
-    take-statement-requires
+    statement-at-requires
     add-i
     loop-less
     loop-again
-    same-length-2
-    returns-2)
+    same-length
+    returns)
