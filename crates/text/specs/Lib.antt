@@ -1,0 +1,4 @@
+pub mod Ascii
+pub mod Digits
+pub mod Numbers
+pub mod Contracts
