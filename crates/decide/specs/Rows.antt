@@ -90,5 +90,5 @@ rows =
 
 -- The rows hold (N3, N4, N5, N6, N7, N8, N9, N13, N17).
 pub worked : Yields rows
-unfolding rows decide Rattle.exact.specs.Exact.exact Rattle.exact.specs.Exact.written Rattle.exact.specs.Exact.shape Rattle.parity.specs.Parity.parity Rattle.parity.specs.Parity.atomLow Rattle.parity.specs.Parity.entered Rattle.parity.specs.Parity.place Rattle.poly.specs.Terms.toggle Rattle.poly.specs.Terms.sum Rattle.poly.specs.Terms.sumTimes Rattle.poly.specs.Terms.sumProduct Rattle.expr.specs.Scan.sameTree Rattle.expr.specs.Scan.sameWords Rattle.expr.specs.Scan.anyNode Rattle.expr.specs.Scan.isEffect Rattle.expr.specs.Tree.flat Rattle.expr.specs.Tree.tagOf Rattle.expr.specs.Tree.valueOf
+unfolding rows decide Rattle.exact.specs.Exact.exact Rattle.exact.specs.Exact.written Rattle.exact.specs.Exact.shape Rattle.parity.specs.Parity.parity Rattle.parity.specs.Parity.atomLow Rattle.parity.specs.Parity.entered Rattle.parity.specs.Parity.place Rattle.poly.specs.Terms.toggle Rattle.poly.specs.Terms.sum Rattle.poly.specs.Terms.sumTimes Rattle.poly.specs.Terms.sumProduct Rattle.expr.specs.Scan.sameTree Rattle.laws.specs.Words.sameWords Rattle.expr.specs.Scan.anyNode Rattle.expr.specs.Scan.isEffect Rattle.expr.specs.Tree.flat Rattle.expr.specs.Tree.tagOf Rattle.expr.specs.Tree.valueOf
 worked = (refl, (refl, (refl, (refl, (refl, (refl, (refl, (refl, (refl, (refl, (refl, (refl, (refl, (refl, (refl, (refl, (refl, (refl, (refl, (refl, (refl, (refl, (refl, (refl, (refl, (refl, (refl, (refl, (refl, (refl, (refl, (refl, (refl, tt)))))))))))))))))))))))))))))))))

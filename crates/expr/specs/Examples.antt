@@ -5,7 +5,8 @@ use mathlib.Core.List.{List, [], _∷_}
 use Prim.Native.Nat.{ℕ}
 use Rattle.expr.specs.Tree.{Expr, tagOf, valueOf, flat, arityOf, node, push, parse}
 use Rattle.expr.specs.Tree.Expr.{variable, constant, conditionTrue, load, cast, binary, ternary}
-use Rattle.expr.specs.Scan.{anyNode, isVariable, reads, sameWords, sameTree}
+use Rattle.laws.specs.Words.{sameWords}
+use Rattle.expr.specs.Scan.{anyNode, isVariable, reads, sameTree}
 use Rattle.expr.specs.Types.{bits, promoted, common, constantType, binaryType, typeOf, plainType, sameType}
 
 -- x × (x + 1), with x the variable 0 and 1 a constant of width 4

@@ -3,6 +3,7 @@ use mathlib.Core.Bool.{Bool, true, false, not, _&&_, _||_}
 use mathlib.Core.List.{List, [], _∷_}
 use Prim.Native.Nat.{ℕ}
 use lib.Dec.{eqb}
+use Rattle.laws.specs.Words.{sameWords}
 use Rattle.expr.specs.Codes.{kindVariable}
 use Rattle.expr.specs.Tree.{Expr, kindOf, argumentOf, flat}
 use Rattle.expr.specs.Tree.Expr.{variable, constant, conditionTrue, conditionFalse, effect, load, cast, binary, ternary}
@@ -88,13 +89,6 @@ ofKind k tag = eqb (kindOf tag) k
 -- the tag word of the variable v
 abbrev pub ofVariable : ℕ → ℕ → Bool
 ofVariable v tag = eqb (kindOf tag) kindVariable && eqb (argumentOf tag) v
-
--- two lists of words, word for word
-unfoldable pub sameWords : List ℕ → List ℕ → Bool
-sameWords [] [] = true
-sameWords [] (y ∷ ys) = false
-sameWords (x ∷ xs) [] = false
-sameWords (x ∷ xs) (y ∷ ys) = eqb x y && sameWords xs ys
 
 -- Two trees are the same where their records are, argument, width, type and value.
 unfoldable pub sameTree : Expr → Expr → Bool

@@ -199,7 +199,7 @@ pub struct Effect {
 }
 
 // Whether the operation of a register with itself has the same result for every value.
-fn is_idiom(op: Binary) -> bool
+pub fn is_idiom(op: Binary) -> bool
     ensures { λ r. ⌜ r ≡ isIdiom op ⌝ }
 {
     match op {

@@ -1,1 +1,2 @@
 pub mod Booleans
+pub mod SameWords

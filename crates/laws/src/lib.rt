@@ -1,1 +1,1 @@
-// Laws on truth values that the proofs of several crates cite. No code.
+// Laws on truth values and on lists of words that the proofs of several crates cite. No code.

@@ -72,7 +72,7 @@ fn replace(registers: &mut Registers, index: u8, slot: Slot)
 }
 
 // A register of another class than 1 is unknown.
-fn read(registers: &Registers, r: Register) -> Value
+pub fn read(registers: &Registers, r: Register) -> Value
     ensures { λ v. ⌜ ((f : Flags) → v ≡ readOf (stateOf (now (registers .entry)) f) r) ⌝ }
 {
     if r.class == 1 {
@@ -97,7 +97,7 @@ fn write(registers: &mut Registers, r: Register, v: Value)
 }
 
 // The value of an operand beside a register of that size.
-fn operand(registers: &Registers, size: u8, o: Operand) -> Value
+pub fn operand(registers: &Registers, size: u8, o: Operand) -> Value
     ensures { λ v. ⌜ ((f : Flags) → v ≡ operandOf (stateOf (now (registers .entry)) f) size o) ⌝ }
 {
     match o {
@@ -160,7 +160,7 @@ fn forget_all(registers: &mut Registers) -> Flags
 }
 
 // Whether the operand is that very register.
-fn is_same(d: Register, o: Operand) -> bool
+pub fn is_same(d: Register, o: Operand) -> bool
     ensures { λ r. ⌜ r ≡ sameRegister d o ⌝ }
 {
     match o {

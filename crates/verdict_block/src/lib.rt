@@ -35,7 +35,7 @@ pub struct Range {
 }
 
 // What a verdict asks for of the instruction of that number, of an accepted sheet.
-fn jump_at(s: &[u8], sheet: Sheet, places: &[u64], number: usize) -> Jump
+pub fn jump_at(s: &[u8], sheet: Sheet, places: &[u64], number: usize) -> Jump
     requires { ⌜ readingOf (now s) ≡ Accepted sheet ⌝ }
     requires { ⌜ now places ≡ sheetAt (now s) .instructions .places ⌝ }
     requires { ⌜ number < length (now places) ⌝ }

@@ -4,8 +4,9 @@ use mathlib.Core.Path.{_≡_, refl, sym, _∙_}
 use Prim.Native.Nat.{_-_}
 use native.Mathlib.Omega.{arith}
 use lib.ListN.{length, drop}
-use Rattle.expr.specs.Scan.{sameWords}
-use Rattle.expr.proofs.Sameness.{same-words, words-unlike, words-on, words-stop, words-end}
+use Rattle.laws.specs.Words.{sameWords}
+use Rattle.laws.proofs.SameWords.{words-unlike, words-on, words-stop, words-end}
+use Rattle.expr.proofs.Sameness.{same-words}
 use Rattle.expr.proofs.same.Statement.{statement}
 use Rattle.expr.proofs.same.Tie as tie
 
