@@ -1,5 +1,5 @@
 -- The pieces of a line, and the lines of a list, one after the other.
-use Prim.Native.Nat.{ℕ, suc, _+_, _*_, _-_, _^_, _≤_, _<_}
+use Prim.Native.Nat.{ℕ, suc, _+_, _*_, _-_, _≤_, _<_}
 use mathlib.Core.Path.{_≡_, refl, sym, _∙_}
 use mathlib.Core.Bool.{Bool, true, false, cond}
 use mathlib.Core.List.{List, [], _++_, append-assoc}
@@ -9,39 +9,13 @@ use lib.Dec.{eqb}
 use lib.ListN.{length, getD, length-append}
 use lib.Seq.{sets}
 use Rattle.sheet_field.specs.Field.{little}
-use Rattle.listing_text.specs.Digits.{digits, decimal, placesOf}
+use Rattle.text.specs.Digits.{digits, decimal}
+use Rattle.text.specs.Contracts.{Put}
+use Rattle.text.proofs.Lengths.{digits-long}
+use Rattle.text.proofs.Puts.{put-then, put-long, sets-append}
 use Rattle.listing_text.specs.Text.{space, lineFeed, branches, always, never, refused, atWord, verdictWord, lineText, entryText, entriesText, branchesText, refusalText}
-use Rattle.listing_text.specs.Contracts.{Put}
-use Rattle.listing_text.proofs.Lengths.{digits-long, places-most, places-word}
-use Rattle.listing_text.proofs.Puts.{put-then, put-long, sets-append}
-
--- in base ten, by as many digits as there are
-pub put-decimal-of : {old new : List ℕ} {at next k : ℕ} (n : ℕ) → k ≡ placesOf n → Put old new at next (digits 10 k n) → Put old new at next (decimal n)
-put-decimal-of n e p = rw e at p
-
--- what is left of the buffer, after a text of at most so many bytes
-pub room : {old new : List ℕ} {at next : ℕ} {text : List ℕ} (most more : ℕ) → Put old new at next text → length text ≤ most
-    → at + (most + more) ≤ length old → next + more ≤ length new
-room most more p short fits = omega (arith, p .end, put-long p)
-
--- a text that ends within so many bytes from a start, after one more piece
-pub end-within : {old new : List ℕ} {at next : ℕ} {text : List ℕ} (start most before : ℕ) → Put old new at next text → length text ≤ most
-    → at ≤ start + before → next ≤ start + (most + before)
-end-within start most before p short h = omega (arith, p .end)
 
 -- how long the pieces can be
-pub digits-short : (base k n : ℕ) → length (digits base k n) ≤ k
-digits-short base k n = rw digits-long (omega arith)
-
-pub byte-places : (n : ℕ) → n < 2 ^ 8 → placesOf n ≤ 3
-byte-places n h = places-most 2 n (omega arith)
-
-pub byte-short : (n : ℕ) → n < 2 ^ 8 → length (decimal n) ≤ 3
-byte-short n h = rw digits-long (byte-places n h)
-
-pub word-short : (n : ℕ) → n < 2 ^ 64 → length (decimal n) ≤ 20
-word-short n h = rw digits-long (places-word n h)
-
 verdict-by : (a n : Bool) → length (cond a always (cond n never [])) ≤ 6
 verdict-by true n = omega arith
 verdict-by false true = omega arith

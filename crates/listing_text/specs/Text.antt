@@ -5,7 +5,7 @@ use mathlib.Core.Bool.{cond}
 use lib.Dec.{eqb}
 use lib.ListN.{getD}
 use Rattle.sheet_field.specs.Field.{little}
-use Rattle.listing_text.specs.Digits.{digits, decimal}
+use Rattle.text.specs.Digits.{digits, decimal}
 
 -- The words of the text, in ASCII: a space, the end of a line, "branches", "always", "never", "refused", and "at" between spaces.
 abbrev pub space : List ℕ

@@ -3,77 +3,19 @@ use sheet_field::Place;
 use sheet_field::Width;
 ghost use mathlib.Core.Path.{_≡_};
 ghost use mathlib.Core.List.{_++_};
-ghost use Prim.Native.Nat.{_+_, _*_, _<_, _≤_};
+ghost use Prim.Native.Nat.{_+_, _*_, _≤_};
 ghost use lib.ListN.{length};
 ghost use Rattle.sheet_field.specs.Field.{little};
-ghost use Rattle.listing_text.specs.Digits.{digit as digitOf, digits, placesOf, decimal};
+ghost use Rattle.text.specs.Digits.{digits, decimal};
+ghost use Rattle.text.specs.Contracts.{Put, Written};
 ghost use Rattle.listing_text.specs.Text.{space, lineFeed, verdictWord, entryText, entriesText, branchesText, refusalText};
-ghost use Rattle.listing_text.specs.Contracts.{Put, Written};
-
-// The digit's code.
-fn digit(d: u64) -> u8
-    requires { ⌜ d < 16 ⌝ }
-    ensures { λ r. ⌜ r ≡ digitOf d ⌝ }
-{
-    if d < 10 { 48 + d as u8 } else { 87 + d as u8 }
-}
-
-// Puts the last digits of n in a base, as many as the width, and gives the offset after them.
-fn put_digits(n: u64, base: u64, width: usize, out: &mut [u8], at: usize) -> usize
-    requires { ⌜ 0 < base ⌝ }
-    requires { ⌜ base ≤ 16 ⌝ }
-    requires { ⌜ at + width ≤ length (now out) ⌝ }
-    ensures { λ r. ⌜ Put (now (out .entry)) (now (out .exit)) at r (digits base width n) ⌝ }
-{
-    let mut i = width;
-    let mut rest = n;
-    while i > 0 {
-        i -= 1;
-        out[at + i] = digit(rest % base);
-        rest /= base;
-    }
-    at + width
-}
-
-// How many digits n has in base ten.
-fn places(n: u64) -> usize
-    ensures { λ r. ⌜ r ≡ placesOf n ⌝ }
-{
-    let mut k: usize = 1;
-    let mut rest = n;
-    while rest >= 10 {
-        rest /= 10;
-        k += 1;
-    }
-    k
-}
-
-// Puts n in base ten.
-fn put_decimal(n: u64, out: &mut [u8], at: usize) -> usize
-    requires { ⌜ at + placesOf n ≤ length (now out) ⌝ }
-    ensures { λ r. ⌜ Put (now (out .entry)) (now (out .exit)) at r (decimal n) ⌝ }
-{
-    put_digits(n, 10, places(n), out, at)
-}
 
 // Puts a number of 64 bits in base sixteen.
 fn put_address(n: u64, out: &mut [u8], at: usize) -> usize
     requires { ⌜ at + 16 ≤ length (now out) ⌝ }
     ensures { λ r. ⌜ Put (now (out .entry)) (now (out .exit)) at r (digits 16 16 n) ⌝ }
 {
-    put_digits(n, 16, 16, out, at)
-}
-
-fn put_word(word: &[u8], out: &mut [u8], at: usize) -> usize
-    requires { ⌜ at + length (now word) ≤ length (now out) ⌝ }
-    ensures { λ r. ⌜ Put (now (out .entry)) (now (out .exit)) at r (now (word .entry)) ⌝ }
-{
-    let mut i = 0;
-    while i < word.len() {
-        out[at + i] = word[i];
-        i += 1;
-    }
-    at + word.len()
+    text::put_digits(n, 16, 16, out, at)
 }
 
 // Puts the word for a verdict. A number that stands for none has no word.
@@ -82,10 +24,10 @@ fn put_verdict(v: u8, out: &mut [u8], at: usize) -> usize
     ensures { λ r. ⌜ Put (now (out .entry)) (now (out .exit)) at r (verdictWord v) ⌝ }
 {
     if v == 1 {
-        return put_word(b"always", out, at);
+        return text::put_word(b"always", out, at);
     }
     if v == 0 {
-        return put_word(b"never", out, at);
+        return text::put_word(b"never", out, at);
     }
     at
 }
@@ -105,9 +47,9 @@ fn put_addresses(site: u64, target: u64, out: &mut [u8], at: usize) -> usize
     ensures { λ r. ⌜ Put (now (out .entry)) (now (out .exit)) at r (digits 16 16 site ++ space ++ digits 16 16 target ++ space) ⌝ }
 {
     let first = put_address(site, out, at);
-    let next = put_word(b" ", out, first);
+    let next = text::put_word(b" ", out, first);
     let second = put_address(target, out, next);
-    put_word(b" ", out, second)
+    text::put_word(b" ", out, second)
 }
 
 // Puts verdict and reason, and ends the line.
@@ -117,9 +59,9 @@ fn put_decision(value: u8, reason: u8, out: &mut [u8], at: usize) -> usize
     ensures { λ r. ⌜ r ≤ at + 11 ⌝ }
 {
     let word = put_verdict(value, out, at);
-    let next = put_word(b" ", out, word);
-    let end = put_decimal(reason as u64, out, next);
-    put_word(b"\n", out, end)
+    let next = text::put_word(b" ", out, word);
+    let end = text::put_decimal(reason as u64, out, next);
+    text::put_word(b"\n", out, end)
 }
 
 // Puts the line of the entry that starts at an offset of the list.
@@ -155,9 +97,9 @@ pub fn write_branches(list: &[u8], count: usize, out: &mut [u8]) -> usize
     requires { ⌜ 30 + 45 * count ≤ length (now out) ⌝ }
     ensures { λ r. ⌜ Written (now (out .entry)) (now (out .exit)) r (branchesText count (entriesText (now (list .entry)) 0 count)) ⌝ }
 {
-    let number = put_word(b"branches ", out, 0);
-    let end = put_decimal(count as u64, out, number);
-    let lines = put_word(b"\n", out, end);
+    let number = text::put_word(b"branches ", out, 0);
+    let end = text::put_decimal(count as u64, out, number);
+    let lines = text::put_word(b"\n", out, end);
     put_entries(list, count, out, lines)
 }
 
@@ -166,9 +108,9 @@ pub fn write_refusal(number: u64, place: u64, out: &mut [u8]) -> usize
     requires { ⌜ 53 ≤ length (now out) ⌝ }
     ensures { λ r. ⌜ Written (now (out .entry)) (now (out .exit)) r (refusalText number place) ⌝ }
 {
-    let first = put_word(b"refused ", out, 0);
-    let word = put_decimal(number, out, first);
-    let second = put_word(b" at ", out, word);
-    let end = put_decimal(place, out, second);
-    put_word(b"\n", out, end)
+    let first = text::put_word(b"refused ", out, 0);
+    let word = text::put_decimal(number, out, first);
+    let second = text::put_word(b" at ", out, word);
+    let end = text::put_decimal(place, out, second);
+    text::put_word(b"\n", out, end)
 }

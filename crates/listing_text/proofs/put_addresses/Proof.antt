@@ -1,7 +1,7 @@
 use native.Mathlib.Omega.{arith}
-use Rattle.listing_text.proofs.Lines.{room, digits-short}
-use Rattle.listing_text.proofs.Puts.{put-then}
 use borrow.Author.Needs.{needs}
+use Rattle.text.proofs.Lengths.{digits-short}
+use Rattle.text.proofs.Puts.{room, put-then}
 use Rattle.listing_text.proofs.put_addresses.Statement.{statement}
 use Rattle.listing_text.proofs.put_addresses.Tie as tie
 

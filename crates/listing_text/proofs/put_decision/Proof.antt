@@ -1,8 +1,9 @@
 use mathlib.Core.Path.{refl}
 use borrow.Author.Needs.{needs}
 use native.Mathlib.Omega.{arith}
-use Rattle.listing_text.proofs.Puts.{put-then}
-use Rattle.listing_text.proofs.Lines.{room, verdict-short, byte-places, byte-short, end-within}
+use Rattle.text.proofs.Lengths.{byte-short}
+use Rattle.text.proofs.Puts.{room, end-within, put-then}
+use Rattle.listing_text.proofs.Lines.{verdict-short}
 use Rattle.listing_text.proofs.put_decision.Statement.{statement}
 use Rattle.listing_text.proofs.put_decision.Tie as tie
 
@@ -16,7 +17,7 @@ put-word-requires : tie.Need-put-word-requires
 put-word-requires c κs = room 6 1 (c .before .before .before .before .put-verdict .ensures) (verdict-short (c .before .before .before .before .before .before .before .args .value)) (omega (arith, c .before .before .before .before .before .before .before .pre))
 
 put-decimal-requires : tie.Need-put-decimal-requires
-put-decimal-requires c κs = omega (arith, room 1 3 (c .before .before .before .put-word .ensures) (omega arith) (room 6 4 (c .before .before .before .before .before .before .before .before .put-verdict .ensures) (verdict-short (c .before .before .before .before .before .before .before .before .before .before .before .args .value)) (omega (arith, c .before .before .before .before .before .before .before .before .before .before .before .pre))), byte-places _ (c .before .before .before .before .before .before .before .before .before .before .before .fits .reason .fits))
+put-decimal-requires c κs = omega (arith, room 1 3 (c .before .before .before .put-word .ensures) (omega arith) (room 6 4 (c .before .before .before .before .before .before .before .before .put-verdict .ensures) (verdict-short (c .before .before .before .before .before .before .before .before .before .before .before .args .value)) (omega (arith, c .before .before .before .before .before .before .before .before .before .before .before .pre))), byte-short _ (c .before .before .before .before .before .before .before .before .before .before .before .fits .reason .fits))
 
 slice-aggregate-put-word-2 : tie.Need-slice-aggregate-put-word-2
 slice-aggregate-put-word-2 c = refl

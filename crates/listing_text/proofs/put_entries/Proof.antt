@@ -1,6 +1,6 @@
 use Prim.Native.Nat.{_-_}
 use native.Mathlib.Omega.{arith}
-use Rattle.listing_text.proofs.Lines.{EntriesLeft, entries-start, entries-next, entries-done}
+use Rattle.listing_text.proofs.Lines.{EntriesLeft, entries-done, entries-next, entries-start}
 use Rattle.listing_text.proofs.put_entries.Statement.{statement}
 use Rattle.listing_text.proofs.put_entries.Tie as tie
 

@@ -1,6 +1,7 @@
 use borrow.Author.Needs.{needs}
 use native.Mathlib.Omega.{arith}
-use Rattle.listing_text.proofs.Lines.{room, addresses-short, put-entry-of, entry-within}
+use Rattle.text.proofs.Puts.{room}
+use Rattle.listing_text.proofs.Lines.{addresses-short, entry-within, put-entry-of}
 use Rattle.listing_text.proofs.put_entry.Statement.{statement}
 use Rattle.listing_text.proofs.put_entry.Tie as tie
 

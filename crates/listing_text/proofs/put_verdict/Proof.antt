@@ -1,7 +1,7 @@
-use Rattle.listing_text.proofs.Puts.{put-none}
 use native.Mathlib.Omega.{arith}
 use borrow.Author.Tests.{eq-eqb, ne-eqb}
 use borrow.Author.Needs.{needs}
+use Rattle.text.proofs.Puts.{put-none}
 use Rattle.listing_text.proofs.put_verdict.Statement.{statement}
 use Rattle.listing_text.proofs.put_verdict.Tie as tie
 

@@ -2,9 +2,9 @@ use Prim.Native.Nat.{_+_, _*_}
 use mathlib.Core.Path.{refl}
 use borrow.Author.Needs.{needs}
 use native.Mathlib.Omega.{arith}
-use Rattle.listing_text.proofs.Lengths.{places-word}
-use Rattle.listing_text.proofs.Puts.{written}
-use Rattle.listing_text.proofs.Lines.{room, word-short, put-branches-of}
+use Rattle.text.proofs.Lengths.{word-short}
+use Rattle.text.proofs.Puts.{room, written}
+use Rattle.listing_text.proofs.Lines.{put-branches-of}
 use Rattle.listing_text.proofs.write_branches.Statement.{statement}
 use Rattle.listing_text.proofs.write_branches.Tie as tie
 
@@ -15,7 +15,7 @@ put-word-requires : tie.Need-put-word-requires
 put-word-requires c κs = omega (arith, c .before .before .before .before .pre .1)
 
 put-decimal-requires : tie.Need-put-decimal-requires
-put-decimal-requires c κs = omega (arith, room 9 20 (c .before .before .before .put-word .ensures) (omega arith) (omega (arith, c .before .before .before .before .before .before .before .before .pre .1)), places-word _ (c .before .before .before .before .before .before .before .before .fits .count .fits))
+put-decimal-requires c κs = omega (arith, room 9 20 (c .before .before .before .put-word .ensures) (omega arith) (omega (arith, c .before .before .before .before .before .before .before .before .pre .1)), word-short _ (c .before .before .before .before .before .before .before .before .fits .count .fits))
 
 slice-aggregate-put-word-2 : tie.Need-slice-aggregate-put-word-2
 slice-aggregate-put-word-2 c = refl

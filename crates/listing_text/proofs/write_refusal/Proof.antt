@@ -1,8 +1,8 @@
-use Rattle.listing_text.proofs.Lengths.{places-word}
-use Rattle.listing_text.proofs.Puts.{written}
 use native.Mathlib.Omega.{arith}
-use Rattle.listing_text.proofs.Lines.{room, word-short, put-refusal-of}
 use borrow.Author.Needs.{needs}
+use Rattle.text.proofs.Lengths.{word-short}
+use Rattle.text.proofs.Puts.{room, written}
+use Rattle.listing_text.proofs.Lines.{put-refusal-of}
 use Rattle.listing_text.proofs.write_refusal.Statement.{statement}
 use Rattle.listing_text.proofs.write_refusal.Tie as tie
 
@@ -13,7 +13,7 @@ put-word-requires : tie.Need-put-word-requires
 put-word-requires c κs = search needs
 
 put-decimal-requires : tie.Need-put-decimal-requires
-put-decimal-requires c κs = omega (arith, room 8 20 (c .before .before .before .put-word .ensures) (omega arith) (omega (arith, c .before .before .before .before .before .before .before .pre)), places-word _ (c .before .before .before .before .before .before .before .fits .number .fits))
+put-decimal-requires c κs = omega (arith, room 8 20 (c .before .before .before .put-word .ensures) (omega arith) (omega (arith, c .before .before .before .before .before .before .before .pre)), word-short _ (c .before .before .before .before .before .before .before .fits .number .fits))
 
 slice-aggregate-put-word-2 : tie.Need-slice-aggregate-put-word-2
 slice-aggregate-put-word-2 c = search needs
@@ -22,7 +22,7 @@ put-word-requires-2 : tie.Need-put-word-requires-2
 put-word-requires-2 c κs = room 20 4 (c .before .before .before .before .put-decimal .ensures) (word-short _ (c .before .before .before .before .before .before .before .before .before .before .before .before .fits .number .fits)) (room 8 24 (c .before .before .before .before .before .before .before .before .put-word .ensures) (omega arith) (omega (arith, c .before .before .before .before .before .before .before .before .before .before .before .before .pre)))
 
 put-decimal-requires-2 : tie.Need-put-decimal-requires-2
-put-decimal-requires-2 c κs = omega (arith, room 4 20 (c .before .before .before .put-word2 .ensures) (omega arith) (room 20 24 (c .before .before .before .before .before .before .before .before .put-decimal .ensures) (word-short _ (c .before .before .before .before .before .before .before .before .before .before .before .before .before .before .before .before .fits .number .fits)) (room 8 44 (c .before .before .before .before .before .before .before .before .before .before .before .before .put-word .ensures) (omega arith) (omega (arith, c .before .before .before .before .before .before .before .before .before .before .before .before .before .before .before .before .pre)))), places-word _ (c .before .before .before .before .before .before .before .before .before .before .before .before .before .before .before .before .fits .place .fits))
+put-decimal-requires-2 c κs = omega (arith, room 4 20 (c .before .before .before .put-word2 .ensures) (omega arith) (room 20 24 (c .before .before .before .before .before .before .before .before .put-decimal .ensures) (word-short _ (c .before .before .before .before .before .before .before .before .before .before .before .before .before .before .before .before .fits .number .fits)) (room 8 44 (c .before .before .before .before .before .before .before .before .before .before .before .before .put-word .ensures) (omega arith) (omega (arith, c .before .before .before .before .before .before .before .before .before .before .before .before .before .before .before .before .pre)))), word-short _ (c .before .before .before .before .before .before .before .before .before .before .before .before .before .before .before .before .fits .place .fits))
 
 slice-aggregate-put-word-3 : tie.Need-slice-aggregate-put-word-3
 slice-aggregate-put-word-3 c = search needs
