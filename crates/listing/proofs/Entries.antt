@@ -8,7 +8,7 @@ use Rattle.sheet_field.specs.Field.{little}
 use Rattle.sheet_bytes.specs.Write.{bytes, records}
 use Rattle.sheet_bytes.proofs.Spans.{Spans, Stands, bytes-length, spans-cut, spans-length}
 use Rattle.verdict_lines.specs.Lines.{Line, lineBytes}
-use Rattle.listing_text.specs.Digits.{digits}
+use Rattle.text.specs.Digits.{digits}
 use Rattle.listing_text.specs.Text.{lineText, entryText, entriesText}
 use Rattle.listing.specs.Program.{linesText}
 

@@ -27,7 +27,7 @@ use Rattle.answer_listing.specs.declared.Listed.the-variants as listed
 use Rattle.answer_listing.specs.Listing.{Listing, listedNumbers, written, onJudged, listingOn, listingOf}
 use Rattle.answer_listing.specs.Listing.ListedNumbers.{lines, refused}
 use Rattle.listing_text.specs.Text.{branchesText, refusalText, entriesText}
-use Rattle.listing_text.specs.Contracts.{Written}
+use Rattle.text.specs.Contracts.{Written}
 use Rattle.listing.specs.declared.Ending.{Ending}
 use Rattle.listing.specs.declared.Ending.the-variants as ending
 use Rattle.listing.specs.Program.{linesText, judgedText, readText, printed}

@@ -3,7 +3,7 @@ use Prim.Native.Nat.{ℕ, _≤_}
 use mathlib.Core.Path.{_≡_}
 use mathlib.Core.List.{List}
 use lib.ListN.{length, take}
-use Rattle.listing_text.specs.Contracts.{Written}
+use Rattle.text.specs.Contracts.{Written}
 use Rattle.listing.specs.declared.Input.{Input}
 use Rattle.listing.specs.declared.Input.the-variants as input
 use Rattle.listing.specs.declared.Ending.{Ending}

@@ -6,7 +6,7 @@ use libc::STDOUT_FILENO;
 ghost use mathlib.Core.Path.{_≡_};
 ghost use Prim.Native.Nat.{_≤_};
 ghost use lib.ListN.{length};
-ghost use Rattle.listing_text.specs.Contracts.{Written};
+ghost use Rattle.text.specs.Contracts.{Written};
 ghost use Rattle.listing.specs.Program.{printed};
 ghost use Rattle.listing.specs.Contracts.{Within, Ended, statusOf};
 

@@ -40,7 +40,7 @@ use Rattle.answer_evaluation.specs.Evaluation.Evaluated.{outcome, refused}
 use Rattle.listing.specs.Program.{printed}
 use Rattle.theorems.specs.Runs.{Source, answerFor, Ends, ForcedEnd, nodeRun, SaysOf, AnswerFromRun}
 use Rattle.theorems.specs.Lines.{lineAt, Listed, Refuses, TrueOf}
-use Rattle.theorems.specs.Ascii.{ascii}
+use Rattle.text.specs.Ascii.{ascii}
 use Rattle.theorems.specs.Text.{textOf, Sample, samples}
 use Rattle.theorems.specs.Rows.{Yields, rows, probe, marked}
 use Rattle.worked_sheets.specs.Sheets.{Worked}

@@ -2,19 +2,20 @@
 use Prim.Native.Nat.{ℕ, zero, suc, _+_, _*_, _/_, _%_, _≤_, _<_}
 use mathlib.Core.Path.{_≡_, refl, _∙_}
 use mathlib.Core.List.{List, map}
+use native.Mathlib.Nat.{mod-lt}
 use native.Mathlib.Omega.{arith}
 use lib.ListN.{length, getD}
 use borrow.Author.Tests.{ne-eqb, lt-ltb}
 use Rattle.sheet_bytes.specs.Write.{All}
 use Rattle.answer_listing.specs.Listing.{ListedNumbers, listingOf}
 use Rattle.answer_listing.specs.Listing.ListedNumbers.{lines, refused}
-use Rattle.listing_text.specs.Digits.{digit, digits, placesWithin, placesOf}
+use Rattle.text.specs.Digits.{digit, digits, placesWithin, placesOf, decimal}
 use Rattle.listing_text.specs.Text as text
 use Rattle.sheet.specs.Sheet.{readingOf}
 use Rattle.listing.specs.Program.{linesText, readText, printed}
 use Rattle.listing.proofs.Printed.{within, listing-says}
-use Rattle.theorems.specs.Ascii.{ascii}
-use Rattle.theorems.specs.Text.{numeral, word, lineText, linesFrom, textOf, Sample, samples}
+use Rattle.text.specs.Ascii.{ascii}
+use Rattle.theorems.specs.Text.{numeral, inTen, word, lineText, linesFrom, textOf, Sample, samples}
 use Rattle.worked_sheets.proofs.Worked.{each}
 
 -- the digits below a base up to 16
@@ -38,15 +39,17 @@ digit-is (suc (suc (suc (suc (suc (suc (suc (suc (suc (suc (suc (suc (suc (suc z
 digit-is (suc (suc (suc (suc (suc (suc (suc (suc (suc (suc (suc (suc (suc (suc (suc zero))))))))))))))) h = refl
 digit-is (suc (suc (suc (suc (suc (suc (suc (suc (suc (suc (suc (suc (suc (suc (suc (suc d)))))))))))))))) h = absurd (omega arith)
 
-sixteen : (k n : ℕ) → digits 16 k n ≡ numeral 16 k n
+digits-are : (base k n : ℕ) → 0 < base → base ≤ 16 → digits base k n ≡ numeral base k n
 unfolding digits numeral
-sixteen zero n = refl
-sixteen (suc k) n = rw (sixteen k (n / 16), digit-is (n % 16) (omega arith))
+digits-are base zero n some most = refl
+digits-are base (suc k) n some most =
+    rw (digits-are base k (n / base) some most, digit-is (n % base) (omega (arith, mod-lt n some)))
 
-ten : (k n : ℕ) → digits 10 k n ≡ numeral 10 k n
-unfolding digits numeral
-ten zero n = refl
-ten (suc k) n = rw (ten k (n / 10), digit-is (n % 10) (omega arith))
+sixteen : (n : ℕ) → digits 16 16 n ≡ numeral 16 16 n
+sixteen n = digits-are 16 16 n (omega arith) (omega arith)
+
+ten : (n : ℕ) → decimal n ≡ inTen n
+ten n = digits-are 10 (placesOf 10 n) n (omega arith) (omega arith)
 
 word-is : (v : ℕ) → text.verdictWord v ≡ word v
 unfolding ascii
@@ -57,7 +60,7 @@ word-is (suc (suc n)) = rw (ne-eqb (suc (suc n)) 1 (λ e. omega arith), ne-eqb (
 line-is : (site target value reason : ℕ)
     → text.lineText site target value reason ≡ lineText (record { site = site; target = target; value = value; reason = reason })
 unfolding text.lineText ascii
-line-is site target value reason = rw (sixteen 16 site, sixteen 16 target, word-is value, ten (placesOf reason) reason)
+line-is site target value reason = rw (sixteen site, sixteen target, word-is value, ten reason)
 
 lines-are : (list : List ℕ) (at k n : ℕ) → at ≡ 18 * k → text.entriesText list at n ≡ linesFrom list k n
 unfolding text.entriesText text.entryText linesFrom
@@ -67,11 +70,11 @@ lines-are list at k (suc n) e =
 
 branches-are : (list : List ℕ) (n : ℕ) → text.branchesText n (text.entriesText list 0 n) ≡ textOf (lines n) list
 unfolding text.branchesText ascii
-branches-are list n = rw (ten (placesOf n) n, lines-are list 0 0 n refl)
+branches-are list n = rw (ten n, lines-are list 0 0 n refl)
 
 refusal-is : (number place : ℕ) (list : List ℕ) → text.refusalText number place ≡ textOf (refused number place) list
 unfolding text.refusalText ascii
-refusal-is number place list = rw (ten (placesOf number) number, ten (placesOf place) place)
+refusal-is number place list = rw (ten number, ten place)
 
 -- At most 65,536 bytes: the text of the listing's answer, on any list that can hold a line of each instruction.
 pub text-is : (s list : List ℕ) → length s ≤ 65536 → 36864 ≤ length list

@@ -7,8 +7,8 @@ use lib.ListN.{getD}
 use Rattle.verdict_lines.specs.Lines.{Line}
 use Rattle.answer_listing.specs.Listing.{ListedNumbers}
 use Rattle.answer_listing.specs.Listing.ListedNumbers.{lines, refused}
-use Rattle.listing_text.specs.Digits.{placesOf}
-use Rattle.theorems.specs.Ascii.{ascii}
+use Rattle.text.specs.Digits.{placesOf}
+use Rattle.text.specs.Ascii.{ascii}
 use Rattle.theorems.specs.Lines.{lineAt}
 
 -- the last k digits of n in a base up to 16, the highest first
@@ -18,7 +18,7 @@ numeral base (suc k) n = numeral base k (n / base) ++ (getD (ascii "0123456789ab
 
 -- n in base ten, without leading zeros
 abbrev pub inTen : ℕ → List ℕ
-inTen n = numeral 10 (placesOf n) n
+inTen n = numeral 10 (placesOf 10 n) n
 
 -- the word of a verdict, 1 or 0; no other number has one
 abbrev pub word : ℕ → List ℕ
