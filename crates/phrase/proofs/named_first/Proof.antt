@@ -1,0 +1,93 @@
+use mathlib.Core.Path.{refl}
+use Rattle.laws.specs.Words.{sameWords}
+use Rattle.text.specs.Ascii.{ascii}
+use Rattle.phrase.specs.Parts.{mnemonics, namedFirst}
+use Rattle.phrase.proofs.Parts.{reads, computed}
+use borrow.Author.Needs.{needs}
+use Rattle.phrase.proofs.named_first.Statement.{statement}
+use Rattle.phrase.proofs.named_first.Tie as tie
+
+enum-told : tie.Need-enum-told
+enum-told c = search needs
+
+enum-told-2 : tie.Need-enum-told-2
+enum-told-2 c = search needs
+
+enum-told-3 : tie.Need-enum-told-3
+enum-told-3 c = search needs
+
+enum-told-4 : tie.Need-enum-told-4
+enum-told-4 c = search needs
+
+enum-told-5 : tie.Need-enum-told-5
+enum-told-5 c = search needs
+
+enum-told-6 : tie.Need-enum-told-6
+enum-told-6 c = search needs
+
+enum-known-cause : tie.Need-enum-known-cause
+enum-known-cause c = search needs
+
+mnemonic-requires : tie.Need-mnemonic-requires
+mnemonic-requires c κs = search needs
+
+enum-known-cause-2 : tie.Need-enum-known-cause-2
+enum-known-cause-2 c = search needs
+
+mnemonic-requires-2 : tie.Need-mnemonic-requires-2
+mnemonic-requires-2 c κs = search needs
+
+returns : tie.Need-returns
+unfolding mnemonics namedFirst ascii sameWords reads
+returns c = rw (c .enum-told .given .1) (computed refl)
+
+returns-2 : tie.Need-returns-2
+unfolding mnemonics namedFirst ascii sameWords reads
+returns-2 c = rw (c .enum-told2 .given .1) (computed refl)
+
+returns-3 : tie.Need-returns-3
+unfolding mnemonics namedFirst ascii sameWords reads
+returns-3 c = rw (c .enum-told3 .given .1) (computed refl)
+
+returns-4 : tie.Need-returns-4
+unfolding mnemonics namedFirst ascii sameWords reads
+returns-4 c = rw (c .enum-told4 .given .1) (computed refl)
+
+returns-5 : tie.Need-returns-5
+unfolding mnemonics namedFirst ascii sameWords reads
+returns-5 c = rw (c .enum-told5 .given .1) (computed refl)
+
+returns-6 : tie.Need-returns-6
+unfolding mnemonics namedFirst ascii sameWords reads
+returns-6 c = rw (c .enum-told6 .given .1) (computed refl)
+
+returns-7 : tie.Need-returns-7
+unfolding namedFirst
+returns-7 c = rw (c .before .before .cause .given .1) (c .mnemonic .ensures)
+
+returns-8 : tie.Need-returns-8
+unfolding namedFirst
+returns-8 c = rw (c .before .before .cause2 .given .1) (c .mnemonic2 .ensures)
+
+pub named-first-spec : {M : Type 1} → statement M
+named-first-spec =
+    tie.close
+    (tie.spec
+    enum-told
+    enum-told-2
+    enum-told-3
+    enum-told-4
+    enum-told-5
+    enum-told-6
+    enum-known-cause
+    mnemonic-requires
+    enum-known-cause-2
+    mnemonic-requires-2
+    returns
+    returns-2
+    returns-3
+    returns-4
+    returns-5
+    returns-6
+    returns-7
+    returns-8)

@@ -1,0 +1,4 @@
+pub mod Names
+pub mod Values
+pub mod Causes
+pub mod Parts
