@@ -336,7 +336,7 @@ pub fn step(registers: &mut Registers, flags: Flags, i: Instruction) -> Flags
 }
 
 // The bits of register 1 that a count-register jump reads.
-fn count_size(c: Counter) -> u8
+pub fn count_size(c: Counter) -> u8
     ensures { λ r. ⌜ r ≡ countSize c ⌝ }
 {
     match c {

@@ -64,3 +64,7 @@ NOT_PLAIN = 15
 -- No value for a variable, or one that its type cannot hold (E5).
 abbrev pub VALUE : ℕ
 VALUE = 16
+
+-- A text that is too short for the sentence; its offset is the length needed (W17).
+abbrev pub TEXT : ℕ
+TEXT = 17

@@ -48,3 +48,6 @@ pub const NOT_PLAIN: u64 = 15;
 
 // No value for a variable, or one that its type cannot hold.
 pub const VALUE: u64 = 16;
+
+// A text that is too short for the sentence; its offset is the length needed.
+pub const TEXT: u64 = 17;

@@ -1,0 +1,8 @@
+-- what is said of conditions
+pub mod Sayings
+-- texts of operands
+pub mod Operands
+-- instructions by their mnemonic
+pub mod Stepped
+-- count-register jumps
+pub mod Counted
