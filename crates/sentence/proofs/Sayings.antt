@@ -9,7 +9,10 @@ use Rattle.alu.specs.declared.Flags.{Flags}
 use Rattle.alu.specs.Flags as flags
 use Rattle.isa.specs.declared.Condition.the-variants.{E, Ne, L, Ge, Le, G, B, Ae, Be, A, S, Ns, P, Np, O, No}
 use Rattle.sentence_text.specs.Sentence.{joined}
+use Rattle.sentence.specs.declared.Which.{Which}
+use Rattle.sentence.specs.declared.Which.the-variants.{First, Second, Both, Neither}
 use Rattle.sentence.specs.Why.{Why}
+use Rattle.sentence.specs.Contracts.{whichOf}
 use Rattle.sentence.specs.Told.{Told, flagTold, opposite, differ, either, both, flagsTold, conditionTold, sentenceOf}
 use Rattle.sentence.specs.Told.Told.{known, unknown}
 
@@ -36,35 +39,32 @@ differ-told (Known a) (Known b) x y = refl
 differ-told (Known a) Unknown x y = refl
 differ-told Unknown g x y = refl
 
--- The sentence that one of two is set, by what is known of each.
-pub first-set : {f : Flag} {b : Bool} (x : List ℕ) (g : Told) → f ≡ Known b → b ≡ true → x ≡ sentenceOf (either (flagTold f x) g)
-first-set x g f-is set = rw (f-is, set)
+-- the sentence that one of two is set
+abbrev pub chosen : Which → List ℕ → List ℕ → List ℕ
+chosen First x y = x
+chosen Second x y = y
+chosen Both x y = joined x y
+chosen Neither x y = []
 
-module _ {f g : Flag} {b : Bool} (x y : List ℕ) (f-is : f ≡ Known b) (clear : b ≡ false) where
-  pub second-set : {d : Bool} → g ≡ Known d → d ≡ true → y ≡ sentenceOf (either (flagTold f x) (flagTold g y))
-  second-set g-is set = rw (f-is, clear, g-is, set)
-
-  pub both-clear : {d : Bool} → g ≡ Known d → d ≡ false → joined x y ≡ sentenceOf (either (flagTold f x) (flagTold g y))
-  both-clear g-is too = rw (f-is, clear, g-is, too)
-
-  pub second-unknown : g ≡ Unknown → [] ≡ sentenceOf (either (flagTold f x) (flagTold g y))
-  second-unknown g-is = rw (f-is, clear, g-is)
-
-module _ {f g : Flag} (x y : List ℕ) (f-is : f ≡ Unknown) where
-  pub only-second : {d : Bool} → g ≡ Known d → d ≡ true → y ≡ sentenceOf (either (flagTold f x) (flagTold g y))
-  only-second g-is set = rw (f-is, g-is, set)
-
-  pub second-clear : {d : Bool} → g ≡ Known d → d ≡ false → [] ≡ sentenceOf (either (flagTold f x) (flagTold g y))
-  second-clear g-is clear = rw (f-is, g-is, clear)
-
-  pub none-known : g ≡ Unknown → [] ≡ sentenceOf (either (flagTold f x) (flagTold g y))
-  none-known g-is = rw (f-is, g-is)
+pub by-choice : (f g : Flag) (x y : List ℕ) {w : Which} → w ≡ whichOf f g → chosen w x y ≡ sentenceOf (either (flagTold f x) (flagTold g y))
+by-choice f g x y {w} is = ap (λ (v : Which). chosen v x y) is ∙ by-flags f g
+  where
+    by-flags : (f g : Flag) → chosen (whichOf f g) x y ≡ sentenceOf (either (flagTold f x) (flagTold g y))
+    by-flags (Known true) (Known b) = refl
+    by-flags (Known true) Unknown = refl
+    by-flags (Known false) (Known true) = refl
+    by-flags (Known false) (Known false) = refl
+    by-flags (Known false) Unknown = refl
+    by-flags Unknown (Known true) = refl
+    by-flags Unknown (Known false) = refl
+    by-flags Unknown Unknown = refl
 
 -- where the second is that two flags differ
-pub with-difference : (f sf of : Flag) {d : Flag} (x y z : List ℕ) → d ≡ flags.differ sf of
-    → sentenceOf (either (flagTold f x) (flagTold d (joined y z))) ≡ sentenceOf (either (flagTold f x) (differ (flagTold sf y) (flagTold of z)))
-with-difference f sf of x y z is =
-    ap (λ (t : Told). sentenceOf (either (flagTold f x) t)) (ap (λ (e : Flag). flagTold e (joined y z)) is ∙ differ-told sf of y z)
+pub choice-of-difference : (f sf of : Flag) (x y z : List ℕ) {d : Flag} {w : Which} → d ≡ flags.differ sf of → w ≡ whichOf f d
+    → chosen w x (joined y z) ≡ sentenceOf (either (flagTold f x) (differ (flagTold sf y) (flagTold of z)))
+choice-of-difference f sf of x y z {d} differ-is is =
+    by-choice f d x (joined y z) is
+    ∙ ap (λ (t : Told). sentenceOf (either (flagTold f x) t)) (ap (λ (e : Flag). flagTold e (joined y z)) differ-is ∙ differ-told sf of y z)
 
 -- a difference by itself
 module _ (sf of : Flag) {d : Flag} (y z : List ℕ) (is : d ≡ flags.differ sf of) where

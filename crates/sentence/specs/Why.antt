@@ -64,18 +64,20 @@ operandsText d a (Reg r) b = cond (sameRegister d (Reg r)) (valueText d a) (valu
 operandsText d a (Imm x) b = valueText d a
 operandsText d a Mem b = valueText d a
 
--- An unknown operand: and, or, xor, test clear CF and OF all the same, and say so (W9).
-abbrev pub clearedWhy : Why → Binary → Why
-clearedWhy w op = record { cf = carryText op; pf = w .pf; zf = w .zf; sf = w .sf; of = overflowText op }
+-- and, or, xor, test
+abbrev pub isLogical : Binary → Bool
+isLogical Add = false
+isLogical Sub = false
+isLogical Cmp = false
+isLogical And = true
+isLogical Or = true
+isLogical Xor = true
+isLogical Test = true
 
+-- An unknown operand: and, or, xor, test clear CF and OF all the same, and say so (W9).
 abbrev pub unknownWhy : Why → Binary → Why
-unknownWhy w Add = w
-unknownWhy w Sub = w
-unknownWhy w Cmp = w
-unknownWhy w And = clearedWhy w And
-unknownWhy w Or = clearedWhy w Or
-unknownWhy w Xor = clearedWhy w Xor
-unknownWhy w Test = clearedWhy w Test
+unknownWhy w op =
+    cond (isLogical op) (record { cf = carryText op; pf = w .pf; zf = w .zf; sf = w .sf; of = overflowText op }) w
 
 abbrev pub onValues : Why → Binary → Register → Operand → Value → Value → Why
 onValues w op d o (Known a) (Known b) = every (operandsText d a o b)

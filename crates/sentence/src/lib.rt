@@ -22,9 +22,9 @@ ghost use Rattle.machine.specs.States.{stateOf};
 ghost use Rattle.phrase.specs.Causes.{causeText};
 ghost use Rattle.sentence_text.specs.Sentence.{joined, turnedTimes};
 ghost use Rattle.sentence_text.specs.Contracts.{saidText, turnsOf};
-ghost use Rattle.sentence.specs.Why.{Why, every, noWhy, carryWhy, itselfWhy, operandsText, clearedWhy, unknownWhy, onValues, arithWhy, aloneWhy, onValue, unaryWhy, arithFirst, unaryFirst, whyStepped};
+ghost use Rattle.sentence.specs.Why.{Why, every, noWhy, carryWhy, itselfWhy, operandsText, isLogical, unknownWhy, onValues, arithWhy, aloneWhy, onValue, unaryWhy, arithFirst, unaryFirst, whyStepped};
 ghost use Rattle.sentence.specs.Told.{flagTold, differ as differTold, either as eitherTold, conditionTold, toldOf, sentenceOf};
-ghost use Rattle.sentence.specs.Contracts.{whyOf};
+ghost use Rattle.sentence.specs.Contracts.{whyOf, whichOf};
 
 // The causes of the flags' values: one for ZF, SF and PF, one for OF, and one for CF with the number of cmc after it. A cause means nothing where its
 // flag is unknown.
@@ -127,34 +127,36 @@ fn operands_cause(d: Register, a: u64, o: Operand, b: u64) -> Cause
     }
 }
 
-// CF and OF are cleared, whatever the operands.
-fn cleared(causes: Causes, op: Binary) -> Causes
-    ensures { λ r. ⌜ whyOf r ≡ clearedWhy (whyOf causes) op ⌝ }
-    ensures { λ r. ⌜ r .turns ≡ 0 ⌝ }
+// and, or, xor, test.
+fn is_logical(op: Binary) -> bool
+    ensures { λ r. ⌜ r ≡ isLogical op ⌝ }
 {
-    let result = causes.result;
-    Causes {
-        result,
-        overflow: Cause::ClearsOverflow(op),
-        carry: Cause::ClearsCarry(op),
-        turns: 0,
+    match op {
+        Binary::Add => false,
+        Binary::Sub => false,
+        Binary::Cmp => false,
+        Binary::And => true,
+        Binary::Or => true,
+        Binary::Xor => true,
+        Binary::Test => true,
     }
 }
 
-// An operand is unknown.
+// An operand is unknown: a logical instruction clears CF and OF all the same.
 fn unknown_causes(causes: Causes, op: Binary) -> Causes
     ensures { λ r. ⌜ whyOf r ≡ unknownWhy (whyOf causes) op ⌝ }
     ensures { λ r. ⌜ r .turns ≤ causes .turns ⌝ }
 {
-    match op {
-        Binary::Add => causes,
-        Binary::Sub => causes,
-        Binary::Cmp => causes,
-        Binary::And => cleared(causes, op),
-        Binary::Or => cleared(causes, op),
-        Binary::Xor => cleared(causes, op),
-        Binary::Test => cleared(causes, op),
+    if is_logical(op) {
+        let result = causes.result;
+        return Causes {
+            result,
+            overflow: Cause::ClearsOverflow(op),
+            carry: Cause::ClearsCarry(op),
+            turns: 0,
+        };
     }
+    causes
 }
 
 fn on_values(causes: Causes, op: Binary, d: Register, o: Operand, a: Value, b: Value) -> Causes
@@ -304,39 +306,48 @@ fn differ_said(sf: Flag, of: Flag, causes: Causes) -> Said
     }
 }
 
-// CF or ZF is set: the first that is set is told alone.
+// Which of two flags tells that one of them is set.
+enum Which {
+    First,
+    Second,
+    Both,
+    Neither,
+}
+
+// The first that is set; both where they are clear.
+fn choose(f: Flag, g: Flag) -> Which
+    ensures { λ r. ⌜ r ≡ whichOf f g ⌝ }
+{
+    match f {
+        Flag::Known(a) => {
+            if a {
+                return Which::First;
+            }
+            match g {
+                Flag::Known(b) => { if b { Which::Second } else { Which::Both } }
+                Flag::Unknown => Which::Neither,
+            }
+        }
+        Flag::Unknown => match g {
+            Flag::Known(b) => { if b { Which::Second } else { Which::Neither } }
+            Flag::Unknown => Which::Neither,
+        },
+    }
+}
+
+// CF or ZF is set.
 fn below_or_equal(cf: Flag, zf: Flag, causes: Causes) -> Said
     ensures { λ r. ⌜ saidText r ≡ sentenceOf (eitherTold (flagTold cf (whyOf causes .cf)) (flagTold zf (whyOf causes .zf))) ⌝ }
     ensures { λ r. ⌜ turnsOf r ≤ causes .turns ⌝ }
 {
     let carry = causes.carry;
     let result = causes.result;
-    match cf {
-        Flag::Known(c) => {
-            if c {
-                return Said::One(carry, causes.turns);
-            }
-            match zf {
-                Flag::Known(z) => {
-                    if z {
-                        Said::One(result, 0)
-                    } else {
-                        Said::Joined(carry, causes.turns, result)
-                    }
-                }
-                Flag::Unknown => Said::Nothing,
-            }
-        }
-        Flag::Unknown => match zf {
-            Flag::Known(z) => {
-                if z {
-                    Said::One(result, 0)
-                } else {
-                    Said::Nothing
-                }
-            }
-            Flag::Unknown => Said::Nothing,
-        },
+    let which = choose(cf, zf);
+    match which {
+        Which::First => Said::One(carry, causes.turns),
+        Which::Second => Said::One(result, 0),
+        Which::Both => Said::Joined(carry, causes.turns, result),
+        Which::Neither => Said::Nothing,
     }
 }
 
@@ -347,33 +358,12 @@ fn less_or_equal(zf: Flag, sf: Flag, of: Flag, causes: Causes) -> Said
 {
     let result = causes.result;
     let overflow = causes.overflow;
-    let differ = alu::differ_in(sf, of);
-    match zf {
-        Flag::Known(z) => {
-            if z {
-                return Said::One(result, 0);
-            }
-            match differ {
-                Flag::Known(d) => {
-                    if d {
-                        Said::Joined(result, 0, overflow)
-                    } else {
-                        Said::Nested(result, overflow)
-                    }
-                }
-                Flag::Unknown => Said::Nothing,
-            }
-        }
-        Flag::Unknown => match differ {
-            Flag::Known(d) => {
-                if d {
-                    Said::Joined(result, 0, overflow)
-                } else {
-                    Said::Nothing
-                }
-            }
-            Flag::Unknown => Said::Nothing,
-        },
+    let which = choose(zf, alu::differ_in(sf, of));
+    match which {
+        Which::First => Said::One(result, 0),
+        Which::Second => Said::Joined(result, 0, overflow),
+        Which::Both => Said::Nested(result, overflow),
+        Which::Neither => Said::Nothing,
     }
 }
 
