@@ -2,9 +2,9 @@
 use Prim.Native.Nat.{ℕ}
 use mathlib.Core.Path.{_≡_}
 use mathlib.Core.Bool.{cond}
-use mathlib.Core.List.{List, []}
+use mathlib.Core.List.{List, [], _++_}
 use lib.Dec.{leb, ltb}
-use lib.ListN.{length}
+use lib.ListN.{length, drop}
 use Rattle.refusal.specs.Numbers.{NUMBER, TEXT}
 use Rattle.machine.specs.declared.State.{State}
 use Rattle.machine.specs.Registers.{nothingKnown}
@@ -12,7 +12,6 @@ use Rattle.machine.specs.Rules.{steppedAll}
 use Rattle.sheet.specs.declared.Reading.{Reading}
 use Rattle.sheet.specs.declared.Reading.the-variants as reading
 use Rattle.sheet.specs.Sheet.{readingOf}
-use Rattle.sheet.specs.Index.{over}
 use Rattle.verdict_block.specs.declared.Jump.{Jump}
 use Rattle.verdict_block.specs.declared.Jump.the-variants.{Conditional, Nothing}
 use Rattle.verdict_block.specs.Verdict.{codeOf, Parts, apart, jumpOf}
@@ -59,7 +58,7 @@ turnedBack number place text = record { answer = refused number place; text = te
 abbrev pub written : List ℕ → List ℕ → Answered
 written sentence text =
     cond (leb (length sentence) (length text))
-    (record { answer = long (length sentence); text = over sentence text })
+    (record { answer = long (length sentence); text = sentence ++ drop (length sentence) text })
     (turnedBack TEXT (length sentence) text)
 
 -- Reading's refusals first; 13, at offset 0, where there is no block of that number; then 17 (R5, M31, W17).

@@ -206,5 +206,9 @@ module _ (text : List ℕ) (turns : ℕ) (new : List ℕ) (c : Composed) (is : C
         pub tail-fits : l + length (take (c .end - c .from) (drop (c .from) new)) ≤ length m₂
         tail-fits = omega (arith, tail-long, head-long, p .end, put-long p, q .end, put-long q, turns-long (c .turns))
 
-        pub told : (m₃ : List ℕ) (count : ℕ) → Put m₂ m₃ l count (take (c .end - c .from) (drop (c .from) new)) → Written old m₃ count text
-        told m₃ count r = rw (is .is) (written (put-then (put-then p q) (rw (part-is new (c .from) (c .end) (is .order) (is .within)) at r)))
+        pub told : (m₃ : List ℕ) (count : ℕ) → Put m₂ m₃ l count (take (c .end - c .from) (drop (c .from) new))
+            → (length text ≤ length old) × Written old m₃ count text
+        told m₃ count r = (
+          omega (arith, composed-long),
+          rw (is .is) (written (put-then (put-then p q) (rw (part-is new (c .from) (c .end) (is .order) (is .within)) at r))),
+        )

@@ -48,5 +48,5 @@ pub record Composes (text : List ℕ) (turns : ℕ) (new : List ℕ) (c : Compos
 -- What writing a text to a buffer's start gives: it is written, and its length is the answer; or the buffer is shorter than the text, and as it was,
 -- and the answer is the length needed.
 abbrev pub Fits : Fit → (text old new : List ℕ) → Type 0
-Fits (Whole n) text old new = Written old new n text
+Fits (Whole n) text old new = (length text ≤ length old) × Written old new n text
 Fits (Short n) text old new = (n ≡ length text) × (length old < length text) × (new ≡ old)

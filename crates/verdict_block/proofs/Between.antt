@@ -25,7 +25,7 @@ apart-last [] x = refl
 apart-last (i ∷ l) x = ap (preceded i) (apart-last l x)
 
 module _ (l : List Instruction) where
-  none-left : (i end : ℕ) → end ≤ i → slice i end l ≡ []
+  pub none-left : (i end : ℕ) → end ≤ i → slice i end l ≡ []
   none-left i end out = drop-of-length-le (take end l) (short out)
     where
       short : end ≤ i → length (take end l) ≤ i
