@@ -6,3 +6,5 @@ pub mod Operands
 pub mod Stepped
 -- count-register jumps
 pub mod Counted
+-- what is told without its text
+pub mod Decided
