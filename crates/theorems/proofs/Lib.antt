@@ -15,4 +15,6 @@ pub mod DueLines
 pub mod InList
 pub mod Listing
 pub mod Program
+pub mod Filled
+pub mod Sentences
 pub mod Main

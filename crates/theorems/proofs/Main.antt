@@ -37,9 +37,12 @@ use Rattle.answer_listing.specs.Listing.{listingOf}
 use Rattle.answer_listing.specs.Listing.ListedNumbers.{lines, refused as refused-listing}
 use Rattle.answer_evaluation.specs.Evaluation.{evaluationAnswer}
 use Rattle.answer_evaluation.specs.Evaluation.Evaluated.{outcome, refused}
+use Rattle.answer_sentence.specs.Sentence.{sentenceOn, sentenceAnswer}
+use Rattle.answer_sentence.specs.Sentence.ToldNumbers.{long, refused as refused-sentence}
 use Rattle.listing.specs.Program.{printed}
 use Rattle.theorems.specs.Runs.{Source, answerFor, Ends, ForcedEnd, nodeRun, SaysOf, AnswerFromRun}
 use Rattle.theorems.specs.Lines.{lineAt, Listed, Refuses, TrueOf}
+use Rattle.theorems.specs.Sentences.{Holds, RefusesSentence, SentenceRow, answerTo, saidBy, sentenceRows}
 use Rattle.text.specs.Ascii.{ascii}
 use Rattle.theorems.specs.Text.{textOf, Sample, samples}
 use Rattle.theorems.specs.Rows.{Yields, rows, probe, marked}
@@ -53,6 +56,7 @@ use Rattle.theorems.proofs.Outcomes.{answers-run, fourteen, refusal-num
 use Rattle.theorems.proofs.Whole.{runs-right}
 use Rattle.theorems.proofs.Program.{text-is, limit-is, as-sampled}
 use Rattle.theorems.proofs.Listing.{lines-true, lines-due, refused-for, list-kept}
+use Rattle.theorems.proofs.Sentences.{sentence-decided, sentence-stands, sentence-refused, sentence-number, text-kept, as-said}
 
 -- Reading accepts exactly the bytes of the valid sheets, and yields their content; a refusal has a number from 1 to 9 and an offset within the sheet.
 pub reading : Format
@@ -93,6 +97,37 @@ listing-refusals = listing-number
 pub kept-list : (s : List Byte) (list : List ℕ) (number place : ℕ) → listingOf (numbers s) list .answer ≡ refused-listing number place
     → listingOf (numbers s) list .list ≡ list
 kept-list = list-kept
+
+-- The answer for a block's sentence is the length 0 exactly where the block has no verdict, being undecided or without a branch; so it is in any room,
+-- and a verdict has a sentence.
+pub sentences : (s : List ℕ) (number : ℕ) (text : List ℕ)
+    → (sentenceAnswer s number text .answer ≡ long 0) ↔ ((blockAnswer s number ≡ undecided) ⊎ (blockAnswer s number ≡ noBranch))
+sentences = sentence-decided
+
+-- Where the answer is a length, the sentence is the text's prefix of that length, and what is beyond it is as it was.
+pub sentence-texts : (s : List ℕ) (number : ℕ) (text : List ℕ) (count : ℕ) → sentenceAnswer s number text .answer ≡ long count
+    → Holds (sentenceOn s number) count text (sentenceAnswer s number text .text)
+sentence-texts = sentence-stands
+
+-- A sentence is refused exactly where reading refuses, or there is no block of that number, or the text is shorter than the sentence.
+pub refused-sentences : (s : List ℕ) (number : ℕ) (text : List ℕ) (k at : ℕ)
+    → (sentenceAnswer s number text .answer ≡ refused-sentence k at) ↔ RefusesSentence s number text k at
+refused-sentences = sentence-refused
+
+-- It is refused with one of reading's numbers, 13 or 17; so 0, which a C host gets with the length, is no refusal.
+pub sentence-refusals : (s : List ℕ) (number : ℕ) (text : List ℕ) {k at : ℕ} → sentenceAnswer s number text .answer ≡ refused-sentence k at
+    → ((1 ≤ k) × (k ≤ 9)) ⊎ ((k ≡ 13) ⊎ (k ≡ 17))
+sentence-refusals = sentence-number
+
+-- A refused sentence leaves the text as it was.
+pub kept-text : (s : List ℕ) (number : ℕ) (text : List ℕ) (k at : ℕ) → sentenceAnswer s number text .answer ≡ refused-sentence k at
+    → sentenceAnswer s number text .text ≡ text
+kept-text = text-kept
+
+-- For short sheets, given as bytes, the sentences are those worked out by hand: each phrase, names from each table, values on both sides of base ten's
+-- end, texts joined and told alone, blocks without a sentence.
+pub worked-sentences : All (λ (r : SentenceRow). answerTo r ≡ saidBy r) sentenceRows
+worked-sentences = as-said
 
 -- What the listing program writes for at most 65,536 bytes is the text of the listing's answer and lines, on any list that can hold a line of each
 -- instruction that a sheet can have.

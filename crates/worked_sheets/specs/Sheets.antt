@@ -21,26 +21,26 @@ abbrev word : ℕ → List ℕ
 word n = n ∷ 0 ∷ 0 ∷ 0 ∷ 0 ∷ 0 ∷ 0 ∷ 0 ∷ []
 
 -- operands: the code, then a register's class, index, size and offset (S17, S18)
-abbrev al : List ℕ
+abbrev pub al : List ℕ
 al = 0 ∷ 1 ∷ 0 ∷ 8 ∷ 0 ∷ []
 
-abbrev rax : List ℕ
+abbrev pub rax : List ℕ
 rax = 0 ∷ 1 ∷ 0 ∷ 64 ∷ 0 ∷ []
 
-abbrev rcx : List ℕ
+abbrev pub rcx : List ℕ
 rcx = 0 ∷ 1 ∷ 1 ∷ 64 ∷ 0 ∷ []
 
-abbrev ecx : List ℕ
+abbrev pub ecx : List ℕ
 ecx = 0 ∷ 1 ∷ 1 ∷ 32 ∷ 0 ∷ []
 
-abbrev cx : List ℕ
+abbrev pub cx : List ℕ
 cx = 0 ∷ 1 ∷ 1 ∷ 16 ∷ 0 ∷ []
 
 -- immediates: a number below 256, 2 to the 16, 2 to the 32, and 64 ones (S17)
-abbrev imm : ℕ → List ℕ
+abbrev pub imm : ℕ → List ℕ
 imm n = (1 ∷ []) ++ word n
 
-abbrev bit16 : List ℕ
+abbrev pub bit16 : List ℕ
 bit16 = 1 ∷ 0 ∷ 0 ∷ 1 ∷ 0 ∷ 0 ∷ 0 ∷ 0 ∷ 0 ∷ []
 
 abbrev bit32 : List ℕ
@@ -63,7 +63,7 @@ abbrev bare : ℕ → Placed
 bare mnemonic at = start 0 mnemonic at
 
 -- a conditional branch, to 99 (S7)
-abbrev jump : ℕ → Placed
+abbrev pub jump : ℕ → Placed
 jump mnemonic at = start 1 mnemonic at ++ word 99
 
 -- one operand; one operand and all five flags declared; two operands (S9, S10, S12)
@@ -83,60 +83,60 @@ other flags at = start 32 0 at ++ (flags ∷ [])
 abbrev otherOnRcx : Placed
 otherOnRcx at = start 16 0 at ++ (1 ∷ 0 ∷ 1 ∷ 1 ∷ 64 ∷ 0 ∷ [])
 
-abbrev call : Placed
+abbrev pub call : Placed
 call at = start 2 0 at
 
 -- mnemonics 1 to 15 (S22)
-abbrev stc : Placed
+abbrev pub stc : Placed
 stc = bare 1
 
-abbrev clc : Placed
+abbrev pub clc : Placed
 clc = bare 2
 
-abbrev cmc : Placed
+abbrev pub cmc : Placed
 cmc = bare 3
 
-abbrev mov : List ℕ → List ℕ → Placed
+abbrev pub mov : List ℕ → List ℕ → Placed
 mov = two 4
 
 abbrev not : List ℕ → Placed
 not = one 5
 
-abbrev add : List ℕ → List ℕ → Placed
+abbrev pub add : List ℕ → List ℕ → Placed
 add = two 6
 
-abbrev sub : List ℕ → List ℕ → Placed
+abbrev pub sub : List ℕ → List ℕ → Placed
 sub = two 7
 
-abbrev cmp : List ℕ → List ℕ → Placed
+abbrev pub cmp : List ℕ → List ℕ → Placed
 cmp = two 8
 
-abbrev and : List ℕ → List ℕ → Placed
+abbrev pub and : List ℕ → List ℕ → Placed
 and = two 9
 
-abbrev or : List ℕ → List ℕ → Placed
+abbrev pub or : List ℕ → List ℕ → Placed
 or = two 10
 
-abbrev xor : List ℕ → List ℕ → Placed
+abbrev pub xor : List ℕ → List ℕ → Placed
 xor = two 11
 
-abbrev test : List ℕ → List ℕ → Placed
+abbrev pub test : List ℕ → List ℕ → Placed
 test = two 12
 
-abbrev inc : List ℕ → Placed
+abbrev pub inc : List ℕ → Placed
 inc = declaring 13
 
-abbrev dec : List ℕ → Placed
+abbrev pub dec : List ℕ → Placed
 dec = declaring 14
 
-abbrev neg : List ℕ → Placed
+abbrev pub neg : List ℕ → Placed
 neg = declaring 15
 
 -- the jumps that rows name; the table of conditions has 16 to 31 by number (S23, S24)
-abbrev je : Placed
+abbrev pub je : Placed
 je = jump 16
 
-abbrev jb : Placed
+abbrev pub jb : Placed
 jb = jump 22
 
 abbrev js : Placed
@@ -145,16 +145,16 @@ js = jump 26
 abbrev jp : Placed
 jp = jump 28
 
-abbrev jo : Placed
+abbrev pub jo : Placed
 jo = jump 30
 
-abbrev jrcxz : Placed
+abbrev pub jrcxz : Placed
 jrcxz = jump 32
 
-abbrev jecxz : Placed
+abbrev pub jecxz : Placed
 jecxz = jump 33
 
-abbrev jcxz : Placed
+abbrev pub jcxz : Placed
 jcxz = jump 34
 
 -- ---- blocks
