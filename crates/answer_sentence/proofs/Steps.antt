@@ -10,7 +10,6 @@ use Rattle.isa.specs.declared.Instruction.{Instruction}
 use Rattle.alu.specs.declared.Flags.{Flags}
 use Rattle.machine.specs.declared.State.{State}
 use Rattle.machine.specs.States.{stateOf}
-use Rattle.machine.specs.Registers.{nothingKnown}
 use Rattle.machine.specs.Rules.{stepped, steppedAll}
 use Rattle.sheet.proofs.Fronts.{one}
 use Rattle.verdict_block.specs.declared.Jump.{Jump}

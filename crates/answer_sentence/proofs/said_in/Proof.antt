@@ -1,9 +1,8 @@
 use Rattle.answer_sentence.proofs.Steps.{sentence-none, sentence-last}
 use Rattle.verdict_block.proofs.OnSheet.{inside}
-use Rattle.machine.specs.declared.State.{State}
 use Rattle.sentence_text.specs.Contracts.{saidText}
 use Prim.Native.Nat.{_-_}
-use mathlib.Core.Path.{ap, _∙_}
+use mathlib.Core.Path.{_∙_}
 use native.Mathlib.Omega.{arith}
 use borrow.Author.Needs.{needs}
 use Rattle.answer_sentence.proofs.said_in.Statement.{statement}

@@ -2,9 +2,6 @@ use Rattle.answer_sentence.proofs.Answers.{on-range}
 use Rattle.verdict_block.proofs.OnSheet.{end-inside}
 use Rattle.sheet.proofs.Accepted.{accepted}
 use Rattle.sheet.proofs.ByNumber.{instructions-count}
-use Prim.Native.Nat.{ℕ}
-use mathlib.Core.List.{List}
-use mathlib.Core.Path.{ap, _∙_}
 use native.Mathlib.Omega.{arith}
 use borrow.Author.Needs.{needs}
 use Rattle.answer_sentence.proofs.sentence_on.Statement.{statement}
