@@ -6,6 +6,7 @@ pub mod answers;
 pub mod cases;
 pub mod comparisons;
 pub mod judges;
+pub mod sentences;
 pub mod stored;
 #[cfg(test)]
 mod tests;

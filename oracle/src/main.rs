@@ -13,7 +13,7 @@ use std::process::ExitCode;
 
 const USAGE: &str = "usage:
   oracle read SHEET                the reader's answer in one line
-  oracle answer                    answers frames, but for those of blocks
+  oracle answer                    answers frames, but for those of blocks and sentences
   oracle reading --program PATH [--sheets N] [--seed S]
   oracle reading --stub [--sheets N] [--seed S]
   oracle bench [--program PATH [--given PATH]] [--save SHEET]
@@ -148,7 +148,9 @@ fn answer() -> Outcome {
     let mut output = BufWriter::new(io::stdout());
     let line = |question: &Question| match question {
         Question::Reading(sheet) => Ok(reader::line(&reader::read(sheet))),
-        Question::Blocks(_) => Err(io::Error::other("the given source answers this")),
+        Question::Blocks(_) | Question::Sentences(_) => {
+            Err(io::Error::other("the given source answers this"))
+        }
         Question::Nodes(sheet) => Ok(node_verdict::line(sheet)),
         Question::Evaluation { sheet, node, sets } => {
             Ok(evaluator::evaluations(sheet, *node, sets))

@@ -16,6 +16,7 @@ use oracle::answers::{self, Answer, Decided, FLAGS};
 use oracle::judges::node_limits;
 use oracle::judges::reader;
 use oracle::judges::substitution::{substitute, Rule};
+use oracle::sentences;
 use oracle::sheets::syntax as sheet;
 use std::hint::black_box;
 use std::time::{Duration, Instant};
@@ -39,20 +40,43 @@ pub enum Nodes {
 /// The answer to one sheet.
 pub fn line(bytes: &[u8], nodes: Nodes) -> String {
     match judged(bytes, nodes) {
-        Ok([blocks, nodes]) => {
+        Ok(Judged { blocks, nodes, .. }) => {
             format!("{} {}", answers::line("blocks", &blocks), answers::line("nodes", &nodes))
         }
         Err(refusal) => refusal.to_string(),
     }
 }
 
-/// The answers for the blocks and for the nodes of a sheet.
-pub fn judged(bytes: &[u8], nodes: Nodes) -> Result<[Vec<Answer>; 2], reader::Refusal> {
+/// What is said of a sheet: the answers for its blocks and nodes, and for each
+/// block the sentence, empty where the source gives none.
+#[derive(Default)]
+pub struct Judged {
+    pub blocks: Vec<Answer>,
+    pub sentences: Vec<String>,
+    pub nodes: Vec<Answer>,
+}
+
+pub fn judged(bytes: &[u8], nodes: Nodes) -> Result<Judged, reader::Refusal> {
     let sheet = reader::read(bytes)?.sheet;
-    let disasm = Disasm { instructions: sheet.instructions.iter().map(instruction).collect() };
-    let blocks = sheet.blocks.iter().map(|block| block_answer(&disasm, *block)).collect();
+    let (blocks, sentences) = judged_blocks(&sheet).into_iter().unzip();
     let nodes = sheet.nodes.iter().map(|node| node_answer(node, nodes)).collect();
-    Ok([blocks, nodes])
+    Ok(Judged { blocks, sentences, nodes })
+}
+
+/// The sentences for the blocks of a sheet.
+pub fn sentence_line(bytes: &[u8]) -> String {
+    match reader::read(bytes) {
+        Ok(accepted) => {
+            let judged = judged_blocks(&accepted.sheet);
+            sentences::line(judged.iter().map(|(_, sentence)| sentence.as_str()))
+        }
+        Err(refusal) => refusal.to_string(),
+    }
+}
+
+fn judged_blocks(sheet: &sheet::Sheet) -> Vec<(Answer, String)> {
+    let disasm = Disasm { instructions: sheet.instructions.iter().map(instruction).collect() };
+    sheet.blocks.iter().map(|block| judged_block(&disasm, *block)).collect()
 }
 
 /// The source's own entry on a whole sheet: how many branches it finds, or
@@ -85,20 +109,17 @@ fn answer(holds: bool, reason: u8) -> Answer {
 
 /// The source gives nothing both for an undecided branch and for none; which
 /// it is shows in the block's last instruction.
-fn block_answer(disasm: &Disasm, block: sheet::Block) -> Answer {
+fn judged_block(disasm: &Disasm, block: sheet::Block) -> (Answer, String) {
     let sheet::Block { from, to } = block;
     let graph = ProcedureCfg { blocks: vec![Block { from, to }] };
-    if let Some(found) = opaque::in_flags(disasm, &graph).first() {
-        return answer(found.always, FLAGS);
+    if let Some(found) = opaque::in_flags(disasm, &graph).pop() {
+        return (answer(found.always, FLAGS), found.why);
     }
     let inside = |ins: &&DecodedInsn| from <= ins.address && ins.address < to;
     let last = disasm.instructions.iter().rev().find(inside);
     let branch = last.is_some_and(|ins| matches!(ins.flow, Flow::ConditionalBranch(_)));
-    if branch {
-        Answer::Undecided
-    } else {
-        Answer::NoBranch
-    }
+    let answer = if branch { Answer::Undecided } else { Answer::NoBranch };
+    (answer, String::new())
 }
 
 fn instruction(insn: &sheet::Instruction) -> DecodedInsn {

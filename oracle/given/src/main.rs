@@ -1,5 +1,6 @@
 //! The given source as a program: it reads frames from standard input and
-//! writes for each the verdicts on its blocks and nodes, or the refusal.
+//! writes for each the verdicts on its blocks and nodes, the sentences for its
+//! blocks, or the refusal.
 //! oracle/README.md says what is changed in the source.
 
 #[cfg(given_source)]
@@ -51,7 +52,8 @@ const USAGE: &str = "usage: given [--differences | --time]
        given fuzz SECONDS SEED
        given listings SHEETS SEED
        given bench PLOT [FOLDER]
-Frames for the verdicts on blocks and on nodes are read from standard input.
+Frames for the verdicts on blocks and on nodes, and for the sentences, are read from
+standard input.
 --differences judges nodes with the entries of docs/DIFFERENCES.md and with the
 refusals 10 and 11, --time answers nodes with the nanoseconds that judging each took,
 the least of several times. fuzz compares the product's C exports with these answers, and
@@ -144,6 +146,7 @@ fn run(lines: Lines) -> io::Result<()> {
     let mut output = io::BufWriter::new(io::stdout());
     oracle::comparisons::frames::serve(&mut input, &mut output, |question| match question {
         Question::Blocks(sheet) => Ok(engine::line(sheet, nodes)),
+        Question::Sentences(sheet) => Ok(engine::sentence_line(sheet)),
         Question::Nodes(sheet) if matches!(lines, Lines::Times) => Ok(engine::time_line(sheet)),
         Question::Nodes(sheet) => Ok(engine::node_line(sheet, nodes)),
         _ => Err(io::Error::other("the given source judges blocks and nodes alone")),

@@ -1,5 +1,5 @@
-//! The product's C exports, called with the sheet and the list at the end of
-//! pages behind which nothing may be touched.
+//! The product's C exports, called with the sheet and the list or text at the end
+//! of pages behind which nothing may be touched.
 
 use std::ffi::{c_int, c_void};
 use std::io;
@@ -18,6 +18,14 @@ extern "C" {
         node: u64,
         values: *const u64,
         value_count: usize,
+        out: *mut u64,
+    ) -> u64;
+    fn pomthija_sentence(
+        sheet: *const u8,
+        sheet_length: usize,
+        block: u64,
+        text: *mut u8,
+        text_length: usize,
         out: *mut u64,
     ) -> u64;
     fn mmap(
@@ -39,10 +47,10 @@ const ANONYMOUS: c_int = 0x20;
 
 const PAGE: usize = 4096;
 
-/// Bytes of each room, enough for every sheet and list that is tried.
+/// Bytes of each room, enough for every sheet, list and text that is tried.
 const ROOM: usize = 256 * PAGE;
 
-/// What stands in the list before a call.
+/// What stands in the list or text before a call.
 pub const FILL: u8 = 0xA5;
 
 /// A refusal's number or 0, and what was left in `out`.
@@ -122,5 +130,22 @@ impl Product {
             pomthija_evaluation(at, sheet.len(), node.into(), lent, values.len(), &mut out)
         };
         Answer { number, out }
+    }
+
+    /// The answer, and the text afterwards with so many bytes behind it that are
+    /// not lent.
+    pub fn sentence(
+        &mut self,
+        sheet: &[u8],
+        block: u64,
+        room: usize,
+        behind: usize,
+    ) -> (Answer, Vec<u8>) {
+        let at = self.sheet.last(sheet);
+        let text = self.other.last(&vec![FILL; room + behind]);
+        let mut out = u64::MAX;
+        let number = unsafe { pomthija_sentence(at, sheet.len(), block, text, room, &mut out) };
+        let after = unsafe { std::slice::from_raw_parts(text, room + behind) }.to_vec();
+        (Answer { number, out }, after)
     }
 }

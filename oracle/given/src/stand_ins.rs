@@ -137,9 +137,24 @@ pub mod lift {
         })
     }
 
-    /// Names appear in sentences only.
+    /// The usual name of the low bits of a general register.
     pub fn gpr_name(index: u32, bits: u32) -> String {
-        format!("r{index}.{bits}")
+        const FIRST: [&str; 8] = ["ax", "cx", "dx", "bx", "sp", "bp", "si", "di"];
+        let Some(name) = FIRST.get(index as usize) else {
+            let letter = match bits {
+                64 => "",
+                32 => "d",
+                16 => "w",
+                _ => "b",
+            };
+            return format!("r{index}{letter}");
+        };
+        match bits {
+            64 => format!("r{name}"),
+            32 => format!("e{name}"),
+            16 => name.to_string(),
+            _ => format!("{}l", name.trim_end_matches('x')),
+        }
     }
 }
 

@@ -1,7 +1,9 @@
 //! The given source on rows worked out by hand.
 
-use crate::engine::{line, Nodes};
+use crate::engine::{line, sentence_line, Nodes};
+use crate::lift::gpr_name;
 use oracle::sheets::from_text::write;
+use oracle::sheets::syntax::named_registers;
 
 fn bytes_of(text: &str) -> Vec<u8> {
     write(text).unwrap_or_else(|error| panic!("{error}")).bytes
@@ -64,6 +66,24 @@ fn count_register_jumps_look_at_their_width() {
     assert_eq!(jumps("0x10000"), [v, v, a]);
     assert_eq!(jumps("0x100000000"), [v, a, a]);
     assert_eq!(block(&["mov cx 0", "jcxz target 9"]), "blocks u nodes");
+}
+
+#[test]
+fn registers_have_their_names() {
+    for (name, register) in named_registers().filter(|(_, register)| register.offset == 0) {
+        assert_eq!(gpr_name(register.index.into(), register.size.into()), name);
+    }
+}
+
+#[test]
+fn blocks_have_their_sentences() {
+    let text = "insn 1 mov rax 0xf7\ninsn 2 cmp ah al\ninsn 3 jb target 9\ninsn 4 cmc
+        insn 5 jae target 9\nblock 1 4\nblock 2 4\nblock 1 3\nblock 1 6\n";
+    let due =
+        "sentences|ah is 0 and al is -9 here|||ah is 0 and al is -9 here, and cmc turns it round";
+    assert_eq!(sentence_line(&bytes_of(text)), due);
+    assert_eq!(sentence_line(&bytes_of("")), "sentences");
+    assert_eq!(sentence_line(&[]), "refused 1 at 0");
 }
 
 #[test]

@@ -17,10 +17,22 @@ pub fn sheet(seed: u64, index: u64, with_nodes: bool) -> Vec<u8> {
     if generator.random.once_in(50) {
         return damaged_sheet::sheet(!seed, index);
     }
-    let instructions = code(&mut generator);
-    let blocks = blocks(&mut generator, &instructions);
-    let nodes = if with_nodes { nodes(&mut generator) } else { Vec::new() };
-    let sheet = Sheet { instructions: instructions.concat(), blocks, nodes };
+    let many = generator.random.once_in(200);
+    let count = 1 + generator.random.below(if many { 60 } else { 6 });
+    let pieces = (0..count).map(|_| piece(&mut generator)).collect();
+    of_pieces(&mut generator, pieces, with_nodes)
+}
+
+/// A sheet of these pieces of code, with blocks around them.
+pub fn of_pieces(
+    generator: &mut Generator,
+    mut pieces: Vec<Vec<Instruction>>,
+    with_nodes: bool,
+) -> Vec<u8> {
+    place(generator, &mut pieces);
+    let blocks = blocks(generator, &pieces);
+    let nodes = if with_nodes { nodes(generator) } else { Vec::new() };
+    let sheet = Sheet { instructions: pieces.concat(), blocks, nodes };
     encode(&sheet).bytes
 }
 
@@ -29,11 +41,8 @@ fn nodes(generator: &mut Generator) -> Vec<Node> {
     (0..count).map(|_| verdict_node::node(generator)).collect()
 }
 
-/// Pieces of code, their addresses rising.
-fn code(generator: &mut Generator) -> Vec<Vec<Instruction>> {
-    let many = generator.random.once_in(200);
-    let count = 1 + generator.random.below(if many { 60 } else { 6 });
-    let mut pieces: Vec<Vec<Instruction>> = (0..count).map(|_| piece(generator)).collect();
+/// Gives the instructions addresses that rise.
+fn place(generator: &mut Generator, pieces: &mut [Vec<Instruction>]) {
     let total: usize = pieces.iter().map(Vec::len).sum();
     let room = total as u64 * 8;
     let mut address = match generator.random.below(8) {
@@ -46,7 +55,6 @@ fn code(generator: &mut Generator) -> Vec<Vec<Instruction>> {
         insn.address = address;
         address += 1 + generator.random.below(8) as u64;
     }
-    pieces
 }
 
 /// A block for each piece, and some that fit none.
@@ -316,6 +324,6 @@ impl Coder<'_> {
     }
 }
 
-fn binary(mnemonic: u8, first: Operand, second: Operand) -> Instruction {
+pub fn binary(mnemonic: u8, first: Operand, second: Operand) -> Instruction {
     Instruction { mnemonic, first: Some(first), second: Some(second), ..Default::default() }
 }

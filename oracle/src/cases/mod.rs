@@ -6,4 +6,5 @@ pub mod damaged_sheet;
 pub mod evaluation_node;
 pub mod limit_node;
 pub mod random;
+pub mod sentence_sheet;
 pub mod verdict_node;

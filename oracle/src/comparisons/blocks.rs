@@ -1,10 +1,11 @@
 //! The comparison of a test program with the given source: both answer the
-//! same sheets, and their answers are compared block by block.
+//! same sheets, and their verdicts and sentences are compared block by block.
 
 use crate::answers::{Answer, Line, ABSENT};
-use crate::cases::block_sheet;
-use crate::comparisons::frames::{ask_blocks, run};
+use crate::cases::{block_sheet, sentence_sheet};
+use crate::comparisons::frames::{ask_blocks, ask_sentences, run};
 use crate::judges::reader::read;
+use crate::sentences::{of_line, Met};
 use crate::sheets::syntax::{Block, Sheet};
 use crate::sheets::to_text;
 use std::collections::BTreeMap;
@@ -28,6 +29,7 @@ struct Tally {
     answers: BTreeMap<String, u64>,
     refused: u64,
     compared: u64,
+    met: Met,
     differences: u64,
 }
 
@@ -43,12 +45,15 @@ impl Tally {
         text.lines().for_each(|line| println!("    {line}"));
     }
 
-    fn print(&self) {
+    /// True if there was no difference, and enough was met.
+    fn print(&self) -> bool {
         for (answer, count) in &self.answers {
             println!("blocks {answer}: {count}");
         }
         println!("sheets refused: {}", self.refused);
+        let met = self.met.print();
         println!("compared {} blocks, differences {}", self.compared, self.differences);
+        met && self.differences == 0
     }
 }
 
@@ -59,20 +64,31 @@ pub fn compare(job: &Job) -> io::Result<bool> {
     while first < job.sheets {
         let end = job.sheets.min(first + BATCH);
         let sheets: Vec<Vec<u8>> =
-            (first..end).map(|index| block_sheet::sheet(job.seed, index, false)).collect();
+            (first..end).map(|index| sheet(job.seed, index, false)).collect();
         if !batch(job, first, &sheets, &mut tally)? {
             println!("{ABSENT}");
             return Ok(true);
         }
         first = end;
     }
-    tally.print();
-    Ok(tally.differences == 0)
+    Ok(tally.print())
 }
 
+/// Every third one is aimed at sentences, the others at verdicts.
+pub fn sheet(seed: u64, index: u64, with_nodes: bool) -> Vec<u8> {
+    match index % 3 {
+        2 => sentence_sheet::sheet(seed, index, with_nodes),
+        _ => block_sheet::sheet(seed, index, with_nodes),
+    }
+}
+
+/// Two lines for each sheet: verdicts, sentences.
 fn answers(program: &[String], sheets: &[Vec<u8>]) -> io::Result<Vec<String>> {
     let mut input = Vec::new();
-    sheets.iter().for_each(|sheet| ask_blocks(&mut input, sheet));
+    for sheet in sheets {
+        ask_blocks(&mut input, sheet);
+        ask_sentences(&mut input, sheet);
+    }
     run(program, input)
 }
 
@@ -82,39 +98,61 @@ fn batch(job: &Job, first: u64, sheets: &[Vec<u8>], tally: &mut Tally) -> io::Re
     if given.first().is_some_and(|line| line == ABSENT) {
         return Ok(false);
     }
-    if given.len() != sheets.len() {
+    if given.len() != 2 * sheets.len() {
         return Err(io::Error::other("the given source's driver did not answer every sheet"));
     }
     let program = answers(job.program, sheets)?;
-    if program.len() > sheets.len() {
-        println!("the program wrote {} lines too many", program.len() - sheets.len());
+    if program.len() > given.len() {
+        println!("the program wrote {} lines too many", program.len() - given.len());
         tally.differences += 1;
     }
     for (number, sheet) in sheets.iter().enumerate() {
-        let found = program.get(number).map_or("no line", String::as_str);
-        compare_sheet(first + number as u64, sheet, [&given[number], found], tally)?;
+        let pair = |line: usize| {
+            let found = program.get(line).map_or("no line", String::as_str);
+            [given[line].as_str(), found]
+        };
+        let lines = [pair(2 * number), pair(2 * number + 1)];
+        compare_sheet(first + number as u64, sheet, lines, tally)?;
     }
     Ok(true)
 }
 
-/// The lines are those of the given source and of the program.
-fn compare_sheet(index: u64, sheet: &[u8], lines: [&str; 2], tally: &mut Tally) -> io::Result<()> {
+/// The lines are those of the given source and of the program, on verdicts and
+/// then on sentences.
+fn compare_sheet(
+    index: u64,
+    sheet: &[u8],
+    lines: [[&str; 2]; 2],
+    tally: &mut Tally,
+) -> io::Result<()> {
     let Ok(accepted) = read(sheet) else {
         tally.refused += 1;
-        if lines[0] != lines[1] {
-            tally.difference(index, "a refused sheet", lines, &to_text::dump(sheet));
+        for pair in lines.iter().filter(|pair| pair[0] != pair[1]) {
+            tally.difference(index, "a refused sheet", *pair, &to_text::dump(sheet));
         }
         return Ok(());
     };
-    let due = match Line::parse(lines[0]) {
-        Line::Answers { blocks, .. } if blocks.len() == accepted.sheet.blocks.len() => blocks,
+    let count = accepted.sheet.blocks.len();
+    let [verdicts, sentences] = lines;
+    let due = match (Line::parse(verdicts[0]), of_line(sentences[0])) {
+        (Line::Answers { blocks, .. }, Some(texts))
+            if [blocks.len(), texts.len()] == [count; 2] =>
+        {
+            (blocks, texts)
+        }
         _ => return Err(io::Error::other("the given source's driver did not answer in full")),
     };
-    let Line::Answers { blocks: found, .. } = Line::parse(lines[1]) else {
-        tally.difference(index, "the whole line", lines, &to_text::dump(sheet));
-        return Ok(());
-    };
-    compare_blocks(&accepted.sheet, index, [&due, &found], tally);
+    match Line::parse(verdicts[1]) {
+        Line::Answers { blocks: found, .. } => {
+            compare_blocks(&accepted.sheet, index, [&due.0, &found], tally);
+        }
+        _ => tally.difference(index, "the whole line", verdicts, &to_text::dump(sheet)),
+    }
+    due.1.iter().for_each(|sentence| tally.met.note(sentence));
+    match of_line(sentences[1]) {
+        Some(found) => compare_sentences(&accepted.sheet, index, [&due.1, &found], tally),
+        None => tally.difference(index, "the whole line", sentences, &to_text::dump(sheet)),
+    }
     Ok(())
 }
 
@@ -132,6 +170,20 @@ fn compare_blocks(sheet: &Sheet, index: u64, lists: [&[Answer]; 2], tally: &mut 
     let counts = lists.map(|list| format!("{} answers", list.len()));
     if lists[1].len() > lists[0].len() {
         tally.difference(index, "the number of blocks", [&counts[0], &counts[1]], "");
+    }
+}
+
+fn compare_sentences(sheet: &Sheet, index: u64, lists: [&[&str]; 2], tally: &mut Tally) {
+    for (number, block) in sheet.blocks.iter().enumerate() {
+        let pair = lists.map(|list| list.get(number).copied().unwrap_or("no sentence"));
+        if pair[0] != pair[1] {
+            let text = to_text::text(&alone(sheet, *block));
+            tally.difference(index, &format!("the sentence of block {number}"), pair, &text);
+        }
+    }
+    let counts = lists.map(|list| format!("{} sentences", list.len()));
+    if lists[1].len() > lists[0].len() {
+        tally.difference(index, "the number of sentences", [&counts[0], &counts[1]], "");
     }
 }
 

@@ -13,6 +13,7 @@ pub enum Operation {
     Blocks = 1,
     Evaluation = 2,
     Nodes = 3,
+    Sentences = 4,
 }
 
 /// The content of a frame.
@@ -22,6 +23,7 @@ pub enum Question {
     Blocks(Vec<u8>),
     Evaluation { sheet: Vec<u8>, node: u32, sets: Vec<Vec<u64>> },
     Nodes(Vec<u8>),
+    Sentences(Vec<u8>),
 }
 
 fn put(out: &mut Vec<u8>, operation: Operation, parts: &[&[u8]]) {
@@ -44,6 +46,11 @@ pub fn ask_blocks(out: &mut Vec<u8>, sheet: &[u8]) {
 /// Appends the question for the verdicts on all of a sheet's nodes.
 pub fn ask_nodes(out: &mut Vec<u8>, sheet: &[u8]) {
     put(out, Operation::Nodes, &[sheet]);
+}
+
+/// Appends the question for the sentences of all of a sheet's blocks.
+pub fn ask_sentences(out: &mut Vec<u8>, sheet: &[u8]) {
+    put(out, Operation::Sentences, &[sheet]);
 }
 
 /// Appends the question for a node's evaluation on each set of values. All sets
@@ -106,6 +113,7 @@ fn question(frame: &[u8]) -> io::Result<Question> {
             Ok(Question::Evaluation { sheet, node, sets })
         }
         3 => Ok(Question::Nodes(rest.0.to_vec())),
+        4 => Ok(Question::Sentences(rest.0.to_vec())),
         _ => Err(io::Error::other("a frame names no operation")),
     }
 }

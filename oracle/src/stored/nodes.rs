@@ -39,7 +39,8 @@ fn generated() -> Vec<Case> {
     let case = |(number, nodes): (usize, &[Node])| {
         let sheet = sheet_of(nodes);
         let expected = nodes.iter().map(node_verdict::verdict).collect();
-        Case { name: format!("generated nodes, sheet {number}"), sheet, expected, given: None }
+        let name = format!("generated nodes, sheet {number}");
+        Case { name, sheet, expected, given: None, sentences: None }
     };
     short.chunks(IN_A_SHEET).enumerate().map(case).collect()
 }

@@ -1,5 +1,6 @@
 mod evaluation;
 mod listing;
 mod nodes;
+mod sentences;
 mod sheets;
 mod verdicts;

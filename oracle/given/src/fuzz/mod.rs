@@ -6,7 +6,7 @@
 mod changes;
 mod coverage;
 
-use crate::engine::{self, Nodes};
+use crate::engine::{self, Judged, Nodes};
 use crate::guard;
 use crate::product::{self, Answer, Product};
 use changes::Kept;
@@ -14,9 +14,11 @@ use coverage::Coverage;
 use oracle::answers;
 use oracle::cases::random::Random;
 use oracle::cases::{block_sheet, damaged_sheet};
+use oracle::comparisons::blocks;
 use oracle::judges::evaluator;
 use oracle::judges::listing::{due, Due, LINE};
 use oracle::judges::reader::{read, Refusal};
+use oracle::sentences::Met;
 use oracle::sheets::encode::encode;
 use std::io;
 use std::time::{Duration, Instant};
@@ -36,14 +38,17 @@ struct Tally {
     lines: u64,
     open: u64,
     evaluations: u64,
+    sentence_calls: u64,
+    met: Met,
 }
 
 impl Tally {
     fn print(&self) {
-        let Tally { listings, refused, branches, lines, open, evaluations } = self;
+        let Tally { listings, refused, branches, lines, open, evaluations, .. } = self;
         println!("listings {listings}, of them refused {refused}; not judged {open}");
         println!("blocks that end in a branch, and nodes: {branches}; lines {lines}");
         println!("evaluations {evaluations}");
+        println!("sentences {}, calls {}", self.met.sentences(), self.sentence_calls);
         println!("differences 0");
     }
 }
@@ -82,7 +87,8 @@ pub fn run(seconds: u64, seed: u64) -> io::Result<bool> {
     Ok(true)
 }
 
-/// Listings of so many generated sheets; true if there was no difference.
+/// Listings and sentences of so many generated sheets; true if there was no
+/// difference, and enough was met in the sentences.
 pub fn listings(sheets: u64, seed: u64) -> io::Result<bool> {
     guard::hush();
     let mut product = Product::new()?;
@@ -95,14 +101,15 @@ pub fn listings(sheets: u64, seed: u64) -> io::Result<bool> {
             return Ok(false);
         }
     }
+    let met = tally.met.print();
     tally.print();
-    Ok(true)
+    Ok(met)
 }
 
 /// Blocks around, across and beside each other, and nodes whose addresses are
 /// those of some instructions, most of them branches, or none at all.
 fn whole_sheet(random: &mut Random, seed: u64, index: u64) -> Vec<u8> {
-    let bytes = block_sheet::sheet(seed, index, true);
+    let bytes = blocks::sheet(seed, index, true);
     let Ok(accepted) = read(&bytes) else { return bytes };
     let mut sheet = accepted.sheet;
     let branches = sheet.instructions.iter().filter(|insn| insn.target.is_some());
@@ -132,15 +139,17 @@ fn hexadecimal(bytes: &[u8]) -> String {
     bytes.iter().map(|byte| format!("{byte:02x}")).collect()
 }
 
-/// One sheet: a listing with a list of some length, and evaluations.
+/// One sheet: a listing with a list of some length, the sentences of all blocks,
+/// and evaluations.
 fn tried(
     product: &mut Product,
     random: &mut Random,
     sheet: &[u8],
     tally: &mut Tally,
 ) -> Result<(), String> {
-    let [blocks, nodes] =
-        engine::judged(sheet, Nodes::WithDifferences).unwrap_or_else(|_| Default::default());
+    let judged = engine::judged(sheet, Nodes::WithDifferences);
+    same_sentences(product, random, sheet, &judged, tally)?;
+    let Judged { blocks, nodes, .. } = judged.unwrap_or_default();
     let whole = match due(sheet, &blocks, &nodes, usize::MAX) {
         Due::Lines(lines) => lines.len(),
         _ => LINE,
@@ -173,6 +182,69 @@ fn tried(
         same_evaluation(product.evaluation(sheet, node, &values), expected)?;
     }
     Ok(())
+}
+
+/// Bytes behind a text that are not lent and have to stay.
+const BEHIND: usize = 16;
+
+/// The sentence of each block and of the number past the last, or reading's
+/// refusal. The room is one byte short, exact, and one byte more.
+fn same_sentences(
+    product: &mut Product,
+    random: &mut Random,
+    sheet: &[u8],
+    judged: &Result<Judged, Refusal>,
+    tally: &mut Tally,
+) -> Result<(), String> {
+    let mut ask = |block: u64, room: usize, due: Result<&str, Answer>| {
+        tally.sentence_calls += 1;
+        let behind = random.pick(&[0, BEHIND]);
+        let found = product.sentence(sheet, block, room, behind);
+        same_sentence(&found, due, room + behind).map_err(|difference| {
+            format!("sentence of block {block}, room {room}, {behind} behind: {difference}")
+        })
+    };
+    let sentences = match judged {
+        Ok(judged) => &judged.sentences,
+        Err(refusal) => return ask(0, BEHIND, Err(refused(*refusal))),
+    };
+    for (block, sentence) in sentences.iter().enumerate() {
+        tally.met.note(sentence);
+        let (block, length) = (block as u64, sentence.len());
+        if let Some(short) = length.checked_sub(1) {
+            ask(block, short, Err(Answer { number: SHORT_TEXT, out: length as u64 }))?;
+        }
+        ask(block, length, Ok(sentence))?;
+        ask(block, length + 1, Ok(sentence))?;
+    }
+    let past = sentences.len() as u64;
+    ask(past, BEHIND, Err(Answer { number: NO_BLOCK, out: 0 }))?;
+    ask(past + (1 << 32), 0, Err(Answer { number: NO_BLOCK, out: 0 }))
+}
+
+/// The refusals of a number past the last, and of a text that is too short.
+const NO_BLOCK: u64 = 13;
+const SHORT_TEXT: u64 = 17;
+
+/// The answer, and every byte of the text and behind it.
+fn same_sentence(
+    found: &(Answer, Vec<u8>),
+    due: Result<&str, Answer>,
+    bytes: usize,
+) -> Result<(), String> {
+    let mut text = vec![product::FILL; bytes];
+    let answer = match due {
+        Err(refusal) => refusal,
+        Ok(sentence) => {
+            text[..sentence.len()].copy_from_slice(sentence.as_bytes());
+            Answer { number: 0, out: sentence.len() as u64 }
+        }
+    };
+    if *found == (answer, text.clone()) {
+        return Ok(());
+    }
+    let shown = |bytes: &[u8]| String::from_utf8_lossy(bytes).into_owned();
+    Err(format!("due {answer:?} {}, found {:?} {}", shown(&text), found.0, shown(&found.1)))
 }
 
 fn value(random: &mut Random) -> u64 {
