@@ -1,8 +1,9 @@
 // The operations as a program that a comparison can ask: frames from standard input, a line for each to standard output.
 // A frame's first byte is the operation's number: 0 reading, 1 the verdicts on all blocks, 2 the evaluation, 3 the verdicts
-// on all nodes. A sheet makes up the rest of a frame of 0, 1 and 3. In a frame of 2 stand, in 4 bytes each, the node's
-// number, how many values a set has, how many sets there are, and the sheet's length; then the sheet, and the sets: a value
-// is its number of bytes (0 to 8) and those bytes.
+// on all nodes, 4 the sentences of all blocks. A sheet makes up the rest of a frame of 0, 1, 3 and 4. In a frame of 2 stand,
+// in 4 bytes each, the node's number, how many values a set has, how many sets there are, and the sheet's length; then the
+// sheet, and the sets: a value is its number of bytes (0 to 8) and those bytes.
+use answer_sentence::Told;
 use evaluate_node::Evaluation;
 use sheet::Reading;
 use sheet::Sheet;
@@ -56,68 +57,79 @@ fn say_verdict(v: Verdict) -> bool {
     }
 }
 
-// r with its number for a refusal.
-fn say_answer(a: Answer) -> bool {
+// r with its number for a refusal. That of the number past the last record is due and is not said; any other answer for that
+// number is one too many on the line.
+fn say_refused(k: u64, at: usize, past: bool) -> bool {
+    if past & (k == 13) & (at == 0) {
+        return true;
+    }
+    test_io::word(b" r") & test_io::digits(k)
+}
+
+fn say_answer(a: Answer, past: bool) -> bool {
     match a {
         Answer::Given(v) => say_verdict(v),
-        Answer::Refused(k, _) => test_io::word(b" r") & test_io::digits(k),
+        Answer::Refused(k, at) => say_refused(k, at, past),
     }
 }
 
-// Whether the number past the last record is refused as it should be; if not, its answer is one too many on the line.
-fn past_the_last(a: Answer) -> bool {
-    if let Answer::Refused(k, at) = a {
-        if (k == 13) & (at == 0) {
-            return true;
-        }
+// A bar and the sentence of the block of that number, nothing where it has none.
+fn say_sentence(s: &[u8], number: u64, past: bool) -> bool {
+    let mut text = test_io::text();
+    let told = answer_sentence::sentence(s, number, &mut text);
+    match told {
+        Told::Length(n) => test_io::word(b"|") & test_io::start(&text, n),
+        Told::Refused(k, at) => say_refused(k, at, past),
     }
-    say_answer(a)
 }
 
-// What is judged.
-enum Judged {
+// What is said of each record.
+enum Said {
     Blocks,
     Nodes,
+    Sentences,
 }
 
-// The verdict on the block or the node of that number.
-fn judge(s: &[u8], judged: Judged, number: u64) -> Answer {
-    match judged {
-        Judged::Blocks => answer_block::block_verdict(s, number),
-        Judged::Nodes => answer_node::node_verdict(s, number),
+// What is said of the block or the node of that number, which may be the one past the last.
+fn say_one(s: &[u8], said: Said, number: u64, past: bool) -> bool {
+    match said {
+        Said::Blocks => say_answer(answer_block::block_verdict(s, number), past),
+        Said::Nodes => say_answer(answer_node::node_verdict(s, number), past),
+        Said::Sentences => say_sentence(s, number, past),
     }
 }
 
-fn say_name(judged: Judged) -> bool {
-    match judged {
-        Judged::Blocks => test_io::word(b"blocks"),
-        Judged::Nodes => test_io::word(b"nodes"),
+fn say_name(said: Said) -> bool {
+    match said {
+        Said::Blocks => test_io::word(b"blocks"),
+        Said::Nodes => test_io::word(b"nodes"),
+        Said::Sentences => test_io::word(b"sentences"),
     }
 }
 
-fn say_all(s: &[u8], judged: Judged, n: u64) -> bool {
-    let mut written = say_name(judged);
+fn say_all(s: &[u8], said: Said, n: u64) -> bool {
+    let mut written = say_name(said);
     let mut i: u64 = 0;
     while i < n {
-        written = written & say_answer(judge(s, judged, i));
+        written = written & say_one(s, said, i, false);
         i += 1;
     }
-    written & past_the_last(judge(s, judged, n))
+    written & say_one(s, said, n, true)
 }
 
-fn count_of(sheet: Sheet, judged: Judged) -> u64 {
+fn count_of(sheet: Sheet, said: Said) -> u64 {
     let blocks = sheet.blocks;
     let nodes = sheet.nodes;
-    match judged {
-        Judged::Blocks => blocks.count,
-        Judged::Nodes => nodes.count,
+    match said {
+        Said::Nodes => nodes.count,
+        _ => blocks.count,
     }
 }
 
-fn say_verdicts(s: &[u8], judged: Judged) -> bool {
+fn say_records(s: &[u8], said: Said) -> bool {
     let reading = sheet::read(s);
     match reading {
-        Reading::Accepted(sheet) => say_all(s, judged, count_of(sheet, judged)),
+        Reading::Accepted(sheet) => say_all(s, said, count_of(sheet, said)),
         Reading::Refused(k, at) => refused(k, at),
     }
 }
@@ -239,9 +251,10 @@ fn answer(s: &[u8], values: &mut [u64]) -> Ending {
     }
     match s[0] {
         0 => line(say_reading(&s[1..])),
-        1 => line(say_verdicts(&s[1..], Judged::Blocks)),
+        1 => line(say_records(&s[1..], Said::Blocks)),
         2 => answer_evaluation(&s[1..], values),
-        3 => line(say_verdicts(&s[1..], Judged::Nodes)),
+        3 => line(say_records(&s[1..], Said::Nodes)),
+        4 => line(say_records(&s[1..], Said::Sentences)),
         _ => Ending::NoOperation,
     }
 }

@@ -34,6 +34,14 @@ pub fn word(text: &[u8]) -> bool {
     io::write_all(STDOUT_FILENO, text)
 }
 
+// The first n bytes of the text, if it has as many.
+pub fn start(text: &[u8], n: usize) -> bool {
+    if text.len() < n {
+        return false;
+    }
+    word(&text[..n])
+}
+
 pub fn digits(n: u64) -> bool {
     io::print_decimal(STDOUT_FILENO, n)
 }
@@ -85,6 +93,13 @@ pub fn room() -> [u8; 1048576]
     ensures { λ r. ⌜ 1048576 ≡ length r ⌝ }
 {
     [0; 1048576]
+}
+
+// A buffer for the longest sentence of a block.
+pub fn text() -> [u8; 49182]
+    ensures { λ r. ⌜ 49182 ≡ length r ⌝ }
+{
+    [0; 49182]
 }
 
 // The byte at that offset, and 0 past the end.

@@ -4,10 +4,10 @@ use Rattle.test_answer.proofs.say_all.Statement.{statement}
 use Rattle.test_answer.proofs.say_all.Tie as tie
 
 abbrev Inv-loop : tie.InvT-loop
-Inv-loop s judged n written₀ i₀ written i = i ≤ n
+Inv-loop s said n written₀ i₀ written i = i ≤ n
 
 abbrev μ-loop : tie.MeasureT-loop
-μ-loop s judged n written₀ i₀ written i = n - i
+μ-loop s said n written₀ i₀ written i = n - i
 
 say-name-requires : tie.Need-say-name-requires Inv-loop μ-loop
 say-name-requires c κs = search needs
@@ -15,11 +15,8 @@ say-name-requires c κs = search needs
 loop-holds : tie.Need-loop-holds Inv-loop μ-loop
 loop-holds c = search needs
 
-judge-requires : tie.Need-judge-requires Inv-loop μ-loop
-judge-requires c κs = search needs
-
-say-answer-requires : tie.Need-say-answer-requires Inv-loop μ-loop
-say-answer-requires c κs = search needs
+say-one-requires : tie.Need-say-one-requires Inv-loop μ-loop
+say-one-requires c κs = search needs
 
 add-i : tie.Need-add-i Inv-loop μ-loop
 add-i c = search needs
@@ -30,11 +27,8 @@ loop-less c = search needs
 loop-again : tie.Need-loop-again Inv-loop μ-loop
 loop-again c = search needs
 
-judge-requires-2 : tie.Need-judge-requires-2 Inv-loop μ-loop
-judge-requires-2 c κs = search needs
-
-past-the-last-requires : tie.Need-past-the-last-requires Inv-loop μ-loop
-past-the-last-requires c κs = search needs
+say-one-requires-2 : tie.Need-say-one-requires-2 Inv-loop μ-loop
+say-one-requires-2 c κs = search needs
 
 returns : tie.Need-returns Inv-loop μ-loop
 returns c = search needs
@@ -47,11 +41,9 @@ say-all-spec =
     μ-loop
     say-name-requires
     loop-holds
-    judge-requires
-    say-answer-requires
+    say-one-requires
     add-i
     loop-less
     loop-again
-    judge-requires-2
-    past-the-last-requires
+    say-one-requires-2
     returns)
