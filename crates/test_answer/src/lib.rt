@@ -76,7 +76,7 @@ fn say_answer(a: Answer, past: bool) -> bool {
 // A bar and the sentence of the block of that number, nothing where it has none.
 fn say_sentence(s: &[u8], number: u64, past: bool) -> bool {
     let mut text = test_io::text();
-    let told = answer_sentence::sentence(s, number, &mut text);
+    let told = answer_sentence::block_sentence(s, number, &mut text);
     match told {
         Told::Length(n) => test_io::word(b"|") & test_io::start(&text, n),
         Told::Refused(k, at) => say_refused(k, at, past),

@@ -145,7 +145,7 @@ pub mod flag {
 }
 
 /// Numbers of refusals: 1 to 9 by reading, 10 and 11 by the verdict on a node, 13
-/// to 16 by the operations on a number.
+/// to 16 by the operations on a number, 17 by the sentence.
 pub mod refusal {
     pub const ENDED: u8 = 1;
     pub const CODE: u8 = 2;
@@ -162,6 +162,7 @@ pub mod refusal {
     pub const DIVISION: u8 = 14;
     pub const NOT_PLAIN: u8 = 15;
     pub const VALUE: u8 = 16;
+    pub const TEXT: u8 = 17;
 }
 
 /// The number of `name` in a table of names.

@@ -20,6 +20,7 @@ use oracle::judges::listing::{due, Due, LINE};
 use oracle::judges::reader::{read, Refusal};
 use oracle::sentences::Met;
 use oracle::sheets::encode::encode;
+use oracle::sheets::names::refusal;
 use std::io;
 use std::time::{Duration, Instant};
 
@@ -212,19 +213,15 @@ fn same_sentences(
         tally.met.note(sentence);
         let (block, length) = (block as u64, sentence.len());
         if let Some(short) = length.checked_sub(1) {
-            ask(block, short, Err(Answer { number: SHORT_TEXT, out: length as u64 }))?;
+            ask(block, short, Err(refusal_of(refusal::TEXT, length)))?;
         }
         ask(block, length, Ok(sentence))?;
         ask(block, length + 1, Ok(sentence))?;
     }
     let past = sentences.len() as u64;
-    ask(past, BEHIND, Err(Answer { number: NO_BLOCK, out: 0 }))?;
-    ask(past + (1 << 32), 0, Err(Answer { number: NO_BLOCK, out: 0 }))
+    ask(past, BEHIND, Err(refusal_of(refusal::NUMBER, 0)))?;
+    ask(past + (1 << 32), 0, Err(refusal_of(refusal::NUMBER, 0)))
 }
-
-/// The refusals of a number past the last, and of a text that is too short.
-const NO_BLOCK: u64 = 13;
-const SHORT_TEXT: u64 = 17;
 
 /// The answer, and every byte of the text and behind it.
 fn same_sentence(
@@ -256,7 +253,11 @@ fn value(random: &mut Random) -> u64 {
 }
 
 fn refused(refusal: Refusal) -> Answer {
-    Answer { number: u64::from(refusal.number), out: refusal.place as u64 }
+    refusal_of(refusal.number, refusal.place)
+}
+
+fn refusal_of(number: u8, place: usize) -> Answer {
+    Answer { number: u64::from(number), out: place as u64 }
 }
 
 /// The answer, and every byte of the list.
