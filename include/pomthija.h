@@ -3,12 +3,13 @@
  * The host answers for this much; the library checks everything else by itself:
  *   - a pointer is good for as many elements as the length beside it says. Where that is 0, any
  *     pointer will do, also NULL;
- *   - out and reason are not NULL, and share no byte with each other, the sheet, the values or the
- *     list, nor these with each other;
- *   - nothing writes to the sheet or to the values, and nothing touches the list, while a call runs;
+ *   - out and reason are not NULL, and share no byte with each other, the sheet, the values, the list
+ *     or the text, nor these with each other;
+ *   - nothing writes to the sheet or to the values, and nothing touches the list or the text, while a
+ *     call runs;
  *   - the calling thread has POMTHIJA_STACK bytes of its stack left.
- * A call writes to *out and *reason, and the listing to the list where it is not refused; to nothing else.
- * Nothing is allocated or kept, so threads may call at the same time.
+ * A call writes to *out and *reason, and where it is not refused the listing to the list and the sentence
+ * to the text; to nothing else. Nothing is allocated or kept, so threads may call at the same time.
  *
  * The functions are proved; that this header describes them, and what a host does, is not. */
 #ifndef POMTHIJA_H
@@ -44,11 +45,12 @@ enum {
     POMTHIJA_MAX_RECORDS = 128        /* of an expression */
 };
 
-/* Bytes: of a line of the listing, of a list that is long enough for every sheet, and of stack that is
- * enough for every call (measured, not proved). */
+/* Bytes: of a line of the listing, of a list that is long enough for every sheet, of the longest sentence,
+ * and of stack that is enough for every call (the last two are worked out and measured, not proved). */
 enum {
     POMTHIJA_LINE = 18,
     POMTHIJA_LIST = POMTHIJA_MAX_INSTRUCTIONS * POMTHIJA_LINE,
+    POMTHIJA_SENTENCE = 49182,
     POMTHIJA_STACK = 512 * 1024
 };
 
@@ -72,8 +74,8 @@ enum pomthija_reason {
 };
 
 /* What a function returns: 0, or the number of a refusal, which is never 0. A refusal leaves its
- * offset in *out, in bytes from the start of the sheet, except for POMTHIJA_NUMBER, where it is 0, and
- * POMTHIJA_VALUE, where it is the number of a variable. */
+ * offset in *out, in bytes from the start of the sheet, except for POMTHIJA_NUMBER, where it is 0,
+ * POMTHIJA_VALUE, where it is the number of a variable, and POMTHIJA_TEXT, where it is a length. */
 enum {
     POMTHIJA_OK = 0,
 
@@ -95,11 +97,12 @@ enum {
                                  assigned before stand in it; offset: the node's first byte */
     POMTHIJA_TERMS = 11,      /* an equality of a node passes the limits on terms; offset: the node's first byte */
     POMTHIJA_ROOM = 12,       /* the list is too short for the lines; offset: the sheet's length */
-    POMTHIJA_NUMBER = 13,     /* the sheet has no node of this number; offset: 0 */
+    POMTHIJA_NUMBER = 13,     /* the sheet has no block, or node, of this number; offset: 0 */
     POMTHIJA_DIVISION = 14,   /* the run divides by zero; offset: the node's first byte */
     POMTHIJA_NOT_PLAIN = 15,  /* an effect, a load or a statement that assigns nothing; offset: the node's first byte */
-    POMTHIJA_VALUE = 16       /* no value for a variable, or one that its type cannot hold; offset: the number of the
+    POMTHIJA_VALUE = 16,      /* no value for a variable, or one that its type cannot hold; offset: the number of the
                                  first such variable, from 0 */
+    POMTHIJA_TEXT = 17        /* the text is too short for the sentence; offset: the sentence's length */
 };
 
 /* Runs one node of a sheet, numbered from 0, on given values, and says whether its condition holds:
@@ -127,6 +130,16 @@ uint64_t pomthija_node_verdict(const uint8_t *sheet, size_t sheet_length, uint64
  * of POMTHIJA_LIST bytes always suffices. */
 uint64_t pomthija_listing(const uint8_t *sheet, size_t sheet_length, uint8_t *list, size_t list_length,
                           uint64_t *out);
+
+/* Says in words why the branch at the end of one block, numbered from 0, is decided, as 'eax is 0 here':
+ * returns POMTHIJA_OK with the sentence's length in *out, 0 where the block has no verdict (it is undecided,
+ * or does not end in a conditional branch), or else a refusal, which leaves the text as it was.
+ *
+ * The sentence stands at the front of the text, in ASCII, with neither a line feed nor a 0 behind it; the
+ * text after it stays as it was. A text that is just as long as the sentence will do, and one of
+ * POMTHIJA_SENTENCE bytes always does. A host that is told POMTHIJA_TEXT can call again with *out bytes. */
+uint64_t pomthija_sentence(const uint8_t *sheet, size_t sheet_length, uint64_t block, uint8_t *text,
+                           size_t text_length, uint64_t *out);
 
 #ifdef __cplusplus
 }

@@ -1,4 +1,4 @@
-/* The test of the C interface, in C and in C++: each function on good sheets, and on a sheet, a list or values for each refusal.
+/* The test of the C interface, in C and in C++: each function on good sheets, and on a sheet, a list, a text or values for each refusal.
  * What is lent to be read may only be read, and the pages on both sides of all that is lent may not be touched at all; each case is
  * tried with its last byte at the end of its page and with its first byte at the start. All calls run on a stack of POMTHIJA_STACK
  * bytes. Says how many cases went wrong. */
@@ -118,6 +118,29 @@ static void lists(const char *name, const uint8_t *s, size_t length, size_t room
     }
 }
 
+/* The sentence of a block, with room for so many bytes. It is due at the text's front where it is not NULL; every other byte of
+ * the page stays. */
+static void tells(const char *name, const uint8_t *s, size_t length, uint64_t block, size_t room, uint64_t answer, uint64_t out,
+                  const char *sentence)
+{
+    for (int at_end = 0; at_end < 2; at_end++) {
+        const uint8_t *lent_sheet = s ? (const uint8_t *)lent(sheet_page, s, length, at_end) : NULL;
+        size_t from = at_end ? PAGE - room : 0;
+        uint8_t due[PAGE];
+        memset(due, 165, PAGE);
+        memcpy(list_page, due, PAGE);
+        if (sentence)
+            memcpy(due + from, sentence, strlen(sentence));
+        uint64_t got[3] = {55, 66, 77};
+        uint8_t *text = room > 0 || at_end ? list_page + from : NULL;
+        uint64_t returned = pomthija_sentence(lent_sheet, length, block, text, room, &got[1]);
+        if (returned != answer || got[1] != out || got[0] != 55 || got[2] != 77 || memcmp(list_page, due, PAGE) != 0) {
+            printf("%s: returned %" PRIu64 " with %" PRIu64 "\n", name, returned, got[1]);
+            wrong++;
+        }
+    }
+}
+
 /* a sheet that is written field by field */
 static uint8_t written[PAGE];
 static size_t used;
@@ -221,6 +244,7 @@ static void refuses(const char *name, const uint8_t *s, size_t length, uint64_t 
     evaluates(name, s, length, 0, NULL, 0, answer, offset);
     judges(name, s, length, 0, answer, offset, POMTHIJA_REASON_NONE);
     lists(name, s, length, 100, answer, offset, NULL, 0);
+    tells(name, s, length, 0, 100, answer, offset, NULL);
 }
 
 static void refusals(void)
@@ -342,6 +366,48 @@ static void listings(void)
     lists("more than 256 terms", written, used, 100, POMTHIJA_TERMS, 6, NULL, 0);
 }
 
+/* what is said where there is room, and the answer where there is one byte too few */
+static void says(const char *name, uint64_t block, const char *sentence)
+{
+    size_t length = strlen(sentence);
+    tells(name, written, used, block, length, POMTHIJA_OK, length, sentence);
+    tells(name, written, used, block, length + 1, POMTHIJA_OK, length, sentence);
+    tells(name, written, used, block, PAGE, POMTHIJA_OK, length, sentence);
+    if (length > 0)
+        tells(name, written, used, block, length - 1, POMTHIJA_TEXT, length, NULL);
+}
+
+/* instructions at 0x10 and from there on, without operands: stc 1, cmc 3; the last one a jump */
+static void write_carry(size_t count, const uint8_t *mnemonics)
+{
+    used = 0;
+    put(count, 2);
+    for (size_t i = 0; i + 1 < count; i++)
+        put(0, 1), put(0x10 + i, 8), put(mnemonics[i], 1);
+    jump(0x10 + count - 1, mnemonics[count - 1], 0x20);
+    put(3, 2);
+    put(0x10, 8), put(0x10 + count, 8);
+    put(0x10 + count - 1, 8), put(0x10 + count, 8); /* the jump alone */
+    put(0x10, 8), put(0x10 + count - 1, 8);         /* all but the jump */
+    put(0, 2);
+}
+
+static void sentences(void)
+{
+    const uint8_t turned[] = {1, 3, 3, 22}; /* jb */
+    write_three();
+    says("never", 0, "eax is 0 here");
+    says("always", 1, "eax is 0 here");
+    tells("no room", written, used, 0, 0, POMTHIJA_TEXT, 13, NULL);
+    tells("no such block", written, used, 2, 100, POMTHIJA_NUMBER, 0, NULL);
+    tells("no such block and no room", written, used, UINT64_MAX, 0, POMTHIJA_NUMBER, 0, NULL);
+    tells("a sheet cut and no such block", written, used - 1, 2, 0, POMTHIJA_ENDS, used - 8, NULL);
+    write_carry(sizeof turned, turned);
+    says("turned twice", 0, "stc sets the carry, and cmc turns it round, and cmc turns it round");
+    says("undecided", 1, "");
+    says("no branch", 2, "");
+}
+
 static void all(void)
 {
     if (pomthija_version() != POMTHIJA_VERSION) {
@@ -352,6 +418,7 @@ static void all(void)
     evaluations();
     verdicts();
     listings();
+    sentences();
     deepest();
 }
 

@@ -10,12 +10,12 @@
 #include <ucontext.h>
 #include "pomthija.h"
 
-enum { STACK = 4 << 20, FILL = 0xa5, FUNCTIONS = 3 };
+enum { STACK = 4 << 20, FILL = 0xa5, FUNCTIONS = 4 };
 
 static uint8_t *stack;
 static size_t filled_from;
 static ucontext_t here, there;
-static uint8_t sheet[1 << 20], list[POMTHIJA_LIST];
+static uint8_t sheet[1 << 20], list[POMTHIJA_LIST], text[POMTHIJA_SENTENCE];
 static size_t used, needed[FUNCTIONS], most[FUNCTIONS];
 static char worst[FUNCTIONS][64];
 static uint64_t values[POMTHIJA_MAX_VARIABLES], nodes;
@@ -40,8 +40,15 @@ static void lists(void)
     pomthija_listing(sheet, used, list, sizeof list, &out);
 }
 
-static void (*const calls[FUNCTIONS])(void) = {evaluates, judges, lists};
-static const char *const names[FUNCTIONS] = {"pomthija_evaluation", "pomthija_node_verdict", "pomthija_listing"};
+static void tells(void)
+{
+    uint64_t out, block = 0;
+    while (pomthija_sentence(sheet, used, block, text, sizeof text, &out) == POMTHIJA_OK)
+        block++;
+}
+
+static void (*const calls[FUNCTIONS])(void) = {evaluates, judges, lists, tells};
+static const char *const names[FUNCTIONS] = {"pomthija_evaluation", "pomthija_node_verdict", "pomthija_listing", "pomthija_sentence"};
 
 static void measure(const char *name)
 {
