@@ -52,6 +52,7 @@ pub fn line(bytes: &[u8], nodes: Nodes) -> String {
 #[derive(Default)]
 pub struct Judged {
     pub blocks: Vec<Answer>,
+    #[cfg_attr(not(product), allow(dead_code))]
     pub sentences: Vec<String>,
     pub nodes: Vec<Answer>,
 }
