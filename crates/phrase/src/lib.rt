@@ -55,12 +55,29 @@ fn put_part(word: &[u8], part: Part, out: &mut [u8], at: usize) -> usize
     text::put_word(&word[from..to], out, at)
 }
 
-// Where names of registers stand among all, which put_name has: ah, ch, dh, bh.
+// Where the names of each kind start among all names of registers, which put_name has; those of registers 0 to 7 at 8 bits are the first.
+const WORDS: usize = 20;
+
+const DOUBLES: usize = 36;
+
+const QUADS: usize = 60;
+
+const HIGH_BYTES: usize = 84;
+
+const NUMBERED_BYTES: usize = 92;
+
+const NUMBERED_WORDS: usize = 122;
+
+const NUMBERED_DOUBLES: usize = 152;
+
+const BEFORE_LETTER: usize = NUMBERED_DOUBLES - 1;
+
+// ah, ch, dh, bh.
 fn high(index: usize) -> Part
     ensures { λ r. ⌜ Reads names 4 r (getD highBytes index []) ⌝ }
 {
     if index < 4 {
-        let from = 84 + 2 * index;
+        let from = HIGH_BYTES + 2 * index;
         return Part { from, to: from + 2 };
     }
     Part { from: 0, to: 0 }
@@ -87,15 +104,15 @@ fn old(w: Width, index: usize) -> Part
     match w {
         Width::Byte => low_byte(index),
         Width::Word => {
-            let from = 20 + 2 * index;
+            let from = WORDS + 2 * index;
             Part { from, to: from + 2 }
         }
         Width::Double => {
-            let from = 36 + 3 * index;
+            let from = DOUBLES + 3 * index;
             Part { from, to: from + 3 }
         }
         Width::Quad => {
-            let from = 60 + 3 * index;
+            let from = QUADS + 3 * index;
             Part { from, to: from + 3 }
         }
     }
@@ -125,20 +142,20 @@ fn numbered(w: Width, index: usize) -> Part
     let to = start(index + 1);
     match w {
         Width::Byte => Part {
-            from: 92 + from,
-            to: 92 + to,
+            from: NUMBERED_BYTES + from,
+            to: NUMBERED_BYTES + to,
         },
         Width::Word => Part {
-            from: 122 + from,
-            to: 122 + to,
+            from: NUMBERED_WORDS + from,
+            to: NUMBERED_WORDS + to,
         },
         Width::Double => Part {
-            from: 152 + from,
-            to: 152 + to,
+            from: NUMBERED_DOUBLES + from,
+            to: NUMBERED_DOUBLES + to,
         },
         Width::Quad => Part {
-            from: 152 + from,
-            to: 151 + to,
+            from: NUMBERED_DOUBLES + from,
+            to: BEFORE_LETTER + to,
         },
     }
 }
