@@ -4,30 +4,24 @@ use mathlib.Core.Path.{_≡_, sym, ap, _∙_}
 use mathlib.Core.List.{List, [], _++_, append-nil}
 use Rattle.isa.specs.declared.Register.{Register}
 use Rattle.isa.specs.declared.Counter.{Counter}
-use Rattle.isa.specs.declared.Mnemonic.{Mnemonic}
-use Rattle.isa.specs.declared.Mnemonic.the-variants.{CountJump}
 use Rattle.known.specs.declared.Value.{Value}
 use Rattle.known.specs.declared.Value.the-variants.{Known, Unknown}
 use Rattle.machine.specs.declared.State.{State}
 use Rattle.machine.specs.Registers.{readOf}
 use Rattle.machine.specs.Conditions.{countSize, countRegister}
 use Rattle.phrase.specs.Causes.{valueText}
-use Rattle.sentence.specs.Why.{Why}
-use Rattle.sentence.specs.Told.{toldOf, sentenceOf}
+use Rattle.sentence.specs.Told.{countTold, sentenceOf}
 
 -- the low part of register 1
 abbrev counted : ℕ → Register
 counted size = record { class = 1; index = 1; size = size; offset = 0 }
 
-module _ (s : State) (w : Why) (c : Counter) {m : Mnemonic} {size : ℕ} {v : Value} (named : m ≡ CountJump c) (sized : size ≡ countSize c)
-    (read : v ≡ readOf s (counted size)) where
+module _ (s : State) (c : Counter) {size : ℕ} {v : Value} (sized : size ≡ countSize c) (read : v ≡ readOf s (counted size)) where
   value-is : readOf s (countRegister c) ≡ v
   value-is = ap (λ (n : ℕ). readOf s (counted n)) (sym sized) ∙ sym read
 
-  pub count-known : {x : ℕ} → v ≡ Known x → valueText (counted size) x ++ [] ≡ sentenceOf (toldOf s w m)
-  unfolding toldOf
-  count-known {x} known = append-nil _ ∙ ap (λ (n : ℕ). valueText (counted n) x) sized ∙ rw (named, value-is, known)
+  pub count-known : {x : ℕ} → v ≡ Known x → valueText (counted size) x ++ [] ≡ sentenceOf (countTold (countRegister c) (readOf s (countRegister c)))
+  count-known {x} known = append-nil _ ∙ ap (λ (n : ℕ). valueText (counted n) x) sized ∙ rw (value-is, known)
 
-  pub count-unknown : v ≡ Unknown → [] ≡ sentenceOf (toldOf s w m)
-  unfolding toldOf
-  count-unknown unknown = rw (named, value-is, unknown)
+  pub count-unknown : v ≡ Unknown → [] ≡ sentenceOf (countTold (countRegister c) (readOf s (countRegister c)))
+  count-unknown unknown = rw (value-is, unknown)

@@ -1,3 +1,5 @@
+-- arms of several patterns
+pub mod Keys
 -- what is said of conditions
 pub mod Sayings
 -- texts of operands

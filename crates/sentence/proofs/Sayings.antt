@@ -2,17 +2,19 @@
 use Prim.Native.Nat.{ℕ}
 use mathlib.Core.Path.{_≡_, refl, sym, ap, _∙_}
 use mathlib.Core.Bool.{Bool, true, false}
-use mathlib.Core.List.{List, [], _++_, append-nil}
+use mathlib.Core.List.{List, [], _∷_}
 use Rattle.alu.specs.declared.Flag.{Flag}
 use Rattle.alu.specs.declared.Flag.the-variants.{Known, Unknown}
 use Rattle.alu.specs.declared.Flags.{Flags}
 use Rattle.alu.specs.Flags as flags
+use Rattle.isa.specs.declared.Condition.{Condition}
 use Rattle.isa.specs.declared.Condition.the-variants.{E, Ne, L, Ge, Le, G, B, Ae, Be, A, S, Ns, P, Np, O, No}
 use Rattle.sentence_text.specs.Sentence.{joined}
+use Rattle.sentence.specs.declared.Causes.{Causes}
 use Rattle.sentence.specs.declared.Which.{Which}
-use Rattle.sentence.specs.declared.Which.the-variants.{First, Second, Both, Neither}
+use Rattle.sentence.specs.declared.Which.the-variants.{Nothing, Carry, Result, Overflow, Difference, CarryAndResult, ResultAndDifference}
 use Rattle.sentence.specs.Why.{Why}
-use Rattle.sentence.specs.Contracts.{whichOf}
+use Rattle.sentence.specs.Contracts.{whyOf, whereKnown, firstSet, whichOf, whichText}
 use Rattle.sentence.specs.Told.{Told, flagTold, opposite, differ, either, both, flagsTold, conditionTold, sentenceOf}
 use Rattle.sentence.specs.Told.Told.{known, unknown}
 
@@ -39,78 +41,62 @@ differ-told (Known a) (Known b) x y = refl
 differ-told (Known a) Unknown x y = refl
 differ-told Unknown g x y = refl
 
--- the sentence that one of two is set
-abbrev pub chosen : Which → List ℕ → List ℕ → List ℕ
-chosen First x y = x
-chosen Second x y = y
-chosen Both x y = joined x y
-chosen Neither x y = []
+-- told alone where the flag is known
+known-text : (f : Flag) (which : Which) (w : Why) → whichText (whereKnown f which) w ≡ sentenceOf (flagTold f (whichText which w))
+known-text (Known b) which w = refl
+known-text Unknown which w = refl
 
-pub by-choice : (f g : Flag) (x y : List ℕ) {w : Which} → w ≡ whichOf f g → chosen w x y ≡ sentenceOf (either (flagTold f x) (flagTold g y))
-by-choice f g x y {w} is = ap (λ (v : Which). chosen v x y) is ∙ by-flags f g
-  where
-    by-flags : (f g : Flag) → chosen (whichOf f g) x y ≡ sentenceOf (either (flagTold f x) (flagTold g y))
-    by-flags (Known true) (Known b) = refl
-    by-flags (Known true) Unknown = refl
-    by-flags (Known false) (Known true) = refl
-    by-flags (Known false) (Known false) = refl
-    by-flags (Known false) Unknown = refl
-    by-flags Unknown (Known true) = refl
-    by-flags Unknown (Known false) = refl
-    by-flags Unknown Unknown = refl
+-- told by the first of two that is set
+module _ (x y z : Which) (w : Why) (both-is : whichText z w ≡ joined (whichText x w) (whichText y w)) where
+  first-text : (f g : Flag) → whichText (firstSet f g x y z) w ≡ sentenceOf (either (flagTold f (whichText x w)) (flagTold g (whichText y w)))
+  first-text (Known true) (Known b) = refl
+  first-text (Known true) Unknown = refl
+  first-text (Known false) (Known true) = refl
+  first-text (Known false) (Known false) = both-is
+  first-text (Known false) Unknown = refl
+  first-text Unknown (Known true) = refl
+  first-text Unknown (Known false) = refl
+  first-text Unknown Unknown = refl
 
--- where the second is that two flags differ
-pub choice-of-difference : (f sf of : Flag) (x y z : List ℕ) {d : Flag} {w : Which} → d ≡ flags.differ sf of → w ≡ whichOf f d
-    → chosen w x (joined y z) ≡ sentenceOf (either (flagTold f x) (differ (flagTold sf y) (flagTold of z)))
-choice-of-difference f sf of x y z {d} differ-is is =
-    by-choice f d x (joined y z) is
-    ∙ ap (λ (t : Told). sentenceOf (either (flagTold f x) t)) (ap (λ (e : Flag). flagTold e (joined y z)) differ-is ∙ differ-told sf of y z)
+module _ (f : Flags) (causes : Causes) where
+  abbrev w : Why
+  w = whyOf causes
 
--- a difference by itself
-module _ (sf of : Flag) {d : Flag} (y z : List ℕ) (is : d ≡ flags.differ sf of) where
-  told-is : sentenceOf (flagTold d (joined y z)) ≡ sentenceOf (differ (flagTold sf y) (flagTold of z))
-  told-is = ap sentenceOf (ap (λ (e : Flag). flagTold e (joined y z)) is ∙ differ-told sf of y z)
+  abbrev zf : Told
+  zf = flagTold (f .zf) (w .zf)
 
-  pub difference-known : {b : Bool} → d ≡ Known b → joined y z ≡ sentenceOf (differ (flagTold sf y) (flagTold of z))
-  difference-known known-is = ap (λ (e : Flag). sentenceOf (flagTold e (joined y z))) (sym known-is) ∙ told-is
+  abbrev difference : Told
+  difference = differ (flagTold (f .sf) (w .sf)) (flagTold (f .of) (w .of))
 
-  pub difference-unknown : d ≡ Unknown → [] ≡ sentenceOf (differ (flagTold sf y) (flagTold of z))
-  difference-unknown unknown-is = ap (λ (e : Flag). sentenceOf (flagTold e (joined y z))) (sym unknown-is) ∙ told-is
+  difference-text : whichText (whereKnown (flags.differ (f .sf) (f .of)) Difference) w ≡ sentenceOf difference
+  unfolding whyOf
+  difference-text = known-text (flags.differ (f .sf) (f .of)) Difference w ∙ ap sentenceOf (differ-told (f .sf) (f .of) (w .sf) (w .of))
 
--- a text that nothing is added to
-pub joined-alone : (x y : List ℕ) → joined (x ++ []) y ≡ joined x y
-joined-alone x y = rw append-nil
+  less-text : whichText (firstSet (f .zf) (flags.differ (f .sf) (f .of)) Result Difference ResultAndDifference) w ≡ sentenceOf (either zf difference)
+  unfolding whyOf
+  less-text =
+      first-text Result Difference ResultAndDifference w refl (f .zf) (flags.differ (f .sf) (f .of))
+      ∙ ap (λ (t : Told). sentenceOf (either zf t)) (differ-told (f .sf) (f .of) (w .sf) (w .of))
 
--- a condition and its opposite
-module _ (f : Flags) (w : Why) where
-  pub ne-as : sentenceOf (conditionTold E f w) ≡ sentenceOf (conditionTold Ne f w)
-  unfolding conditionTold flagsTold
-  ne-as = same-sentence (flagTold (f .zf) (w .zf))
+  below-text : whichText (firstSet (f .cf) (f .zf) Carry Result CarryAndResult) w ≡ sentenceOf (either (flagTold (f .cf) (w .cf)) zf)
+  below-text = first-text Carry Result CarryAndResult w refl (f .cf) (f .zf)
 
-  pub ge-as : sentenceOf (conditionTold L f w) ≡ sentenceOf (conditionTold Ge f w)
-  unfolding conditionTold flagsTold
-  ge-as = same-sentence (differ (flagTold (f .sf) (w .sf)) (flagTold (f .of) (w .of)))
-
-  pub g-as : sentenceOf (conditionTold Le f w) ≡ sentenceOf (conditionTold G f w)
-  unfolding conditionTold flagsTold
-  g-as = both-sentence (flagTold (f .zf) (w .zf)) (differ (flagTold (f .sf) (w .sf)) (flagTold (f .of) (w .of)))
-
-  pub ae-as : sentenceOf (conditionTold B f w) ≡ sentenceOf (conditionTold Ae f w)
-  unfolding conditionTold flagsTold
-  ae-as = same-sentence (flagTold (f .cf) (w .cf))
-
-  pub a-as : sentenceOf (conditionTold Be f w) ≡ sentenceOf (conditionTold A f w)
-  unfolding conditionTold flagsTold
-  a-as = both-sentence (flagTold (f .cf) (w .cf)) (flagTold (f .zf) (w .zf))
-
-  pub ns-as : sentenceOf (conditionTold S f w) ≡ sentenceOf (conditionTold Ns f w)
-  unfolding conditionTold flagsTold
-  ns-as = same-sentence (flagTold (f .sf) (w .sf))
-
-  pub np-as : sentenceOf (conditionTold P f w) ≡ sentenceOf (conditionTold Np f w)
-  unfolding conditionTold flagsTold
-  np-as = same-sentence (flagTold (f .pf) (w .pf))
-
-  pub no-as : sentenceOf (conditionTold O f w) ≡ sentenceOf (conditionTold No f w)
-  unfolding conditionTold flagsTold
-  no-as = same-sentence (flagTold (f .of) (w .of))
+  -- The causes that tell of a condition have its sentence.
+  pub which-text : (c : Condition) → whichText (whichOf c f) w ≡ sentenceOf (conditionTold c f w)
+  unfolding whyOf whichOf conditionTold flagsTold
+  which-text E = known-text (f .zf) Result w
+  which-text Ne = known-text (f .zf) Result w ∙ same-sentence zf
+  which-text L = difference-text
+  which-text Ge = difference-text ∙ same-sentence difference
+  which-text Le = less-text
+  which-text G = less-text ∙ both-sentence zf difference
+  which-text B = known-text (f .cf) Carry w
+  which-text Ae = known-text (f .cf) Carry w ∙ same-sentence (flagTold (f .cf) (w .cf))
+  which-text Be = below-text
+  which-text A = below-text ∙ both-sentence (flagTold (f .cf) (w .cf)) zf
+  which-text S = known-text (f .sf) Result w
+  which-text Ns = known-text (f .sf) Result w ∙ same-sentence (flagTold (f .sf) (w .sf))
+  which-text P = known-text (f .pf) Result w
+  which-text Np = known-text (f .pf) Result w ∙ same-sentence (flagTold (f .pf) (w .pf))
+  which-text O = known-text (f .of) Overflow w
+  which-text No = known-text (f .of) Overflow w ∙ same-sentence (flagTold (f .of) (w .of))

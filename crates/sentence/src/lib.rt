@@ -5,6 +5,7 @@ use alu::Flags;
 use isa::Binary;
 use isa::CarryChange;
 use isa::Condition;
+use isa::Counter;
 use isa::Instruction;
 use isa::Mnemonic;
 use isa::Operand;
@@ -15,16 +16,15 @@ use machine::Registers;
 use phrase::Cause;
 use sentence_text::Said;
 ghost use mathlib.Core.Path.{_≡_};
-ghost use mathlib.Core.List.{_++_};
 ghost use Prim.Native.Nat.{_+_, _^_, _<_, _≤_};
-ghost use Rattle.alu.specs.Flags.{differ};
 ghost use Rattle.machine.specs.States.{stateOf};
+ghost use Rattle.machine.specs.Registers.{readOf};
+ghost use Rattle.machine.specs.Conditions.{countRegister};
 ghost use Rattle.phrase.specs.Causes.{causeText};
-ghost use Rattle.sentence_text.specs.Sentence.{joined, turnedTimes};
 ghost use Rattle.sentence_text.specs.Contracts.{saidText, turnsOf};
 ghost use Rattle.sentence.specs.Why.{Why, every, noWhy, carryWhy, itselfWhy, operandsText, isLogical, unknownWhy, onValues, arithWhy, aloneWhy, onValue, unaryWhy, arithFirst, unaryFirst, whyStepped};
-ghost use Rattle.sentence.specs.Told.{flagTold, differ as differTold, either as eitherTold, conditionTold, toldOf, sentenceOf};
-ghost use Rattle.sentence.specs.Contracts.{whyOf, whichOf};
+ghost use Rattle.sentence.specs.Told.{countTold, toldOf, sentenceOf};
+ghost use Rattle.sentence.specs.Contracts.{whyOf, whereKnown, firstSet, whichOf, whichText};
 
 // The causes of the flags' values: one for ZF, SF and PF, one for OF, and one for CF with the number of cmc after it. A cause means nothing where its
 // flag is unknown.
@@ -99,13 +99,9 @@ fn itself_cause(op: Binary, d: Register) -> Cause
     ensures { λ r. ⌜ causeText r ≡ itselfWhy op d ⌝ }
 {
     match op {
-        Binary::Add => Cause::Nothing,
-        Binary::Sub => Cause::Value(d, 0),
+        Binary::Sub | Binary::Xor => Cause::Value(d, 0),
         Binary::Cmp => Cause::Itself(d),
-        Binary::And => Cause::Nothing,
-        Binary::Or => Cause::Nothing,
-        Binary::Xor => Cause::Value(d, 0),
-        Binary::Test => Cause::Nothing,
+        Binary::Add | Binary::And | Binary::Or | Binary::Test => Cause::Nothing,
     }
 }
 
@@ -114,7 +110,6 @@ fn operands_cause(d: Register, a: u64, o: Operand, b: u64) -> Cause
     ensures { λ r. ⌜ causeText r ≡ operandsText d a o b ⌝ }
 {
     match o {
-        Operand::Absent => Cause::Value(d, a),
         Operand::Reg(r) => {
             if machine::is_same(d, o) {
                 Cause::Value(d, a)
@@ -122,8 +117,7 @@ fn operands_cause(d: Register, a: u64, o: Operand, b: u64) -> Cause
                 Cause::Values(d, a, r, b)
             }
         }
-        Operand::Imm(_) => Cause::Value(d, a),
-        Operand::Mem => Cause::Value(d, a),
+        Operand::Absent | Operand::Imm(_) | Operand::Mem => Cause::Value(d, a),
     }
 }
 
@@ -132,13 +126,8 @@ fn is_logical(op: Binary) -> bool
     ensures { λ r. ⌜ r ≡ isLogical op ⌝ }
 {
     match op {
-        Binary::Add => false,
-        Binary::Sub => false,
-        Binary::Cmp => false,
-        Binary::And => true,
-        Binary::Or => true,
-        Binary::Xor => true,
-        Binary::Test => true,
+        Binary::Add | Binary::Sub | Binary::Cmp => false,
+        Binary::And | Binary::Or | Binary::Xor | Binary::Test => true,
     }
 }
 
@@ -199,13 +188,7 @@ fn alone_causes(causes: Causes, op: Unary, cause: Cause) -> Causes
     let carry = causes.carry;
     let turns = causes.turns;
     match op {
-        Unary::Inc => Causes {
-            result: cause,
-            overflow: cause,
-            carry,
-            turns,
-        },
-        Unary::Dec => Causes {
+        Unary::Inc | Unary::Dec => Causes {
             result: cause,
             overflow: cause,
             carry,
@@ -238,10 +221,8 @@ fn arith_first(
     ensures { λ r. ⌜ r .turns ≤ causes .turns ⌝ }
 {
     match first {
-        Operand::Absent => causes,
         Operand::Reg(d) => arith_causes(registers, causes, op, d, o),
-        Operand::Imm(_) => causes,
-        Operand::Mem => causes,
+        Operand::Absent | Operand::Imm(_) | Operand::Mem => causes,
     }
 }
 
@@ -250,10 +231,8 @@ fn unary_first(registers: &Registers, causes: Causes, op: Unary, first: Operand)
     ensures { λ r. ⌜ r .turns ≤ causes .turns ⌝ }
 {
     match first {
-        Operand::Absent => causes,
         Operand::Reg(d) => unary_causes(registers, causes, op, d),
-        Operand::Imm(_) => causes,
-        Operand::Mem => causes,
+        Operand::Absent | Operand::Imm(_) | Operand::Mem => causes,
     }
 }
 
@@ -270,133 +249,128 @@ pub fn causes_after(registers: &Registers, causes: Causes, i: Instruction) -> Ca
     let first = i.first;
     let second = i.second;
     match m {
-        Mnemonic::Other => causes,
         Mnemonic::Carry(c) => carry_causes(causes, c),
-        Mnemonic::Mov => causes,
-        Mnemonic::Not => causes,
         Mnemonic::TwoOperand(op) => arith_first(registers, causes, op, first, second),
         Mnemonic::OneOperand(op) => unary_first(registers, causes, op, first),
-        Mnemonic::Jump(_) => causes,
-        Mnemonic::CountJump(_) => causes,
+        Mnemonic::Other
+        | Mnemonic::Mov
+        | Mnemonic::Not
+        | Mnemonic::Jump(_)
+        | Mnemonic::CountJump(_) => causes,
     }
 }
 
-// A flag's cause, where the flag is known.
-fn one(f: Flag, cause: Cause, turns: u64) -> Said
-    ensures { λ r. ⌜ saidText r ≡ sentenceOf (flagTold f (causeText cause ++ turnedTimes turns)) ⌝ }
-    ensures { λ r. ⌜ turnsOf r ≤ turns ⌝ }
+// Which causes tell of a condition: none, one, two of them joined, or that of the result joined with those of a difference.
+enum Which {
+    Nothing,
+    Carry,
+    Result,
+    Overflow,
+    // SF with OF
+    Difference,
+    CarryAndResult,
+    ResultAndDifference,
+}
+
+// One flag: its cause, where it is known.
+fn alone(f: Flag, which: Which) -> Which
+    ensures { λ r. ⌜ r ≡ whereKnown f which ⌝ }
 {
     match f {
-        Flag::Known(_) => Said::One(cause, turns),
-        Flag::Unknown => Said::Nothing,
+        Flag::Known(_) => which,
+        Flag::Unknown => Which::Nothing,
     }
 }
 
-// SF and OF differ: both are told, where both are known.
-fn differ_said(sf: Flag, of: Flag, causes: Causes) -> Said
-    ensures { λ r. ⌜ saidText r ≡ sentenceOf (differTold (flagTold sf (whyOf causes .sf)) (flagTold of (whyOf causes .of))) ⌝ }
-    ensures { λ r. ⌜ turnsOf r ≤ 0 ⌝ }
-{
-    let result = causes.result;
-    let overflow = causes.overflow;
-    let differ = alu::differ_in(sf, of);
-    match differ {
-        Flag::Known(_) => Said::Joined(result, 0, overflow),
-        Flag::Unknown => Said::Nothing,
-    }
-}
-
-// Which of two flags tells that one of them is set.
-enum Which {
-    First,
-    Second,
-    Both,
-    Neither,
-}
-
-// The first that is set; both where they are clear.
-fn choose(f: Flag, g: Flag) -> Which
-    ensures { λ r. ⌜ r ≡ whichOf f g ⌝ }
+// One of two flags is set: the cause of the first that is; both where they are clear.
+fn first_set(f: Flag, g: Flag, first: Which, second: Which, both: Which) -> Which
+    ensures { λ r. ⌜ r ≡ firstSet f g first second both ⌝ }
 {
     match f {
         Flag::Known(a) => {
             if a {
-                return Which::First;
+                return first;
             }
             match g {
-                Flag::Known(b) => { if b { Which::Second } else { Which::Both } }
-                Flag::Unknown => Which::Neither,
+                Flag::Known(b) => { if b { second } else { both } }
+                Flag::Unknown => Which::Nothing,
             }
         }
         Flag::Unknown => match g {
-            Flag::Known(b) => { if b { Which::Second } else { Which::Neither } }
-            Flag::Unknown => Which::Neither,
+            Flag::Known(b) => { if b { second } else { Which::Nothing } }
+            Flag::Unknown => Which::Nothing,
         },
     }
 }
 
-// CF or ZF is set.
-fn below_or_equal(cf: Flag, zf: Flag, causes: Causes) -> Said
-    ensures { λ r. ⌜ saidText r ≡ sentenceOf (eitherTold (flagTold cf (whyOf causes .cf)) (flagTold zf (whyOf causes .zf))) ⌝ }
-    ensures { λ r. ⌜ turnsOf r ≤ causes .turns ⌝ }
-{
-    let carry = causes.carry;
-    let result = causes.result;
-    let which = choose(cf, zf);
-    match which {
-        Which::First => Said::One(carry, causes.turns),
-        Which::Second => Said::One(result, 0),
-        Which::Both => Said::Joined(carry, causes.turns, result),
-        Which::Neither => Said::Nothing,
-    }
-}
-
-// ZF is set, or SF and OF differ.
-fn less_or_equal(zf: Flag, sf: Flag, of: Flag, causes: Causes) -> Said
-    ensures { λ r. ⌜ saidText r ≡ sentenceOf (eitherTold (flagTold zf (whyOf causes .zf)) (differTold (flagTold sf (whyOf causes .sf)) (flagTold of (whyOf causes .of)))) ⌝ }
-    ensures { λ r. ⌜ turnsOf r ≤ 0 ⌝ }
-{
-    let result = causes.result;
-    let overflow = causes.overflow;
-    let which = choose(zf, alu::differ_in(sf, of));
-    match which {
-        Which::First => Said::One(result, 0),
-        Which::Second => Said::Joined(result, 0, overflow),
-        Which::Both => Said::Nested(result, overflow),
-        Which::Neither => Said::Nothing,
-    }
-}
-
-// What the flags say of a condition; the opposite condition has the same sentence.
-fn flags_said(c: Condition, flags: Flags, causes: Causes) -> Said
-    ensures { λ r. ⌜ saidText r ≡ sentenceOf (conditionTold c flags (whyOf causes)) ⌝ }
-    ensures { λ r. ⌜ turnsOf r ≤ causes .turns ⌝ }
+// A condition and its opposite are told alike.
+fn which_of(c: Condition, flags: Flags) -> Which
+    ensures { λ r. ⌜ r ≡ whichOf c flags ⌝ }
 {
     let cf = flags.cf;
     let pf = flags.pf;
     let zf = flags.zf;
     let sf = flags.sf;
     let of = flags.of;
+    match c {
+        Condition::E | Condition::Ne => alone(zf, Which::Result),
+        Condition::L | Condition::Ge => alone(alu::differ_in(sf, of), Which::Difference),
+        Condition::Le | Condition::G => first_set(
+            zf,
+            alu::differ_in(sf, of),
+            Which::Result,
+            Which::Difference,
+            Which::ResultAndDifference,
+        ),
+        Condition::B | Condition::Ae => alone(cf, Which::Carry),
+        Condition::Be | Condition::A => first_set(
+            cf,
+            zf,
+            Which::Carry,
+            Which::Result,
+            Which::CarryAndResult,
+        ),
+        Condition::S | Condition::Ns => alone(sf, Which::Result),
+        Condition::P | Condition::Np => alone(pf, Which::Result),
+        Condition::O | Condition::No => alone(of, Which::Overflow),
+    }
+}
+
+// What those causes say.
+fn said(which: Which, causes: Causes) -> Said
+    ensures { λ r. ⌜ saidText r ≡ whichText which (whyOf causes) ⌝ }
+    ensures { λ r. ⌜ turnsOf r ≤ causes .turns ⌝ }
+{
     let result = causes.result;
     let overflow = causes.overflow;
     let carry = causes.carry;
-    match c {
-        Condition::E => one(zf, result, 0),
-        Condition::Ne => one(zf, result, 0),
-        Condition::L => differ_said(sf, of, causes),
-        Condition::Ge => differ_said(sf, of, causes),
-        Condition::Le => less_or_equal(zf, sf, of, causes),
-        Condition::G => less_or_equal(zf, sf, of, causes),
-        Condition::B => one(cf, carry, causes.turns),
-        Condition::Ae => one(cf, carry, causes.turns),
-        Condition::Be => below_or_equal(cf, zf, causes),
-        Condition::A => below_or_equal(cf, zf, causes),
-        Condition::S => one(sf, result, 0),
-        Condition::Ns => one(sf, result, 0),
-        Condition::P => one(pf, result, 0),
-        Condition::Np => one(pf, result, 0),
-        Condition::O => one(of, overflow, 0),
-        Condition::No => one(of, overflow, 0),
+    let turns = causes.turns;
+    match which {
+        Which::Nothing => Said::Nothing,
+        Which::Carry => Said::One(carry, turns),
+        Which::Result => Said::One(result, 0),
+        Which::Overflow => Said::One(overflow, 0),
+        Which::Difference => Said::Joined(result, 0, overflow),
+        Which::CarryAndResult => Said::Joined(carry, turns, result),
+        Which::ResultAndDifference => Said::Nested(result, overflow),
+    }
+}
+
+// A count-register jump: the value that it reads, where it is known.
+fn count_said(registers: &Registers, c: Counter) -> Said
+    ensures { λ r. ⌜ ((f : Flags) → saidText r ≡ sentenceOf (countTold (countRegister c) (readOf (stateOf (now (registers .entry)) f) (countRegister c)))) ⌝ }
+    ensures { λ r. ⌜ turnsOf r ≡ 0 ⌝ }
+{
+    let r = Register {
+        class: 1,
+        index: 1,
+        size: machine::count_size(c),
+        offset: 0,
+    };
+    let v = machine::read(registers, r);
+    match v {
+        Value::Known(x) => Said::One(Cause::Value(r, x), 0),
+        Value::Unknown => Said::Nothing,
     }
 }
 
@@ -406,25 +380,13 @@ pub fn jump_said(registers: &Registers, flags: Flags, causes: Causes, m: Mnemoni
     ensures { λ r. ⌜ turnsOf r ≤ causes .turns ⌝ }
 {
     match m {
-        Mnemonic::Other => Said::Nothing,
-        Mnemonic::Carry(_) => Said::Nothing,
-        Mnemonic::Mov => Said::Nothing,
-        Mnemonic::Not => Said::Nothing,
-        Mnemonic::TwoOperand(_) => Said::Nothing,
-        Mnemonic::OneOperand(_) => Said::Nothing,
-        Mnemonic::Jump(c) => flags_said(c, flags, causes),
-        Mnemonic::CountJump(c) => {
-            let r = Register {
-                class: 1,
-                index: 1,
-                size: machine::count_size(c),
-                offset: 0,
-            };
-            let v = machine::read(registers, r);
-            match v {
-                Value::Known(x) => Said::One(Cause::Value(r, x), 0),
-                Value::Unknown => Said::Nothing,
-            }
-        }
+        Mnemonic::Jump(c) => said(which_of(c, flags), causes),
+        Mnemonic::CountJump(c) => count_said(registers, c),
+        Mnemonic::Other
+        | Mnemonic::Carry(_)
+        | Mnemonic::Mov
+        | Mnemonic::Not
+        | Mnemonic::TwoOperand(_)
+        | Mnemonic::OneOperand(_) => Said::Nothing,
     }
 }

@@ -1,4 +1,9 @@
+use Rattle.sentence.proofs.Keys.{of-binary}
+use Rattle.sentence.specs.Why.{itselfWhy}
+use Rattle.isa.specs.declared.Binary.{Binary}
 use Rattle.phrase.specs.Causes.{causeText}
+use mathlib.Core.Path.{refl}
+use mathlib.Core.List.{[], _∷_}
 use borrow.Author.Needs.{needs}
 use Rattle.sentence.proofs.itself_cause.Statement.{statement}
 use Rattle.sentence.proofs.itself_cause.Tie as tie
@@ -6,67 +11,17 @@ use Rattle.sentence.proofs.itself_cause.Tie as tie
 enum-told : tie.Need-enum-told
 enum-told c = search needs
 
-enum-told-2 : tie.Need-enum-told-2
-enum-told-2 c = search needs
-
-enum-told-3 : tie.Need-enum-told-3
-enum-told-3 c = search needs
-
-enum-told-4 : tie.Need-enum-told-4
-enum-told-4 c = search needs
-
-enum-told-5 : tie.Need-enum-told-5
-enum-told-5 c = search needs
-
-enum-told-6 : tie.Need-enum-told-6
-enum-told-6 c = search needs
-
-enum-told-7 : tie.Need-enum-told-7
-enum-told-7 c = search needs
-
 returns : tie.Need-returns
 unfolding causeText
-returns c = rw (c .enum-told .given .1)
+returns c = of-binary (λ (op : Binary). itselfWhy op (c .before .args .d)) (1 ∷ 5 ∷ []) (c .before .args .op) (c .match .keys1) (refl, (refl, tt))
 
 returns-2 : tie.Need-returns-2
 unfolding causeText
-returns-2 c = rw (c .enum-told2 .given .1)
+returns-2 c = rw (c .enum-told .given .1)
 
 returns-3 : tie.Need-returns-3
 unfolding causeText
-returns-3 c = rw (c .enum-told3 .given .1)
-
-returns-4 : tie.Need-returns-4
-unfolding causeText
-returns-4 c = rw (c .enum-told4 .given .1)
-
-returns-5 : tie.Need-returns-5
-unfolding causeText
-returns-5 c = rw (c .enum-told5 .given .1)
-
-returns-6 : tie.Need-returns-6
-unfolding causeText
-returns-6 c = rw (c .enum-told6 .given .1)
-
-returns-7 : tie.Need-returns-7
-unfolding causeText
-returns-7 c = rw (c .enum-told7 .given .1)
+returns-3 c = of-binary (λ (op : Binary). itselfWhy op (c .before .args .d)) (0 ∷ 3 ∷ 4 ∷ 6 ∷ []) (c .before .args .op) (c .match .keys3) (refl, (refl, (refl, (refl, tt))))
 
 pub itself-cause-spec : {M : Type 1} → statement M
-itself-cause-spec =
-    tie.close
-    (tie.spec
-    enum-told
-    enum-told-2
-    enum-told-3
-    enum-told-4
-    enum-told-5
-    enum-told-6
-    enum-told-7
-    returns
-    returns-2
-    returns-3
-    returns-4
-    returns-5
-    returns-6
-    returns-7)
+itself-cause-spec = tie.close (tie.spec enum-told returns returns-2 returns-3)
