@@ -18,10 +18,12 @@ to = $(DESTDIR)$(PREFIX)
 all: library program command
 
 library:
-	rt check pomthija
+	rt check pomthija pomthija_sentence
 	rt staticlib pomthija
+	rt staticlib pomthija_sentence
 	mkdir -p build
 	cp target/staticlib/libpomthija.a build/
+	cd build && $(AR) x ../target/staticlib/libpomthija_sentence.a && $(AR) r libpomthija.a pomthija_sentence.o && rm pomthija_sentence.o
 	$(CC) -shared -Wl,-soname,libpomthija.so.$(VERSION) -Wl,--whole-archive build/libpomthija.a -Wl,--no-whole-archive -o build/libpomthija.so
 
 program:

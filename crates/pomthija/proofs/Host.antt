@@ -13,10 +13,7 @@ use Rattle.answer_node.proofs.Judged.{always-judged}
 use Rattle.answer_listing.specs.declared.Listed.{Listed}
 use Rattle.answer_listing.specs.declared.Listed.the-variants as listed
 use Rattle.answer_listing.specs.Listing.{Listing, Gives}
-use Rattle.answer_sentence.specs.declared.Told.{Told}
-use Rattle.answer_sentence.specs.declared.Told.the-variants as told
-use Rattle.answer_sentence.specs.Sentence.{Answered, Gives as Tells}
-use Rattle.pomthija.specs.Returned.{ReturnedListing, ReturnedSentence, ReturnedVerdict}
+use Rattle.pomthija.specs.Returned.{ReturnedListing, ReturnedVerdict}
 
 -- the listing
 module _ (l : Listing) (r : Listed) (after : List ℕ) (gives : Gives r after l) where
@@ -25,14 +22,6 @@ module _ (l : Listing) (r : Listed) (after : List ℕ) (gives : Gives r after l)
 
   pub returned-refusal : {k at : ℕ} → r ≡ listed.Refused k at → ReturnedListing k at (l .answer) × (after ≡ l .list)
   returned-refusal is = (rw (← gives .0, is) (refl, refl), gives .1)
-
--- the sentence
-module _ (a : Answered) (r : Told) (after : List ℕ) (gives : Tells r after a) where
-  pub returned-length : {n : ℕ} → r ≡ told.Length n → ReturnedSentence 0 n (a .answer) × (after ≡ a .text)
-  returned-length is = (rw (← gives .0, is) (refl, refl), gives .1)
-
-  pub returned-untold : {k at : ℕ} → r ≡ told.Refused k at → ReturnedSentence k at (a .answer) × (after ≡ a .text)
-  returned-untold is = (rw (← gives .0, is) (refl, refl), gives .1)
 
 -- the node verdict
 module _ (s : List ℕ) (number : ℕ) (a : Answer) (gives : answerNumbers a ≡ nodeAnswer s number) {v : Verdict} where

@@ -5,8 +5,6 @@ use Rattle.verdict.specs.Numbers.{Numbers}
 use Rattle.verdict.specs.Numbers.Numbers.{decision, undecided, noBranch, refused as refusedVerdict}
 use Rattle.answer_listing.specs.Listing.{ListedNumbers}
 use Rattle.answer_listing.specs.Listing.ListedNumbers.{lines, refused as refusedListing}
-use Rattle.answer_sentence.specs.Sentence.{ToldNumbers}
-use Rattle.answer_sentence.specs.Sentence.ToldNumbers.{long, refused as refusedSentence}
 use Rattle.answer_evaluation.specs.Evaluation.{Evaluated}
 use Rattle.answer_evaluation.specs.Evaluation.Evaluated.{outcome, refused}
 
@@ -27,11 +25,6 @@ ReturnedVerdict r out reason (decision value number) = (r ≡ 0) × (out ≡ val
 ReturnedVerdict r out reason undecided = (r ≡ 0) × (out ≡ 2) × (reason ≡ 0)
 ReturnedVerdict r out reason noBranch = ⊥
 ReturnedVerdict r out reason (refusedVerdict number place) = (r ≡ number) × (out ≡ place) × (reason ≡ 0)
-
--- The sentence: 0 and its length, or the refusal's number and offset (R1, D3, W18).
-abbrev pub ReturnedSentence : ℕ → ℕ → ToldNumbers → Type 0
-ReturnedSentence r out (long length) = (r ≡ 0) × (out ≡ length)
-ReturnedSentence r out (refusedSentence number place) = (r ≡ number) × (out ≡ place)
 
 -- The number of the C interface, which changes where a host has to change (F4).
 abbrev pub version : ℕ

@@ -1,6 +1,5 @@
 // What C hosts call: each function gives the answer of one operation in numbers.
 use answer_listing::Listed;
-use answer_sentence::Told;
 use evaluate_node::Evaluation;
 use verdict::Answer;
 use verdict::Verdict;
@@ -8,8 +7,7 @@ ghost use mathlib.Core.Path.{_≡_};
 ghost use Rattle.answer_node.specs.Node.{nodeAnswer};
 ghost use Rattle.answer_evaluation.specs.Evaluation.{evaluationAnswer};
 ghost use Rattle.answer_listing.specs.Listing.{listingOf};
-ghost use Rattle.answer_sentence.specs.Sentence.{sentenceAnswer};
-ghost use Rattle.pomthija.specs.Returned.{Returned, ReturnedListing, ReturnedVerdict, ReturnedSentence, version};
+ghost use Rattle.pomthija.specs.Returned.{Returned, ReturnedListing, ReturnedVerdict, version};
 
 // The number of the interface, POMTHIJA_VERSION of the header that belongs to it.
 #[no_mangle]
@@ -94,24 +92,6 @@ pub extern "C" fn pomthija_evaluation(s: &[u8], number: u64, values: &[u64], out
             0
         }
         Evaluation::Refused(k, at) => {
-            *out = at as u64;
-            k
-        }
-    }
-}
-
-// The sentence of a block's verdict: 0, with its length in `out`; or the refusal's number, with its offset in `out`.
-#[no_mangle]
-pub extern "C" fn pomthija_sentence(s: &[u8], block: u64, text: &mut [u8], out: &mut u64) -> u64
-    ensures { λ r. ⌜ ReturnedSentence r (now (out .exit)) (sentenceAnswer (now (s .entry)) block (now (text .entry)) .answer) × (now (text .exit) ≡ sentenceAnswer (now (s .entry)) block (now (text .entry)) .text) ⌝ }
-{
-    let told = answer_sentence::block_sentence(s, block, text);
-    match told {
-        Told::Length(n) => {
-            *out = n as u64;
-            0
-        }
-        Told::Refused(k, at) => {
             *out = at as u64;
             k
         }

@@ -1,8 +1,8 @@
-use Rattle.pomthija.proofs.Host.{returned-length, returned-untold}
+use Rattle.pomthija_sentence.proofs.Host.{returned-length, returned-untold}
 use Rattle.answer_sentence.specs.Sentence.{sentenceAnswer}
 use borrow.Author.Needs.{needs}
-use Rattle.pomthija.proofs.pomthija_sentence.Statement.{statement}
-use Rattle.pomthija.proofs.pomthija_sentence.Tie as tie
+use Rattle.pomthija_sentence.proofs.pomthija_sentence.Statement.{statement}
+use Rattle.pomthija_sentence.proofs.pomthija_sentence.Tie as tie
 
 block-sentence-requires : tie.Need-block-sentence-requires
 block-sentence-requires c κs = search needs
