@@ -1,7 +1,7 @@
 -- The sentence of a count-register jump, by what is read.
 use Prim.Native.Nat.{ℕ}
 use mathlib.Core.Path.{_≡_, sym, ap, _∙_}
-use mathlib.Core.List.{List, [], _++_, append-nil}
+use mathlib.Core.List.{[], _++_, append-nil}
 use Rattle.isa.specs.declared.Register.{Register}
 use Rattle.isa.specs.declared.Counter.{Counter}
 use Rattle.known.specs.declared.Value.{Value}

@@ -1,8 +1,7 @@
 -- Texts of operands and of operations, from what is known of each.
 use Prim.Native.Nat.{ℕ}
-use mathlib.Core.Path.{_≡_, refl, sym, ap, _∙_}
+use mathlib.Core.Path.{_≡_, sym, _∙_}
 use mathlib.Core.Bool.{Bool, true, false, _&&_}
-use mathlib.Core.List.{List}
 use Rattle.isa.specs.declared.Register.{Register}
 use Rattle.isa.specs.declared.Operand.{Operand}
 use Rattle.isa.specs.declared.Operand.the-variants.{Reg}
@@ -15,7 +14,7 @@ use Rattle.machine.specs.declared.State.{State}
 use Rattle.machine.specs.Registers.{readOf, operandOf}
 use Rattle.machine.specs.Rules.{sameRegister}
 use Rattle.phrase.specs.Causes.{valueText, valuesText}
-use Rattle.sentence.specs.Why.{Why, every, itselfWhy, operandsText, unknownWhy, onValues, arithWhy, aloneWhy, onValue, unaryWhy}
+use Rattle.sentence.specs.Why.{Why, every, itselfWhy, operandsText, onValues, arithWhy, aloneWhy, unaryWhy}
 
 -- the same register is named once
 pub operand-same : (d r : Register) (o : Operand) (a b : ℕ) {same : Bool} → o ≡ Reg r → same ≡ sameRegister d (Reg r) → same ≡ true

@@ -1,8 +1,8 @@
 -- The sentences of conditions, by what is told of the flags.
 use Prim.Native.Nat.{ℕ}
-use mathlib.Core.Path.{_≡_, refl, sym, ap, _∙_}
-use mathlib.Core.Bool.{Bool, true, false}
-use mathlib.Core.List.{List, [], _∷_}
+use mathlib.Core.Path.{_≡_, refl, ap, _∙_}
+use mathlib.Core.Bool.{true, false}
+use mathlib.Core.List.{List}
 use Rattle.alu.specs.declared.Flag.{Flag}
 use Rattle.alu.specs.declared.Flag.the-variants.{Known, Unknown}
 use Rattle.alu.specs.declared.Flags.{Flags}
@@ -12,7 +12,7 @@ use Rattle.isa.specs.declared.Condition.the-variants.{E, Ne, L, Ge, Le, G, B, A
 use Rattle.sentence_text.specs.Sentence.{joined}
 use Rattle.sentence.specs.declared.Causes.{Causes}
 use Rattle.sentence.specs.declared.Which.{Which}
-use Rattle.sentence.specs.declared.Which.the-variants.{Nothing, Carry, Result, Overflow, Difference, CarryAndResult, ResultAndDifference}
+use Rattle.sentence.specs.declared.Which.the-variants.{Carry, Result, Overflow, Difference, CarryAndResult, ResultAndDifference}
 use Rattle.sentence.specs.Why.{Why}
 use Rattle.sentence.specs.Contracts.{whyOf, whereKnown, firstSet, whichOf, whichText}
 use Rattle.sentence.specs.Told.{Told, flagTold, opposite, differ, either, both, flagsTold, conditionTold, sentenceOf}

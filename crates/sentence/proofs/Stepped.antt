@@ -1,6 +1,5 @@
 -- An instruction's texts, by its mnemonic.
-use Prim.Native.Nat.{ℕ}
-use mathlib.Core.Path.{_≡_, refl, sym, _∙_}
+use mathlib.Core.Path.{_≡_, refl, sym}
 use mathlib.Core.List.{[], _∷_}
 use types.Run.{OneOf}
 use mir.Val.{hasKey}

@@ -9,7 +9,6 @@ use mathlib.Core.List.{[], _∷_}
 use borrow.Author.Needs.{needs}
 use Rattle.sentence.proofs.alone_causes.Statement.{statement}
 use Rattle.sentence.proofs.alone_causes.Tie as tie
-use Rattle.sentence.proofs.all_of.Reads as all-of-reads
 
 enum-told : tie.Need-enum-told
 enum-told c = search needs

@@ -1,7 +1,5 @@
 use Rattle.sentence.proofs.Operands.{arith-itself, arith-values}
 use Rattle.sentence.specs.Why.{every}
-use Prim.Native.Nat.{ℕ}
-use mathlib.Core.List.{List}
 use mathlib.Core.Bool.{Bool, _&&_}
 use mathlib.Core.Path.{sym, ap, ap₂, _∙_}
 use native.Mathlib.Omega.{arith}

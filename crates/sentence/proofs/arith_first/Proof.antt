@@ -9,7 +9,6 @@ use mathlib.Core.Path.{refl}
 use borrow.Author.Needs.{needs}
 use Rattle.sentence.proofs.arith_first.Statement.{statement}
 use Rattle.sentence.proofs.arith_first.Tie as tie
-use Rattle.sentence.proofs.arith_causes.Reads as arith-causes-reads
 
 enum-known-first : tie.Need-enum-known-first
 enum-known-first c = search needs

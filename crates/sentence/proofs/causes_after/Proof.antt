@@ -5,10 +5,6 @@ use Rattle.sentence.specs.Why.{modelledWhy}
 use borrow.Author.Needs.{needs}
 use Rattle.sentence.proofs.causes_after.Statement.{statement}
 use Rattle.sentence.proofs.causes_after.Tie as tie
-use Rattle.isa.proofs.is_modelled.Reads as is-modelled-reads
-use Rattle.sentence.proofs.arith_first.Reads as arith-first-reads
-use Rattle.sentence.proofs.carry_causes.Reads as carry-causes-reads
-use Rattle.sentence.proofs.unary_first.Reads as unary-first-reads
 
 is-modelled-requires : tie.Need-is-modelled-requires
 is-modelled-requires c κs = search needs

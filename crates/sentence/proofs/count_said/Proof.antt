@@ -6,8 +6,6 @@ use mathlib.Core.Path.{refl}
 use borrow.Author.Needs.{needs}
 use Rattle.sentence.proofs.count_said.Statement.{statement}
 use Rattle.sentence.proofs.count_said.Tie as tie
-use Rattle.machine.proofs.count_size.Reads as count-size-reads
-use Rattle.machine.proofs.read.Reads as read-reads
 
 count-size-requires : tie.Need-count-size-requires
 count-size-requires c κs = search needs

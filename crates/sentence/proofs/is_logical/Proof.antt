@@ -2,7 +2,6 @@ use Rattle.sentence.proofs.Keys.{of-binary}
 use Rattle.sentence.specs.Why.{isLogical}
 use mathlib.Core.Path.{refl}
 use mathlib.Core.List.{[], _∷_}
-use mathlib.Core.Bool.{true, false}
 use Rattle.sentence.proofs.is_logical.Statement.{statement}
 use Rattle.sentence.proofs.is_logical.Tie as tie
 

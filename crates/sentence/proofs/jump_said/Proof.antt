@@ -9,9 +9,6 @@ use mathlib.Core.Path.{_∙_, ap}
 use borrow.Author.Needs.{needs}
 use Rattle.sentence.proofs.jump_said.Statement.{statement}
 use Rattle.sentence.proofs.jump_said.Tie as tie
-use Rattle.sentence.proofs.count_said.Reads as count-said-reads
-use Rattle.sentence.proofs.said.Reads as said-reads
-use Rattle.sentence.proofs.which_of.Reads as which-of-reads
 
 enum-known-m : tie.Need-enum-known-m
 enum-known-m c = search needs

@@ -7,7 +7,6 @@ use mathlib.Core.Path.{refl}
 use borrow.Author.Needs.{needs}
 use Rattle.sentence.proofs.operands_cause.Statement.{statement}
 use Rattle.sentence.proofs.operands_cause.Tie as tie
-use Rattle.machine.proofs.is_same.Reads as is-same-reads
 
 enum-known-o : tie.Need-enum-known-o
 enum-known-o c = search needs

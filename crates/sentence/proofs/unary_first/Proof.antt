@@ -9,7 +9,6 @@ use mathlib.Core.Path.{refl}
 use borrow.Author.Needs.{needs}
 use Rattle.sentence.proofs.unary_first.Statement.{statement}
 use Rattle.sentence.proofs.unary_first.Tie as tie
-use Rattle.sentence.proofs.unary_causes.Reads as unary-causes-reads
 
 enum-known-first : tie.Need-enum-known-first
 enum-known-first c = search needs

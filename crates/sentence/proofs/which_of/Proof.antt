@@ -5,9 +5,6 @@ use mathlib.Core.List.{[], _∷_}
 use borrow.Author.Needs.{needs}
 use Rattle.sentence.proofs.which_of.Statement.{statement}
 use Rattle.sentence.proofs.which_of.Tie as tie
-use Rattle.alu.proofs.differ_in.Reads as differ-in-reads
-use Rattle.sentence.proofs.alone.Reads as alone-reads
-use Rattle.sentence.proofs.first_set.Reads as first-set-reads
 
 alone-requires : tie.Need-alone-requires
 alone-requires c κs = search needs
