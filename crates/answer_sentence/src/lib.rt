@@ -37,7 +37,7 @@ struct Reached {
     pub causes: Causes,
 }
 
-// Step over the instructions of an accepted sheet from number `first` up to `end`, where nothing is known of the flags at the start.
+// Step over the instructions of an accepted sheet from number `first` up to `end`, from what is known at their start and no cause of it.
 fn step_over(
     s: &[u8],
     sheet: Sheet,
