@@ -22,7 +22,8 @@ use Rattle.machine.specs.States.{noRegister}
 use Rattle.machine.specs.Registers.{slotAt, wholeOf, forgetRegister, forgetRegisters, forgotten}
 use Rattle.concrete.specs.Concrete.{Status, Processor, Choice, declares, chosen, declaredStatus, byDeclaration}
 use Rattle.concrete.specs.Agreement.{Allows, AllowsValue, FlagsAgree, Agrees}
-use Rattle.concrete.proofs.Registers.{replaced-same, replaced-other, replaced-flags, never}
+use Rattle.concrete.proofs.Registers.{replaced-same, replaced-other, never}
+use Rattle.machine.proofs.Kept.{forgetting-flags}
 use Rattle.laws.proofs.Booleans.{and-left, and-right, byTest}
 
 -- no more is known
@@ -61,10 +62,6 @@ forget-outside : (s : State) (r : Register) (k : ℕ) → eqb (r .class) 1 ≡ f
 unfolding forgetRegister
 forget-outside s r k other = rw other
 
-forget-flags-kept : (s : State) (r : Register) → forgetRegister s r .flags ≡ s .flags
-unfolding forgetRegister
-forget-flags-kept s r = byTest (eqb (r .class) 1) (λ t. rw (t, replaced-flags s (r .index) unmarked)) (λ t. rw t)
-
 forget-there : (s : State) (r : Register) (k : ℕ) → Less (wholeOf (forgetRegister s r) k) (wholeOf s k)
 forget-there s r k =
     byTest (eqb (r .class) 1)
@@ -89,11 +86,6 @@ forgot s rs (suc n) k h =
     rw (eqb-true k (r .index) (and-right (eqb (r .class) 1) _ t))
     (forget-here (forgetRegisters s rs n) r (and-left (eqb (r .class) 1) _ t)))
     (λ t. less-unknown _ _ (forget-there (forgetRegisters s rs n) r k) (forgot s rs n k (rw t at h)))
-
-pub forgetting-flags : (s : State) (rs : List Register) (n : ℕ) → forgetRegisters s rs n .flags ≡ s .flags
-unfolding forgetRegisters
-forgetting-flags s rs zero = refl
-forgetting-flags s rs (suc n) = forget-flags-kept (forgetRegisters s rs n) (getD rs n noRegister) ∙ forgetting-flags s rs n
 
 flag-law : (declared : Bool) (f : Flag) (new old : Bool) → Allows f old → Allows (forgetFlag declared f) (chosen declared new old)
 flag-law true f new old h = tt

@@ -28,6 +28,7 @@ use Rattle.machine.specs.States.{replaced}
 use Rattle.machine.specs.Registers.{slotAt, wholeOf, readOf, written}
 use Rattle.concrete.specs.Concrete.{Processor, value, part, stored, assign}
 use Rattle.concrete.specs.Agreement.{AllowsValue, Agrees}
+use Rattle.machine.proofs.Kept.{written-flags}
 use Rattle.laws.proofs.Booleans.{and-right, byTest}
 
 -- ---- the forms of a register of class 1
@@ -227,14 +228,6 @@ replaced-other s index k slot other =
     rw (t, u, kept k other (λ e. omega arith), kept (16 + k) (λ e. omega arith) (λ e. other (omega arith))))
     (λ u. rw (t, u)))
     (λ t. rw t)
-
-pub replaced-flags : (s : State) (index : ℕ) (slot : Slot) → replaced s index slot .flags ≡ s .flags
-unfolding replaced
-replaced-flags s index slot = byTest (ltb index 16) (λ t. rw t) (λ t. rw t)
-
-pub written-flags : (s : State) (r : Register) (v : Value) → written s r v .flags ≡ s .flags
-unfolding written
-written-flags s r v = byTest (eqb (r .class) 1) (λ t. rw t (replaced-flags s _ _)) (λ t. rw t)
 
 assign-status : (p : Processor) (r : Register) (x : ℕ) → assign p r x .status ≡ p .status
 unfolding assign

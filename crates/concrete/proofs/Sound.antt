@@ -27,6 +27,7 @@ use Rattle.isa.specs.declared.Instruction.{Instruction}
 use Rattle.isa.specs.FlagBits as bit
 use Rattle.isa.specs.Register.{wellFormed}
 use Rattle.isa.specs.Modelled.{modelled, sizesDiffer, outside, isMov, declaresResult, declaresOwn, undeclared}
+use Rattle.machine.proofs.Declared.{result-parts}
 use Rattle.alu.specs.declared.Flag.{Flag}
 use Rattle.alu.specs.declared.Flags.{Flags}
 use Rattle.alu.specs.declared.Width.{Width}
@@ -50,7 +51,7 @@ use Rattle.concrete.proofs.Registers.{Form, low-byte, high-byte, word, 
 use Rattle.concrete.proofs.Forget.{less-known, less-both, forgets, forgotten-agrees}
 use Rattle.concrete.proofs.Effects.{right, alone-matches, alone-below, EffectAgrees, arith-agrees, kept-agrees}
 use Rattle.alu.specs.declared.Flag.the-variants as flag
-use Rattle.laws.proofs.Booleans.{and-left, and-right, or-left, or-right, byTest}
+use Rattle.laws.proofs.Booleans.{and-left, or-left, or-right, byTest}
 
 -- ---- operands
 
@@ -152,17 +153,13 @@ forgot-result : (d : ℕ) (f : Flags) (carry : Flag) (g : Status) → Allows car
     → FlagsAgree (withCarry (forgetFlags d f) carry) g
 unfolding forgetFlags
 forgot-result d f carry g h declared =
-    let pf = bit.declares d bit.PF in
-    let zf = bit.declares d bit.ZF in
-    let sf = bit.declares d bit.SF in
-    let three = and-left (pf && zf && sf) (bit.declares d bit.OF) declared in
-    let two = and-left (pf && zf) sf three in
+    let each = result-parts d declared in
     record {
       cf = h;
-      pf = forgot-flag pf (f .pf) (g .pf) (and-left pf zf two);
-      zf = forgot-flag zf (f .zf) (g .zf) (and-right pf zf two);
-      sf = forgot-flag sf (f .sf) (g .sf) (and-right (pf && zf) sf three);
-      of = forgot-flag (bit.declares d bit.OF) (f .of) (g .of) (and-right (pf && zf && sf) (bit.declares d bit.OF) declared);
+      pf = forgot-flag (bit.declares d bit.PF) (f .pf) (g .pf) (each .pf);
+      zf = forgot-flag (bit.declares d bit.ZF) (f .zf) (g .zf) (each .zf);
+      sf = forgot-flag (bit.declares d bit.SF) (f .sf) (g .sf) (each .sf);
+      of = forgot-flag (bit.declares d bit.OF) (f .of) (g .of) (each .of);
     }
 
 -- inc and dec keep CF, neg leaves it unknown
