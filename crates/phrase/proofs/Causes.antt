@@ -1,60 +1,59 @@
 -- The texts of causes.
 use Prim.Native.Nat.{ℕ, _≤_}
 use mathlib.Core.Path.{_≡_, refl, ap, _∙_}
-use mathlib.Core.Logic.{_⊎_, inl, inr}
+use mathlib.Core.Logic.{_⊎_, inl, inr, ⊎-elim}
 use mathlib.Core.List.{List, [], _∷_, _++_}
 use native.Mathlib.Omega.{arith}
 use denote.Enum.Declared.{tagOf, declared}
-use lib.ListN.{length, length-append}
 use Rattle.text.specs.Ascii.{ascii}
+use Rattle.isa.specs.declared.Register.{Register}
+use Rattle.isa.specs.declared.Binary.{Binary}
+use Rattle.wording.specs.Names.{registerName, instructionName}
+use Rattle.wording.specs.Values.{isText}
+use Rattle.wording.specs.Texts.{textOf}
 use Rattle.phrase.specs.declared.Cause.{Cause}
 use Rattle.phrase.specs.declared.Cause.the-variants.{Nothing, Stc, Clc, Value, Values, Itself, ClearsCarry, ClearsOverflow}
-use Rattle.phrase.specs.Causes.{valueText, valuesText, itselfText, carryText, overflowText, causeText}
-use Rattle.phrase.specs.Parts.{namedFirst, subject, ending}
+use Rattle.phrase.specs.Causes.{valueText, valuesText, itselfText, carryText, overflowText}
+use Rattle.phrase.specs.Contracts.{namedText, causeText, plainText}
 use Rattle.phrase.proofs.Cause.{enum}
 
--- a cause's text is its subject with its ending
-pub in-two : (c : Cause) → subject c ++ ending c ≡ causeText c
-unfolding subject ending causeText valueText valuesText itselfText carryText overflowText ascii
-in-two Nothing = refl
-in-two Stc = refl
-in-two Clc = refl
-in-two (Value r value) = refl
-in-two (Values r value second other) = refl
-in-two (Itself r) = refl
-in-two (ClearsCarry op) = refl
-in-two (ClearsOverflow op) = refl
+-- a cause without a value
+pub plain-cause : (c : Cause) → (3 ≤ tagOf (declared enum) c → tagOf (declared enum) c ≤ 4 → ⊥) → plainText c ≡ causeText c
+unfolding plainText causeText
+plain-cause Nothing other = refl
+plain-cause Stc other = refl
+plain-cause Clc other = refl
+plain-cause (Value name size value) other = absurd (other (omega arith) (omega arith))
+plain-cause (Values name size value second last) other = absurd (other (omega arith) (omega arith))
+plain-cause (Itself name) other = refl
+plain-cause (ClearsCarry name) other = refl
+plain-cause (ClearsOverflow name) other = refl
 
-pub ending-short : (c : Cause) → length (ending c) ≤ 24
-unfolding ending ascii
-ending-short Nothing = omega arith
-ending-short Stc = omega arith
-ending-short Clc = omega arith
-ending-short (Value r value) = omega arith
-ending-short (Values r value second other) = omega arith
-ending-short (Itself r) = omega arith
-ending-short (ClearsCarry op) = omega arith
-ending-short (ClearsOverflow op) = omega arith
+-- the tags of causes without a value
+pub without-value : {t : ℕ} → (t ≡ 0) ⊎ ((t ≡ 1) ⊎ ((t ≡ 2) ⊎ ((t ≡ 5) ⊎ ((t ≡ 6) ⊎ (t ≡ 7))))) → 3 ≤ t → t ≤ 4 → ⊥
+without-value (inl e) low high = omega (arith, e)
+without-value (inr (inl e)) low high = omega (arith, e)
+without-value (inr (inr (inl e))) low high = omega (arith, e)
+without-value (inr (inr (inr (inl e)))) low high = omega (arith, e)
+without-value (inr (inr (inr (inr (inl e))))) low high = omega (arith, e)
+without-value (inr (inr (inr (inr (inr e))))) low high = omega (arith, e)
 
--- the tags of causes that name no register
-pub plain : {t : ℕ} → (t ≡ 0) ⊎ ((t ≡ 1) ⊎ ((t ≡ 2) ⊎ ((t ≡ 6) ⊎ (t ≡ 7)))) → 3 ≤ t → t ≤ 5 → ⊥
-plain (inl e) low high = omega (arith, e)
-plain (inr (inl e)) low high = omega (arith, e)
-plain (inr (inr (inl e))) low high = omega (arith, e)
-plain (inr (inr (inr (inl e)))) low high = omega (arith, e)
-plain (inr (inr (inr (inr e)))) low high = omega (arith, e)
+-- and of those of which nothing is said here
+tagged : {t : ℕ} (s : ℕ) → (t ≡ 0) ⊎ ((t ≡ 3) ⊎ (t ≡ 4)) → t ≡ s → (s ≡ 0 → ⊥) → (s ≡ 3 → ⊥) → (s ≡ 4 → ⊥) → ⊥
+tagged s (inl e) is zero′ three four = zero′ (omega (arith, e, is))
+tagged s (inr (inl e)) is zero′ three four = three (omega (arith, e, is))
+tagged s (inr (inr e)) is zero′ three four = four (omega (arith, e, is))
 
--- without a register the subject is the instruction's name
-pub plain-subject : (c : Cause) → (3 ≤ tagOf (declared enum) c → tagOf (declared enum) c ≤ 5 → ⊥) → namedFirst c ≡ subject c
-unfolding namedFirst subject
-plain-subject Nothing other = refl
-plain-subject Stc other = refl
-plain-subject Clc other = refl
-plain-subject (Value r value) other = absurd (other (omega arith) (omega arith))
-plain-subject (Values r value second last) other = absurd (other (omega arith) (omega arith))
-plain-subject (Itself r) other = absurd (other (omega arith) (omega arith))
-plain-subject (ClearsCarry op) other = refl
-plain-subject (ClearsOverflow op) other = refl
+pub nothing-plain : (c : Cause) → (tagOf (declared enum) c ≡ 0) ⊎ ((tagOf (declared enum) c ≡ 3) ⊎ (tagOf (declared enum) c ≡ 4)) → plainText c ≡ []
+unfolding plainText
+nothing-plain Nothing k = refl
+nothing-plain Stc k = absurd (tagged 1 k refl (λ e. omega (arith, e)) (λ e. omega (arith, e)) (λ e. omega (arith, e)))
+nothing-plain Clc k = absurd (tagged 2 k refl (λ e. omega (arith, e)) (λ e. omega (arith, e)) (λ e. omega (arith, e)))
+nothing-plain (Value name size value) k = refl
+nothing-plain (Values name size value second last) k = refl
+nothing-plain (Itself name) k = absurd (tagged 5 k refl (λ e. omega (arith, e)) (λ e. omega (arith, e)) (λ e. omega (arith, e)))
+nothing-plain (ClearsCarry name) k = absurd (tagged 6 k refl (λ e. omega (arith, e)) (λ e. omega (arith, e)) (λ e. omega (arith, e)))
+nothing-plain (ClearsOverflow name) k = absurd (tagged 7 k refl (λ e. omega (arith, e)) (λ e. omega (arith, e)) (λ e. omega (arith, e)))
 
 -- the last byte, 0 where there is none
 last : List ℕ → ℕ
@@ -68,33 +67,45 @@ last-behind [] x rest = refl
 last-behind (y ∷ []) x rest = refl
 last-behind (y ∷ (z ∷ a)) x rest = last-behind (z ∷ a) x rest
 
--- no cause's text ends as a text does that cmc has turned round
-not-d : (c : Cause) → last (subject c ++ ending c) ≡ 100 → ⊥
-unfolding subject ending ascii last
-not-d Nothing e = omega (arith, e)
-not-d Stc e = omega (arith, e)
-not-d Clc e = omega (arith, e)
-not-d (Value r value) e = omega (arith, last-behind (subject (Value r value)) 32 (ascii "here"), e)
-not-d (Values r value second other) e = omega (arith, last-behind (subject (Values r value second other)) 32 (ascii "here"), e)
-not-d (Itself r) e = omega (arith, last-behind (subject (Itself r)) 32 (ascii "is compared with itself"), e)
-not-d (ClearsCarry op) e = omega (arith, last-behind (subject (ClearsCarry op)) 32 (ascii "clears the carry"), e)
-not-d (ClearsOverflow op) e = omega (arith, last-behind (subject (ClearsOverflow op)) 32 (ascii "clears the overflow"), e)
+-- the text of every cause but none ends with a letter after d
+late : (c : Cause) → (c ≡ Nothing) ⊎ (101 ≤ last (causeText c))
+unfolding causeText ascii last
+late Nothing = inl refl
+late Stc = inr (omega arith)
+late Clc = inr (omega arith)
+late (Value name size value) = inr (omega (arith, last-behind (namedText name size value) 32 (ascii "here")))
+late (Values name size value second other) =
+    inr (omega (arith, last-behind (namedText name size value ++ ascii " and " ++ namedText second size other) 32 (ascii "here")))
+late (Itself name) = inr (omega (arith, last-behind (textOf name) 32 (ascii "is compared with itself")))
+late (ClearsCarry name) = inr (omega (arith, last-behind (textOf name) 32 (ascii "clears the carry")))
+late (ClearsOverflow name) = inr (omega (arith, last-behind (textOf name) 32 (ascii "clears the overflow")))
 
+-- so none ends as a text does that cmc has turned round
 pub not-turned : (c : Cause) (x : List ℕ) → causeText c ≡ x ++ ascii ", and cmc turns it round" → ⊥
-unfolding ascii last
-not-turned c x e = not-d c (ap last (in-two c ∙ e) ∙ last-behind x 44 (ascii " and cmc turns it round"))
+unfolding causeText ascii last
+not-turned c x e =
+    let d : last (causeText c) ≡ 100 = ap last e ∙ last-behind x 44 (ascii " and cmc turns it round") in
+    ⊎-elim (λ none. omega (arith, d, ap (λ (n : Cause). last (causeText n)) none)) (λ more. omega (arith, d, more)) (late c)
 
--- every cause but none has a text
-some-ending : (c : Cause) → (c ≡ Nothing → ⊥) → 1 ≤ length (ending c)
-unfolding ending ascii
-some-ending Nothing other = absurd (other refl)
-some-ending Stc other = omega arith
-some-ending Clc other = omega arith
-some-ending (Value r value) other = omega arith
-some-ending (Values r value second last) other = omega arith
-some-ending (Itself r) other = omega arith
-some-ending (ClearsCarry op) other = omega arith
-some-ending (ClearsOverflow op) other = omega arith
+-- ---- the rules' texts, by their names' numbers
 
-pub some-text : (c : Cause) → (c ≡ Nothing → ⊥) → causeText c ≡ [] → ⊥
-some-text c other e = omega (arith, some-ending c other, length-append (subject c) (ending c), ap length (in-two c ∙ e))
+pub value-is : (name : ℕ) (r : Register) (value : ℕ) → textOf name ≡ registerName r → causeText (Value name (r .size) value) ≡ valueText r value
+unfolding causeText namedText valueText isText
+value-is name r value is = rw is
+
+pub values-are : (name next : ℕ) (r : Register) (value : ℕ) (second : Register) (other : ℕ) → textOf name ≡ registerName r → textOf next ≡ registerName second
+    → causeText (Values name (r .size) value next other) ≡ valuesText r value second other
+unfolding causeText namedText valuesText isText
+values-are name next r value second other is also = rw (is, also)
+
+pub itself-is : (name : ℕ) (r : Register) → textOf name ≡ registerName r → causeText (Itself name) ≡ itselfText r
+unfolding causeText itselfText
+itself-is name r is = rw is
+
+pub carry-is : (name : ℕ) (op : Binary) → textOf name ≡ instructionName op → causeText (ClearsCarry name) ≡ carryText op
+unfolding causeText carryText
+carry-is name op is = rw is
+
+pub overflow-is : (name : ℕ) (op : Binary) → textOf name ≡ instructionName op → causeText (ClearsOverflow name) ≡ overflowText op
+unfolding causeText overflowText
+overflow-is name op is = rw is

@@ -1,8 +1,4 @@
--- parts of fixed words
-pub mod Parts
--- where names stand
-pub mod Tables
--- values as text
-pub mod Numerals
+-- a value put into a buffer
+pub mod Valued
 -- the texts of causes
 pub mod Causes

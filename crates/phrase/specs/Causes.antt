@@ -1,13 +1,11 @@
 -- What sentences give as the cause of a flag's value, as text.
 use Prim.Native.Nat.{ℕ}
-use mathlib.Core.List.{List, [], _++_}
+use mathlib.Core.List.{List, _++_}
 use Rattle.isa.specs.declared.Register.{Register}
 use Rattle.isa.specs.declared.Binary.{Binary}
 use Rattle.text.specs.Ascii.{ascii}
-use Rattle.phrase.specs.declared.Cause.{Cause}
-use Rattle.phrase.specs.declared.Cause.the-variants.{Nothing, Stc, Clc, Value, Values, Itself, ClearsCarry, ClearsOverflow}
-use Rattle.phrase.specs.Names.{registerName, instructionName}
-use Rattle.phrase.specs.Values.{isText}
+use Rattle.wording.specs.Names.{registerName, instructionName}
+use Rattle.wording.specs.Values.{isText}
 
 -- stc and clc (W6).
 abbrev pub stcText : List ℕ
@@ -34,14 +32,3 @@ carryText op = instructionName op ++ ascii " clears the carry"
 
 unfoldable pub overflowText : Binary → List ℕ
 overflowText op = instructionName op ++ ascii " clears the overflow"
-
--- the text of each cause; where no instruction has set the flag there is none
-unfoldable pub causeText : Cause → List ℕ
-causeText Nothing = []
-causeText Stc = stcText
-causeText Clc = clcText
-causeText (Value r value) = valueText r value
-causeText (Values r value second other) = valuesText r value second other
-causeText (Itself r) = itselfText r
-causeText (ClearsCarry op) = carryText op
-causeText (ClearsOverflow op) = overflowText op

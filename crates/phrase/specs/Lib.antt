@@ -1,4 +1,2 @@
-pub mod Names
-pub mod Values
 pub mod Causes
-pub mod Parts
+pub mod Contracts

@@ -1,9 +1,11 @@
 -- Two parts of a buffer, the first from its start on, compared byte for byte. Assumes nothing.
 use Prim.Native.Nat.{ℕ, _+_, _-_, _≤_, _<_}
 use mathlib.Core.Path.{_≡_, sym, _∙_}
-use mathlib.Core.Bool.{true, false}
+use mathlib.Core.Bool.{Bool, true, false, cond, _&&_, and-false}
 use mathlib.Core.List.{List}
 use native.Mathlib.Omega.{arith}
+use borrow.Author.Tests.{eq-eqb, ne-eqb}
+use lib.Dec.{eqb}
 use lib.ListN.{length, take, drop, getD}
 use lib.Seq.{slice, length-take-le, length-slice, getD-take, getD-drop}
 use Rattle.laws.specs.Words.{sameWords}
@@ -36,3 +38,14 @@ module _ (s : List ℕ) (first from end : ℕ) (before : first ≤ from) (order 
 
     pub parts-end : first ≤ i → sameWords (drop i (take first s)) (drop i (slice from end s)) ≡ true
     parts-end h = words-end (take first s) (slice from end s) i (omega (arith, front-long)) (omega (arith, part-long))
+
+-- where two texts end as one
+module _ (turns head end : ℕ) where
+  pub ends-turned : (same : Bool) → (turns ≡ 0 → ⊥) → end ≡ cond (eqb turns 0 && same) head end
+  ends-turned same h = rw (ne-eqb turns 0 h)
+
+  pub ends-unlike : {same : Bool} → same ≡ false → end ≡ cond (eqb turns 0 && same) head end
+  ends-unlike h = rw (h, and-false (eqb turns 0))
+
+  pub ends-once : {same : Bool} → turns ≡ 0 → same ≡ true → head ≡ cond (eqb turns 0 && same) head end
+  ends-once none h = rw (eq-eqb turns 0 none, h)

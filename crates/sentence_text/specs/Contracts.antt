@@ -4,45 +4,36 @@ use mathlib.Core.Path.{_≡_}
 use mathlib.Core.List.{List, [], _++_}
 use lib.ListN.{length, take}
 use lib.Seq.{slice}
-use Rattle.laws.specs.Words.{sameWords}
 use Rattle.text.specs.Contracts.{Written}
-use Rattle.phrase.specs.Causes.{causeText}
+use Rattle.phrase.specs.Contracts.{causeText}
 use Rattle.sentence_text.specs.declared.Said.{Said}
-use Rattle.sentence_text.specs.declared.Said.the-variants.{Nothing, One, Joined, Nested}
-use Rattle.sentence_text.specs.declared.Pair.{Pair}
+use Rattle.sentence_text.specs.declared.Said.the-variants.{Nothing, One, Joined}
 use Rattle.sentence_text.specs.declared.Composed.{Composed}
 use Rattle.sentence_text.specs.declared.Fit.{Fit}
 use Rattle.sentence_text.specs.declared.Fit.the-variants.{Whole, Short}
-use Rattle.sentence_text.specs.Sentence.{conjunction, joined, turnedTimes}
+use Rattle.sentence_text.specs.Sentence.{joined, turnedTimes}
 
 -- the sentence that is said (W7, W12)
 unfoldable pub saidText : Said → List ℕ
 saidText Nothing = []
 saidText (One cause turns) = causeText cause ++ turnedTimes turns
 saidText (Joined cause turns second) = joined (causeText cause ++ turnedTimes turns) (causeText second)
-saidText (Nested cause second) = joined (causeText cause) (joined (causeText cause) (causeText second))
 
 -- how many cmc it tells of
 abbrev pub turnsOf : Said → ℕ
 turnsOf Nothing = 0
 turnsOf (One cause turns) = turns
 turnsOf (Joined cause turns second) = turns
-turnsOf (Nested cause second) = 0
 
--- two texts stand at a buffer's start, with the conjunction between them
-pub record Paired (a b new : List ℕ) (p : Pair) : Type 0 where
-  pub is : take (p .end) new ≡ a ++ conjunction ++ b
-  pub within : p .end ≤ length new
-  pub first : p .first ≡ length a
-  pub second : p .second ≡ length (a ++ conjunction)
-  pub same : p .same ≡ sameWords a b
+-- two parts of a buffer, one behind the other, with what cmc adds between them
+abbrev pub inParts : List ℕ → (head turns end : ℕ) → List ℕ
+inParts buffer head turns end = take head buffer ++ turnedTimes turns ++ slice head end buffer
 
--- a sentence by two parts of a buffer, with what cmc adds between them
+-- a sentence by such parts
 pub record Composes (text : List ℕ) (turns : ℕ) (new : List ℕ) (c : Composed) : Type 0 where
-  pub is : text ≡ take (c .head) new ++ turnedTimes (c .turns) ++ slice (c .from) (c .end) new
+  pub is : text ≡ inParts new (c .head) (c .turns) (c .end)
   pub few : c .turns ≤ turns
-  pub head : c .head ≤ length new
-  pub order : c .from ≤ c .end
+  pub order : c .head ≤ c .end
   pub within : c .end ≤ length new
 
 -- What writing a text to a buffer's start gives: it is written, and its length is the answer; or the buffer is shorter than the text, and as it was,

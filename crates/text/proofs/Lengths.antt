@@ -8,7 +8,7 @@ use native.Mathlib.Omega.{arith}
 use lib.Dec.{ltb}
 use lib.ListN.{length, length-append}
 use borrow.Author.Tests.{ltb-true, ltb-false, lt-ltb, le-ltb}
-use Rattle.text.specs.Digits.{digits, placesWithin, placesOf, decimal, hexadecimal}
+use Rattle.text.specs.Digits.{digits, placesWithin, placesOf, decimal}
 
 pub digits-long : (base k n : ℕ) → length (digits base k n) ≡ k
 unfolding digits
@@ -83,6 +83,3 @@ byte-short n h = rw digits-long (places-most 10 2 n (omega arith) (omega arith))
 
 pub one-short : (n : ℕ) → n ≤ 9 → length (decimal n) ≤ 1
 one-short n h = rw (digits-long, places-few 10 n (omega arith)) (omega arith)
-
-pub hexadecimal-short : (n : ℕ) → n < 2 ^ 64 → length (hexadecimal n) ≤ 16
-hexadecimal-short n h = rw digits-long (places-most 16 15 n (omega arith) (omega arith))

@@ -5,8 +5,8 @@ use mathlib.Core.List.{List, [], _∷_, _++_}
 use native.Mathlib.Numerals.{add-one, sub-one}
 use native.Mathlib.Nat.{add-zero, zero-add, add-suc, suc-add}
 use native.Mathlib.Omega.{arith}
-use lib.ListN.{length, drop, set, getD, length-append, length-set}
-use lib.Seq.{sets, sets-eq, length-sets, set-comm, drop-cons, drop-length}
+use lib.ListN.{length, take, drop, set, getD, length-append, length-set}
+use lib.Seq.{slice, sets, sets-eq, length-sets, set-comm, drop-cons, drop-length, drop-at, take-add, length-take-le}
 use Rattle.text.specs.Digits.{digit, digits, placesOf}
 use Rattle.text.specs.Contracts.{Put, Written}
 use Rattle.text.proofs.Lengths.{digits-long}
@@ -115,3 +115,10 @@ word-done {word} {at} {old} {new} {i} w end fits =
 pub put-places : {old new : List ℕ} {at next k : ℕ} (base n : ℕ) → k ≡ placesOf base n → Put old new at next (digits base k n)
     → Put old new at next (digits base (placesOf base n) n)
 put-places base n e p = rw e at p
+
+-- a part of a word, as it is lent
+pub part-is : (l : List ℕ) (from to : ℕ) → from ≤ to → to ≤ length l → take (to - from) (drop from l) ≡ slice from to l
+part-is l from to order within =
+    let sum : from + (to - from) ≡ to = omega arith in
+    sym (drop-at (take from l) (take (to - from) (drop from l)) from (length-take-le from l (omega arith)))
+    ∙ ap (drop from) (sym (take-add from (to - from) l) ∙ ap (λ (k : ℕ). take k l) sum)

@@ -1,8 +1,9 @@
 // Text put into a borrowed buffer: words, and numbers as digits.
 ghost use mathlib.Core.Path.{_≡_};
-ghost use Prim.Native.Nat.{_+_, _<_, _≤_};
+ghost use Prim.Native.Nat.{_+_, _-_, _<_, _≤_};
 ghost use lib.ListN.{length};
-ghost use Rattle.text.specs.Digits.{digit as digitOf, digits, placesOf, decimal, hexadecimal};
+ghost use lib.Seq.{slice};
+ghost use Rattle.text.specs.Digits.{digit as digitOf, digits, placesOf, decimal};
 ghost use Rattle.text.specs.Contracts.{Put};
 
 pub fn put_word(word: &[u8], out: &mut [u8], at: usize) -> usize
@@ -15,6 +16,16 @@ pub fn put_word(word: &[u8], out: &mut [u8], at: usize) -> usize
         i += 1;
     }
     at + word.len()
+}
+
+// Puts a part of a word.
+pub fn put_part(word: &[u8], from: usize, to: usize, out: &mut [u8], at: usize) -> usize
+    requires { ⌜ from ≤ to ⌝ }
+    requires { ⌜ to ≤ length (now word) ⌝ }
+    requires { ⌜ at + (to - from) ≤ length (now out) ⌝ }
+    ensures { λ r. ⌜ Put (now (out .entry)) (now (out .exit)) at r (slice from to (now (word .entry))) ⌝ }
+{
+    put_word(&word[from..to], out, at)
 }
 
 // The digit's code.
@@ -43,7 +54,7 @@ pub fn put_digits(n: u64, base: u64, width: usize, out: &mut [u8], at: usize) ->
 }
 
 // How many digits n has in a base.
-fn places(n: u64, base: u64) -> usize
+pub fn places(n: u64, base: u64) -> usize
     requires { ⌜ 2 ≤ base ⌝ }
     ensures { λ r. ⌜ r ≡ placesOf base n ⌝ }
 {
@@ -62,12 +73,4 @@ pub fn put_decimal(n: u64, out: &mut [u8], at: usize) -> usize
     ensures { λ r. ⌜ Put (now (out .entry)) (now (out .exit)) at r (decimal n) ⌝ }
 {
     put_digits(n, 10, places(n, 10), out, at)
-}
-
-// Puts n in base sixteen.
-pub fn put_hexadecimal(n: u64, out: &mut [u8], at: usize) -> usize
-    requires { ⌜ at + length (hexadecimal n) ≤ length (now out) ⌝ }
-    ensures { λ r. ⌜ Put (now (out .entry)) (now (out .exit)) at r (hexadecimal n) ⌝ }
-{
-    put_digits(n, 16, places(n, 16), out, at)
 }

@@ -1,58 +1,38 @@
-use Rattle.text.specs.Ascii.{ascii}
-use Rattle.phrase.specs.Parts.{signs}
-use Rattle.text.proofs.Puts.{put-none, put-long}
-use Rattle.text.proofs.Lengths.{hexadecimal-short}
-use Rattle.phrase.proofs.Numerals.{put-shown}
-use Rattle.phrase.proofs.Parts.{fits, put-short}
 use native.Mathlib.Omega.{arith}
+use Rattle.phrase.proofs.Valued.{name-fits, front-fits, digits-fit, behind-fits, value-put, named-text}
 use borrow.Author.Needs.{needs}
 use Rattle.phrase.proofs.put_value.Statement.{statement}
 use Rattle.phrase.proofs.put_value.Tie as tie
 
-width-of-requires : tie.Need-width-of-requires
-width-of-requires c κs = search needs
+number-requires : tie.Need-number-requires
+number-requires c κs = search needs
 
-enum-known-width : tie.Need-enum-known-width
-enum-known-width c = search needs
+put-fixed-requires : tie.Need-put-fixed-requires
+put-fixed-requires c κs = name-fits _ _ (c .before .number .ensures) (c .before .before .before .args .name) (c .before .before .before .args .out .now) (c .before .before .before .args .at) (c .before .before .before .pre .1)
 
-signed-requires : tie.Need-signed-requires
-signed-requires c κs = search needs
+put-fixed-requires-2 : tie.Need-put-fixed-requires-2
+put-fixed-requires-2 c κs = front-fits _ _ (c .before .before .before .before .before .number .ensures) (c .before .before .before .before .before .before .before .args .name) (c .before .before .before .before .before .before .before .args .out .now) (c .before .before .before .before .before .before .before .args .at) (c .before .before .before .before .before .before .before .pre .1) _ _ (c .before .before .before .put-fixed .ensures)
 
-slice-aggregate-put-part : tie.Need-slice-aggregate-put-part
-slice-aggregate-put-part c = search needs
+put-digits-requires : tie.Need-put-digits-requires
+put-digits-requires c κs = (omega arith, (omega arith, digits-fit _ _ (c .before .before .before .before .before .before .before .before .before .number .ensures) (c .before .before .before .before .before .before .before .before .before .before .before .args .name) (c .before .before .before .before .before .before .before .before .before .before .before .args .out .now) (c .before .before .before .before .before .before .before .before .before .before .before .args .at) (c .before .before .before .before .before .before .before .before .before .before .before .pre .1) _ _ (c .before .before .before .before .before .before .before .put-fixed .ensures) _ _ (c .before .before .before .put-fixed2 .ensures)))
 
-put-part-requires : tie.Need-put-part-requires
-unfolding signs ascii
-put-part-requires c κs = fits _ _ (c .before .before .before .signed .ensures .front) (omega (arith, c .before .before .before .before .before .before .before .before .before .pre))
-
-put-hexadecimal-requires : tie.Need-put-hexadecimal-requires
-unfolding signs ascii
-put-hexadecimal-requires c κs = omega (arith, put-long (c .before .before .before .put-part .ensures), put-short (c .before .before .before .before .before .before .before .signed .ensures .front) (c .before .before .before .put-part .ensures), hexadecimal-short (c .before .before .before .before .before .before .before .signed .result .number) (c .before .before .before .before .before .before .before .signed .ensures .fits), c .before .before .before .before .before .before .before .before .before .before .before .before .before .pre)
-
-enum-told : tie.Need-enum-told
-enum-told c = search needs
+put-fixed-requires-3 : tie.Need-put-fixed-requires-3
+put-fixed-requires-3 c κs = behind-fits _ _ (c .before .before .before .before .before .before .before .before .before .before .before .before .before .number .ensures) (c .before .before .before .before .before .before .before .before .before .before .before .before .before .before .before .args .name) (c .before .before .before .before .before .before .before .before .before .before .before .before .before .before .before .args .out .now) (c .before .before .before .before .before .before .before .before .before .before .before .before .before .before .before .args .at) (c .before .before .before .before .before .before .before .before .before .before .before .before .before .before .before .pre .1) _ _ (c .before .before .before .before .before .before .before .before .before .before .before .put-fixed .ensures) _ _ (c .before .before .before .before .before .before .before .put-fixed2 .ensures) _ _ (c .before .before .before .put-digits .ensures) (c .before .before .before .before .before .before .before .before .before .before .before .before .before .before .before .args .behind) (c .before .before .before .before .before .before .before .before .before .before .before .before .before .before .before .pre .0)
 
 same-length : tie.Need-same-length
 same-length c = search needs
 
 returns : tie.Need-returns
-unfolding signs ascii
-returns c = rw (← c .before .before .before .before .before .before .before .before .before .before .before .before .before .before .width-of .ensures, c .before .before .before .before .before .before .before .before .before .before .before .before .width .given .1) (put-shown (c .before .before .before .before .before .before .before .before .before .before .signed .ensures) (c .before .before .before .before .before .before .put-part .ensures) (c .before .before .put-hexadecimal .ensures), omega (arith, c .before .before .put-hexadecimal .ensures .end, put-short (c .before .before .before .before .before .before .before .before .before .before .signed .ensures .front) (c .before .before .before .before .before .before .put-part .ensures), hexadecimal-short (c .before .before .before .before .before .before .before .before .before .before .signed .result .number) (c .before .before .before .before .before .before .before .before .before .before .signed .ensures .fits)))
-
-returns-2 : tie.Need-returns-2
-returns-2 c = rw (← c .before .before .width-of .ensures, c .enum-told .given .1) (put-none _ _ (omega (arith, c .before .before .before .before .pre)), omega arith)
+returns c = rw (named-text (c .before .before .before .before .before .before .before .before .before .before .before .before .before .before .before .before .before .before .args .name) (c .before .before .before .before .before .before .before .before .before .before .before .before .before .before .before .before .before .before .args .size) (c .before .before .before .before .before .before .before .before .before .before .before .before .before .before .before .before .before .before .args .value)) at (value-put _ _ (c .before .before .before .before .before .before .before .before .before .before .before .before .before .before .before .before .number .ensures) (c .before .before .before .before .before .before .before .before .before .before .before .before .before .before .before .before .before .before .args .name) (c .before .before .before .before .before .before .before .before .before .before .before .before .before .before .before .before .before .before .args .out .now) (c .before .before .before .before .before .before .before .before .before .before .before .before .before .before .before .before .before .before .args .at) (c .before .before .before .before .before .before .before .before .before .before .before .before .before .before .before .before .before .before .pre .1) _ _ (c .before .before .before .before .before .before .before .before .before .before .before .before .before .before .put-fixed .ensures) _ _ (c .before .before .before .before .before .before .before .before .before .before .put-fixed2 .ensures) _ _ (c .before .before .before .before .before .before .put-digits .ensures) (c .before .before .before .before .before .before .before .before .before .before .before .before .before .before .before .before .before .before .args .behind) (c .before .before .before .before .before .before .before .before .before .before .before .before .before .before .before .before .before .before .pre .0) _ _ (c .before .before .put-fixed3 .ensures))
 
 pub put-value-spec : {M : Type 1} → statement M
 put-value-spec =
     tie.close
     (tie.spec
-    width-of-requires
-    enum-known-width
-    signed-requires
-    slice-aggregate-put-part
-    put-part-requires
-    put-hexadecimal-requires
-    enum-told
+    number-requires
+    put-fixed-requires
+    put-fixed-requires-2
+    put-digits-requires
+    put-fixed-requires-3
     same-length
-    returns
-    returns-2)
+    returns)

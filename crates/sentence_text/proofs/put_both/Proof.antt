@@ -1,5 +1,6 @@
-use Rattle.sentence_text.proofs.Sentences.{paired}
 use Rattle.text.specs.Ascii.{ascii}
+use Rattle.phrase.proofs.Causes.{not-turned}
+use Rattle.sentence_text.proofs.Sentences.{both}
 use borrow.Author.Needs.{needs}
 use Rattle.sentence_text.proofs.put_both.Statement.{statement}
 use Rattle.sentence_text.proofs.put_both.Tie as tie
@@ -16,15 +17,15 @@ put-word-requires c κs = search needs
 put-cause-requires-2 : tie.Need-put-cause-requires-2
 put-cause-requires-2 c κs = search needs
 
-is-same-requires : tie.Need-is-same-requires
-is-same-requires c κs = search needs
+joined-end-requires : tie.Need-joined-end-requires
+joined-end-requires c κs = search needs
 
 same-length : tie.Need-same-length
 same-length c = search needs
 
 returns : tie.Need-returns
 unfolding ascii
-returns c = paired (c .before .before .before .before .before .before .before .before .before .before .before .before .before .put-cause .ensures .0) (c .before .before .before .before .before .before .before .before .put-word .ensures) (c .before .before .before .before .put-cause2 .ensures .0) (c .is-same .ensures)
+returns c = both _ (c .before .before .before .before .before .before .before .before .before .before .before .before .before .put-cause .ensures .0) (c .before .before .before .before .before .before .before .before .put-word .ensures) (c .before .before .before .before .put-cause2 .ensures .0) (not-turned _) (c .joined-end .ensures)
 
 pub put-both-spec : {M : Type 1} → statement M
 put-both-spec =
@@ -34,6 +35,6 @@ put-both-spec =
     slice-aggregate-put-word
     put-word-requires
     put-cause-requires-2
-    is-same-requires
+    joined-end-requires
     same-length
     returns)
