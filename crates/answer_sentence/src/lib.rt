@@ -1,9 +1,9 @@
 // The sentence of a block's verdict: it takes any bytes and a borrowed text, refuses what reading refuses, and writes the sentence by the rules.
-use alu::Flags;
 use isa::Mnemonic;
-use machine::Registers;
 use machine::State;
-use sentence::Causes;
+use phrase::Cause;
+use sentence::Setters;
+use sentence::Telling;
 use sentence_text::Fit;
 use sentence_text::Said;
 use sheet::Reading;
@@ -13,17 +13,19 @@ ghost use mathlib.Core.Path.{_≡_};
 ghost use Prim.Native.Nat.{_≤_, _<_};
 ghost use lib.ListN.{length};
 ghost use lib.Seq.{slice};
-ghost use Rattle.machine.specs.States.{stateOf};
+ghost use Rattle.isa.specs.declared.Instruction.{Instruction};
 ghost use Rattle.machine.specs.Registers.{nothingKnown};
+ghost use Rattle.machine.specs.Rules.{steppedAll};
 ghost use Rattle.sheet.specs.declared.Reading.the-variants.{Accepted};
 ghost use Rattle.sheet.specs.Sheet.{sheetAt, readingOf};
 ghost use Rattle.sheet.specs.Index.{addressesOf};
 ghost use Rattle.verdict_block.specs.Verdict.{apart};
+ghost use Rattle.phrase.specs.Contracts.{causeText};
 ghost use Rattle.sentence.specs.Why.{noWhy};
-ghost use Rattle.sentence.specs.Contracts.{whyOf};
+ghost use Rattle.sentence.specs.Contracts.{tellingOf, tellingText};
 ghost use Rattle.sentence_text.specs.Contracts.{saidText, turnsOf};
-ghost use Rattle.answer_sentence.specs.Sentence.{jumpSentence, sentenceAt, sentenceOn, written, sentenceAnswer, Gives};
-ghost use Rattle.answer_sentence.specs.Contracts.{ReachedBy};
+ghost use Rattle.answer_sentence.specs.Sentence.{sentenceAt, sentenceOn, written, sentenceAnswer, Gives};
+ghost use Rattle.answer_sentence.specs.Contracts.{ownAt, carryAt, resultAt, Traced};
 
 // What the operation answers: the sentence's length, or a refusal, its number and its offset.
 pub enum Told {
@@ -31,50 +33,104 @@ pub enum Told {
     Refused(u64, usize),
 }
 
-// What is known of the flags after instructions, and why.
-struct Reached {
-    pub flags: Flags,
-    pub causes: Causes,
+// The causes of the flags' values after the instructions of an accepted sheet from number `first` up to `end`, where nothing is known at their start.
+fn setters_in(s: &[u8], sheet: Sheet, places: &[u64], first: usize, end: usize) -> Setters
+    requires { ⌜ readingOf (now s) ≡ Accepted sheet ⌝ }
+    requires { ⌜ now places ≡ sheetAt (now s) .instructions .places ⌝ }
+    requires { ⌜ (first ≤ end) × (end ≤ length (now places)) × (end ≤ 65536) ⌝ }
+    ensures { λ r. ⌜ Traced (sheetAt (now (s .entry)) .instructions .list) first end r ⌝ }
+{
+    let mut setters = Setters {
+        result: first,
+        carry: first,
+        turns: 0,
+    };
+    let mut i = first;
+    while i < end {
+        let it = sheet::nth_instruction(s, sheet, places, i);
+        setters = sentence::setters_after(setters, i, it);
+        i += 1;
+    }
+    setters
 }
 
-// Step over the instructions of an accepted sheet from number `first` up to `end`, from what is known at their start and no cause of it.
-fn step_over(
+// The cause that the instruction of that number is for CF, or, without `carry`, for the other flags, in a block that starts at number `first`.
+fn cause_at(
+    s: &[u8],
+    sheet: Sheet,
+    places: &[u64],
+    first: usize,
+    number: usize,
+    carry: bool,
+) -> Cause
+    requires { ⌜ readingOf (now s) ≡ Accepted sheet ⌝ }
+    requires { ⌜ now places ≡ sheetAt (now s) .instructions .places ⌝ }
+    requires { ⌜ number < length (now places) ⌝ }
+    ensures { λ r. ⌜ ((d : Instruction) → causeText r ≡ ownAt (sheetAt (now (s .entry)) .instructions .list) first carry number d) ⌝ }
+{
+    let start = State::unknown();
+    let mut registers = start.registers;
+    let known = start.flags;
+    let flags = verdict_block::step_over(s, sheet, places, first, number, &mut registers, known);
+    let it = sheet::nth_instruction(s, sheet, places, number);
+    let mnemonic = it.mnemonic;
+    let operand = it.first;
+    let second = it.second;
+    sentence::cause_of(&registers, mnemonic, operand, second, carry)
+}
+
+// What the causes say that tell of a branch.
+fn said_by(
+    s: &[u8],
+    sheet: Sheet,
+    places: &[u64],
+    first: usize,
+    setters: Setters,
+    telling: Telling,
+) -> Said
+    requires { ⌜ readingOf (now s) ≡ Accepted sheet ⌝ }
+    requires { ⌜ now places ≡ sheetAt (now s) .instructions .places ⌝ }
+    requires { ⌜ (setters .result < length (now places)) × (setters .carry < length (now places)) ⌝ }
+    ensures { λ r. ⌜ ((d : Instruction) → saidText r ≡ tellingText telling (carryAt (sheetAt (now (s .entry)) .instructions .list) first setters d) (resultAt (sheetAt (now (s .entry)) .instructions .list) first setters d)) ⌝ }
+    ensures { λ r. ⌜ turnsOf r ≤ setters .turns ⌝ }
+{
+    let carry = setters.carry;
+    let result = setters.result;
+    match telling {
+        Telling::Nothing => Said::Nothing,
+        Telling::Carry => Said::One(
+            cause_at(s, sheet, places, first, carry, true),
+            setters.turns,
+        ),
+        Telling::Result => Said::One(cause_at(s, sheet, places, first, result, false), 0),
+        Telling::Both => Said::Joined(
+            cause_at(s, sheet, places, first, carry, true),
+            setters.turns,
+            cause_at(s, sheet, places, first, result, false),
+        ),
+        Telling::Value(register, value) => Said::One(phrase::value_of(register, value), 0),
+    }
+}
+
+// What tells of the branch of that mnemonic, which stands at number `end`.
+fn telling_at(
     s: &[u8],
     sheet: Sheet,
     places: &[u64],
     first: usize,
     end: usize,
-    registers: &mut Registers,
-    start: Flags,
-) -> Reached
+    mnemonic: Mnemonic,
+) -> Telling
     requires { ⌜ readingOf (now s) ≡ Accepted sheet ⌝ }
     requires { ⌜ now places ≡ sheetAt (now s) .instructions .places ⌝ }
-    requires { ⌜ (end ≤ length (now places)) × (end ≤ 65536) ⌝ }
-    ensures { λ r. ⌜ ReachedBy (stateOf (now (registers .entry)) start) noWhy (slice first end (sheetAt (now (s .entry)) .instructions .list)) end (now (registers .exit)) r ⌝ }
+    requires { ⌜ end ≤ length (now places) ⌝ }
+    ensures { λ r. ⌜ r ≡ tellingOf (steppedAll nothingKnown (slice first end (sheetAt (now (s .entry)) .instructions .list))) mnemonic ⌝ }
 {
-    let mut flags = start;
-    let mut causes = Causes::none();
-    let mut i = first;
-    while i < end {
-        let it = sheet::nth_instruction(s, sheet, places, i);
-        causes = sentence::causes_after(registers, causes, it);
-        flags = machine::step(registers, flags, it);
-        i += 1;
-    }
-    Reached { flags, causes }
-}
-
-// The sentence of a jump, by what is known at it.
-fn said_at(registers: &Registers, reached: Reached, jump: Jump) -> Said
-    ensures { λ r. ⌜ saidText r ≡ jumpSentence (stateOf (now (registers .entry)) (reached .flags)) (whyOf (reached .causes)) jump ⌝ }
-    ensures { λ r. ⌜ turnsOf r ≤ reached .causes .turns ⌝ }
-{
-    let flags = reached.flags;
-    let causes = reached.causes;
-    match jump {
-        Jump::Conditional(mnemonic) => sentence::jump_said(registers, flags, causes, mnemonic),
-        Jump::Nothing => Said::Nothing,
-    }
+    let start = State::unknown();
+    let mut registers = start.registers;
+    let known = start.flags;
+    let flags = verdict_block::step_over(s, sheet, places, first, end, &mut registers, known);
+    sentence::jump_telling(&registers, flags, mnemonic)
 }
 
 // The sentence at the end of the instructions of an accepted sheet from number `first` up to `end`.
@@ -88,16 +144,19 @@ fn said_in(s: &[u8], sheet: Sheet, places: &[u64], first: usize, end: usize) -> 
     if end <= first {
         return Said::Nothing;
     }
-    let start = State::unknown();
-    let mut registers = start.registers;
-    let flags = start.flags;
     let last = end - 1;
-    let reached = step_over(s, sheet, places, first, last, &mut registers, flags);
-    said_at(
-        &registers,
-        reached,
-        verdict_block::jump_at(s, sheet, places, last),
-    )
+    let jump = verdict_block::jump_at(s, sheet, places, last);
+    match jump {
+        Jump::Conditional(mnemonic) => said_by(
+            s,
+            sheet,
+            places,
+            first,
+            setters_in(s, sheet, places, first, last),
+            telling_at(s, sheet, places, first, last, mnemonic),
+        ),
+        Jump::Nothing => Said::Nothing,
+    }
 }
 
 // Writes what is said of a block, where the text can hold it.

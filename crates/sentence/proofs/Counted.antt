@@ -1,7 +1,6 @@
--- The sentence of a count-register jump, by what is read.
+-- What tells of a count-register jump, by what is read.
 use Prim.Native.Nat.{ℕ}
 use mathlib.Core.Path.{_≡_, sym, ap, _∙_}
-use mathlib.Core.List.{[], _++_, append-nil}
 use Rattle.isa.specs.declared.Register.{Register}
 use Rattle.isa.specs.declared.Counter.{Counter}
 use Rattle.known.specs.declared.Value.{Value}
@@ -9,8 +8,8 @@ use Rattle.known.specs.declared.Value.the-variants.{Known, Unknown}
 use Rattle.machine.specs.declared.State.{State}
 use Rattle.machine.specs.Registers.{readOf}
 use Rattle.machine.specs.Conditions.{countSize, countRegister}
-use Rattle.phrase.specs.Causes.{valueText}
-use Rattle.sentence.specs.Told.{countTold, sentenceOf}
+use Rattle.sentence.specs.declared.Telling.the-variants as telling
+use Rattle.sentence.specs.Contracts.{countTelling}
 
 -- the low part of register 1
 abbrev counted : ℕ → Register
@@ -20,8 +19,8 @@ module _ (s : State) (c : Counter) {size : ℕ} {v : Value} (sized : size ≡ co
   value-is : readOf s (countRegister c) ≡ v
   value-is = ap (λ (n : ℕ). readOf s (counted n)) (sym sized) ∙ sym read
 
-  pub count-known : {x : ℕ} → v ≡ Known x → valueText (counted size) x ++ [] ≡ sentenceOf (countTold (countRegister c) (readOf s (countRegister c)))
-  count-known {x} known = append-nil _ ∙ ap (λ (n : ℕ). valueText (counted n) x) sized ∙ rw (value-is, known)
+  pub count-known : {x : ℕ} → v ≡ Known x → telling.Value (counted size) x ≡ countTelling (countRegister c) (readOf s (countRegister c))
+  count-known {x} known = rw (value-is, known, sized)
 
-  pub count-unknown : v ≡ Unknown → [] ≡ sentenceOf (countTold (countRegister c) (readOf s (countRegister c)))
+  pub count-unknown : v ≡ Unknown → telling.Nothing ≡ countTelling (countRegister c) (readOf s (countRegister c))
   count-unknown unknown = rw (value-is, unknown)

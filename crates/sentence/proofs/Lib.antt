@@ -1,12 +1,14 @@
 -- arms of several patterns
 pub mod Keys
--- what is said of conditions
-pub mod Sayings
--- texts of operands
+-- texts of operands, what an instruction sets
 pub mod Operands
--- instructions by their mnemonic
-pub mod Stepped
+-- texts that are not empty
+pub mod Texts
+-- what an instruction does to flags and texts
+pub mod Changes
 -- count-register jumps
 pub mod Counted
--- what is told without its text
+-- what is told, without its text
 pub mod Decided
+-- the sentence from the texts of two causes
+pub mod Tellings

@@ -1,20 +1,34 @@
--- Texts of operands and of operations, from what is known of each.
+-- Texts of operands and of operations, and what an instruction sets, from what is known of each.
 use Prim.Native.Nat.{ℕ}
 use mathlib.Core.Path.{_≡_, sym, _∙_}
-use mathlib.Core.Bool.{Bool, true, false, _&&_}
+use mathlib.Core.Bool.{Bool, true, false, not, _&&_}
+use borrow.Author.Tests.{not-true, not-false}
 use Rattle.isa.specs.declared.Register.{Register}
 use Rattle.isa.specs.declared.Operand.{Operand}
 use Rattle.isa.specs.declared.Operand.the-variants.{Reg}
 use Rattle.isa.specs.declared.Binary.{Binary}
-use Rattle.isa.specs.declared.Unary.{Unary}
+use Rattle.isa.specs.declared.Mnemonic.{Mnemonic}
+use Rattle.isa.specs.declared.Instruction.{Instruction}
+use Rattle.isa.specs.Modelled.{modelled}
 use Rattle.known.specs.declared.Value.{Value}
-use Rattle.known.specs.declared.Value.the-variants.{Known, Unknown}
 use Rattle.known.specs.Operations.{isIdiom}
 use Rattle.machine.specs.declared.State.{State}
 use Rattle.machine.specs.Registers.{readOf, operandOf}
 use Rattle.machine.specs.Rules.{sameRegister}
 use Rattle.phrase.specs.Causes.{valueText, valuesText}
-use Rattle.sentence.specs.Why.{Why, every, itselfWhy, operandsText, onValues, arithWhy, aloneWhy, unaryWhy}
+use Rattle.sentence.specs.Why.{itselfWhy, operandsText}
+use Rattle.sentence.specs.Contracts.{mnemonicSets, setsOf, valuesOwn, arithOwn}
+use Rattle.sentence.specs.Contracts.Sets.{sets-none}
+
+-- what an instruction sets, by whether it is modelled
+module _ (i : Instruction) {is : Bool} (modelled-is : is ≡ modelled i) where
+  pub not-modelled : not is ≡ true → sets-none ≡ setsOf i
+  unfolding setsOf
+  not-modelled e = rw (← modelled-is, not-true is e)
+
+  pub by-mnemonic : not is ≡ false → {m : Mnemonic} → i .mnemonic ≡ m → mnemonicSets m ≡ setsOf i
+  unfolding setsOf
+  by-mnemonic e named = rw (← modelled-is, not-false is e, named)
 
 -- the same register is named once
 pub operand-same : (d r : Register) (o : Operand) (a b : ℕ) {same : Bool} → o ≡ Reg r → same ≡ sameRegister d (Reg r) → same ≡ true
@@ -26,22 +40,12 @@ pub operand-other : (d r : Register) (o : Operand) (a b : ℕ) {same : Bool} →
 operand-other d r o a b reg test left = rw reg (rw (sym test ∙ left))
 
 -- add to test: a register with itself, or by the operands' values
-pub arith-itself : (s : State) (w : Why) (op : Binary) (d : Register) (o : Operand) → (isIdiom op && sameRegister d o) ≡ true
-    → every (itselfWhy op d) ≡ arithWhy s w op d o
-unfolding arithWhy
-arith-itself s w op d o e = rw e
+pub arith-itself : (s : State) (op : Binary) (d : Register) (o : Operand) (carry : Bool) → (isIdiom op && sameRegister d o) ≡ true
+    → itselfWhy op d ≡ arithOwn s op d o carry
+unfolding arithOwn
+arith-itself s op d o carry e = rw e
 
-pub arith-values : (s : State) (w : Why) (op : Binary) (d : Register) (o : Operand) {a b : Value} → (isIdiom op && sameRegister d o) ≡ false
-    → a ≡ readOf s d → b ≡ operandOf s (d .size) o → onValues w op d o a b ≡ arithWhy s w op d o
-unfolding arithWhy
-arith-values s w op d o e ra rb = rw (e, ra, rb)
-
--- inc, dec, neg by what is read
-pub unary-known : (s : State) (w : Why) (op : Unary) (d : Register) {v : Value} {x : ℕ} → v ≡ readOf s d → v ≡ Known x
-    → aloneWhy w op (valueText d x) ≡ unaryWhy s w op d
-unfolding unaryWhy
-unary-known s w op d {v} {x} read is = rw (sym read ∙ is)
-
-pub unary-unknown : (s : State) (w : Why) (op : Unary) (d : Register) {v : Value} → v ≡ readOf s d → v ≡ Unknown → w ≡ unaryWhy s w op d
-unfolding unaryWhy
-unary-unknown s w op d {v} read is = rw (sym read ∙ is)
+pub arith-values : (s : State) (op : Binary) (d : Register) (o : Operand) (carry : Bool) {a b : Value} → (isIdiom op && sameRegister d o) ≡ false
+    → a ≡ readOf s d → b ≡ operandOf s (d .size) o → valuesOwn op d o a b carry ≡ arithOwn s op d o carry
+unfolding arithOwn
+arith-values s op d o carry e ra rb = rw (e, ra, rb)

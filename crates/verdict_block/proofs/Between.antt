@@ -51,7 +51,7 @@ module _ (l : List Instruction) where
   unfolding endFrom
   end-none i end start out = rw (apart-none i end out)
 
-  snoc-at : (first last : ℕ) (d : Instruction) → first ≤ last → last < length l → slice first (last + 1) l ≡ slice first last l ++ (getD l last d ∷ [])
+  pub snoc-at : (first last : ℕ) (d : Instruction) → first ≤ last → last < length l → slice first (last + 1) l ≡ slice first last l ++ (getD l last d ∷ [])
   snoc-at first last d order fits =
       let within : first ≤ length (take last l) = rw (length-take-le last l (omega arith)) order in
       rw (add-one last, take-suc l last d fits) (drop-append-le first (take last l) (getD l last d ∷ []) within)

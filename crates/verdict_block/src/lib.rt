@@ -51,7 +51,7 @@ pub fn jump_at(s: &[u8], sheet: Sheet, places: &[u64], number: usize) -> Jump
 
 // Step over the instructions of an accepted sheet from number `first` up to `end`: what is then known is left in the registers,
 // the flags come back.
-fn step_over(
+pub fn step_over(
     s: &[u8],
     sheet: Sheet,
     places: &[u64],
