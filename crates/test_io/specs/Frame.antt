@@ -1,5 +1,6 @@
 -- What a test program's input and its end are to be.
 use Prim.Native.Nat.{ℕ, _≤_}
+use mathlib.Core.Bool.{Bool, true, false}
 use Rattle.test_io.specs.declared.Next.{Next}
 use Rattle.test_io.specs.declared.Next.the-variants.{Frame, Over}
 use Rattle.test_io.specs.declared.Ending.{Ending}
@@ -10,12 +11,12 @@ abbrev pub Fits : Next → ℕ → Type 0
 Fits (Frame n) room = n ≤ room
 Fits (Over e) room = Unit {0}
 
--- the exit status: 0 for a program that answered every frame, and for no other
-abbrev pub statusOf : Ending → ℕ
-statusOf Whole = 0
-statusOf Cut = 1
-statusOf TooLong = 2
-statusOf TooManyValues = 3
-statusOf NoOperation = 4
-statusOf Unread = 5
-statusOf Unwritten = 6
+-- whether a program ends too early: one that answered every frame does not, any other does
+abbrev pub isEarly : Ending → Bool
+isEarly Whole = false
+isEarly Cut = true
+isEarly TooLong = true
+isEarly TooManyValues = true
+isEarly NoOperation = true
+isEarly Unread = true
+isEarly Unwritten = true

@@ -5,7 +5,7 @@ use libc::STDIN_FILENO;
 use libc::STDOUT_FILENO;
 ghost use mathlib.Core.Path.{_≡_};
 ghost use lib.ListN.{length};
-ghost use Rattle.test_io.specs.Frame.{Fits, statusOf};
+ghost use Rattle.test_io.specs.Frame.{Fits, isEarly};
 
 // How a program ends.
 pub enum Ending {
@@ -55,35 +55,35 @@ fn complain(text: &[u8]) {
     io::write_all(STDERR_FILENO, text);
 }
 
-// Says on standard error why a program ends too early, and gives its exit status.
-pub fn status(e: Ending) -> u32
-    ensures { λ r. ⌜ r ≡ statusOf e ⌝ }
+// Whether a program ends too early; if it does, says on standard error why.
+pub fn is_early(e: Ending) -> bool
+    ensures { λ r. ⌜ r ≡ isEarly e ⌝ }
 {
     match e {
-        Ending::Whole => 0,
+        Ending::Whole => false,
         Ending::Cut => {
             complain(b"the input is cut\n");
-            1
+            true
         }
         Ending::TooLong => {
             complain(b"a frame is too long\n");
-            2
+            true
         }
         Ending::TooManyValues => {
             complain(b"a frame has too many values\n");
-            3
+            true
         }
         Ending::NoOperation => {
             complain(b"a frame names no operation\n");
-            4
+            true
         }
         Ending::Unread => {
             complain(b"the input cannot be read\n");
-            5
+            true
         }
         Ending::Unwritten => {
             complain(b"the output cannot be written\n");
-            6
+            true
         }
     }
 }

@@ -136,6 +136,9 @@ pub fn serve(
     }
 }
 
+/// What a program writes last that ends before it has answered all frames.
+pub const ENDED_EARLY: &str = "ended too early";
+
 /// Runs the program on frames and gives its lines. The input is written from a
 /// thread of its own, so that neither side waits for ever.
 pub fn run(program: &[String], input: Vec<u8>) -> io::Result<Vec<String>> {
@@ -152,6 +155,9 @@ pub fn run(program: &[String], input: Vec<u8>) -> io::Result<Vec<String>> {
     let status = child.wait()?;
     if !status.success() {
         return Err(io::Error::other(format!("the program ended with {status}")));
+    }
+    if lines.last().is_some_and(|line| line.ends_with(ENDED_EARLY)) {
+        return Err(io::Error::other("the program ended too early"));
     }
     if let Err(error) = fed {
         eprintln!("the program did not take all input: {error}");

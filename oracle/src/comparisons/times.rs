@@ -2,7 +2,7 @@
 //! block verdict, one evaluation.
 
 use crate::cases::any_sheet::{Generator, Size};
-use crate::comparisons::frames::{ask_blocks, ask_evaluation, ask_reading};
+use crate::comparisons::frames::{ask_blocks, ask_evaluation, ask_reading, ENDED_EARLY};
 use crate::judges::reader::read;
 use crate::sheets::encode::encode;
 use crate::sheets::syntax::*;
@@ -108,7 +108,8 @@ pub fn processor_times(program: &[String], input: Vec<u8>) -> io::Result<Times> 
     let mut stdin = child.stdin.take().expect("the input is a pipe");
     let feeder = thread::spawn(move || stdin.write_all(&input));
     let mut stdout = child.stdout.take().expect("the output is a pipe");
-    io::copy(&mut stdout.by_ref(), &mut io::sink())?;
+    let mut written = Vec::new();
+    stdout.read_to_end(&mut written)?;
     feeder.join().expect("the feeding thread does not panic")?;
     let place = format!("/proc/{}/stat", child.id());
     let time = loop {
@@ -121,6 +122,9 @@ pub fn processor_times(program: &[String], input: Vec<u8>) -> io::Result<Times> 
     let status = child.wait()?;
     if !status.success() {
         return Err(io::Error::other(format!("the program ended with {status}")));
+    }
+    if written.trim_ascii_end().ends_with(ENDED_EARLY.as_bytes()) {
+        return Err(io::Error::other("the program ended too early"));
     }
     Ok(time)
 }
