@@ -1,2 +1,1 @@
 pub mod Sentence
-pub mod Contracts

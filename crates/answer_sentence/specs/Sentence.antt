@@ -2,38 +2,18 @@
 use Prim.Native.Nat.{ℕ}
 use mathlib.Core.Path.{_≡_}
 use mathlib.Core.Bool.{cond}
-use mathlib.Core.List.{List, [], _++_}
+use mathlib.Core.List.{List, _++_}
 use lib.Dec.{leb, ltb}
 use lib.ListN.{length, drop}
 use Rattle.refusal.specs.Numbers.{NUMBER, TEXT}
-use Rattle.machine.specs.declared.State.{State}
-use Rattle.machine.specs.Registers.{nothingKnown}
-use Rattle.machine.specs.Rules.{steppedAll}
 use Rattle.sheet.specs.declared.Reading.{Reading}
 use Rattle.sheet.specs.declared.Reading.the-variants as reading
 use Rattle.sheet.specs.Sheet.{readingOf}
-use Rattle.verdict_block.specs.declared.Jump.{Jump}
-use Rattle.verdict_block.specs.declared.Jump.the-variants.{Conditional, Nothing}
-use Rattle.verdict_block.specs.Verdict.{codeOf, Parts, apart, jumpOf}
-use Rattle.verdict_block.specs.Verdict.Parts.{none, ending}
-use Rattle.sentence.specs.Why.{Why, noWhy, whySteppedAll}
-use Rattle.sentence.specs.Told.{toldOf, sentenceOf}
+use Rattle.sentence_text.specs.declared.Fit.{Fit}
+use Rattle.sentence_text.specs.declared.Fit.the-variants.{Whole, Short}
+use Rattle.sentence_block.specs.Sentence.{sentenceOn}
 use Rattle.answer_sentence.specs.declared.Told.{Told}
 use Rattle.answer_sentence.specs.declared.Told.the-variants as told
-
--- The sentence of a jump, by what is known at it; without a conditional branch there is none (W16).
-abbrev pub jumpSentence : State → Why → Jump → List ℕ
-jumpSentence known why (Conditional m) = sentenceOf (toldOf known why m)
-jumpSentence known why Nothing = []
-
--- The sentence at the end of instructions, from what is known at their start and why (W11, W16).
-abbrev pub sentenceAt : State → Why → Parts → List ℕ
-sentenceAt start why none = []
-sentenceAt start why (ending before last) = jumpSentence (steppedAll start before) (whySteppedAll start why before) (jumpOf last)
-
--- The sentence of the block of that number: nothing is known where it starts (W11).
-unfoldable pub sentenceOn : List ℕ → ℕ → List ℕ
-sentenceOn s number = sentenceAt nothingKnown noWhy (apart (codeOf s number))
 
 -- An answer in numbers: the sentence's length; a refusal has a number and an offset.
 pub data ToldNumbers : Type 0 where
@@ -74,3 +54,8 @@ sentenceAnswer s block text = onReading (readingOf s) s block text
 -- what the code gives of it: the answer, and the text as it leaves it
 abbrev pub Gives : Told → List ℕ → Answered → Type 0
 Gives r text answered = (toldNumbers r ≡ answered .answer) × (text ≡ answered .text)
+
+-- what the code answers by whether the text could hold the sentence
+abbrev pub toldBy : Fit → Told
+toldBy (Whole n) = told.Length n
+toldBy (Short n) = told.Refused TEXT n

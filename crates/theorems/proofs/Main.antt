@@ -37,7 +37,8 @@ use Rattle.answer_listing.specs.Listing.{listingOf}
 use Rattle.answer_listing.specs.Listing.ListedNumbers.{lines, refused as refused-listing}
 use Rattle.answer_evaluation.specs.Evaluation.{evaluationAnswer}
 use Rattle.answer_evaluation.specs.Evaluation.Evaluated.{outcome, refused}
-use Rattle.answer_sentence.specs.Sentence.{sentenceOn, sentenceAnswer}
+use Rattle.sentence_block.specs.Sentence.{sentenceOn}
+use Rattle.answer_sentence.specs.Sentence.{sentenceAnswer}
 use Rattle.answer_sentence.specs.Sentence.ToldNumbers.{long, refused as refused-sentence}
 use Rattle.listing.specs.Program.{printed}
 use Rattle.theorems.specs.Runs.{Source, answerFor, Ends, ForcedEnd, nodeRun, SaysOf, AnswerFromRun}

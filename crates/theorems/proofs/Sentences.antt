@@ -31,7 +31,8 @@ use Rattle.verdict_block.specs.Verdict.Parts.{none, ending}
 use Rattle.sentence.specs.Why.{noWhy, whySteppedAll}
 use Rattle.sentence.specs.Told.{toldOf, sentenceOf}
 use Rattle.answer_block.specs.Block.{blockAnswer}
-use Rattle.answer_sentence.specs.Sentence.{Answered, turnedBack, written, onReading, jumpSentence, sentenceAt, sentenceOn, sentenceAnswer}
+use Rattle.sentence_block.specs.Sentence.{jumpSentence, sentenceAt, sentenceOn}
+use Rattle.answer_sentence.specs.Sentence.{Answered, turnedBack, written, onReading, sentenceAnswer}
 use Rattle.answer_sentence.specs.Sentence.ToldNumbers.{long, refused}
 use Rattle.theorems.specs.Sentences.{Holds, RefusesSentence, SentenceRow, answerTo, saidBy, fewDigits, sentenceRows}
 use Rattle.theorems.specs.Sentences.RefusesSentence.{byReading, noBlock, noRoom}
@@ -256,9 +257,9 @@ unfolding placesWithin
 five-places more = refl
 
 few-said : _≡_ {A = List Answered} (map answerTo fewDigits) (map saidBy fewDigits)
-unfolding fewDigits Rattle.sheet_field.specs.Field.little Rattle.sheet_field.specs.Field.fieldAt Rattle.sheet_field.specs.Field.checkField Rattle.sheet_field.specs.Field.codeAt Rattle.sheet_field.specs.Field.countAt Rattle.sheet_instruction.specs.Instruction.registerAt Rattle.sheet_instruction.specs.Instruction.operandAt Rattle.sheet_instruction.specs.Instruction.withRegister Rattle.sheet_instruction.specs.Instruction.registersFrom Rattle.sheet_instruction.specs.Instruction.registersAt Rattle.sheet_instruction.specs.Instruction.mapAt Rattle.sheet_instruction.specs.Instruction.addressAt Rattle.sheet_instruction.specs.Instruction.headAt Rattle.sheet_instruction.specs.Instruction.tailAt Rattle.sheet_instruction.specs.Instruction.instructionAt Rattle.sheet.specs.Sheet.instructionsFrom Rattle.sheet.specs.Sheet.blockAt Rattle.sheet.specs.Sheet.blocksFrom Rattle.sheet.specs.Sheet.nodesFrom Rattle.sheet.specs.Sheet.sheetAt Rattle.sheet.specs.Sheet.readingOf Rattle.isa.specs.Mnemonics.named Rattle.isa.specs.Mnemonics.table Rattle.verdict_block.specs.Verdict.within Rattle.verdict_block.specs.Verdict.codeOf Rattle.verdict_block.specs.Verdict.apart Rattle.machine.specs.Rules.steppedAll Rattle.machine.specs.Finish.finished Rattle.machine.specs.Rules.arithStep Rattle.machine.specs.Rules.unaryUnknown Rattle.machine.specs.Rules.unaryStep Rattle.machine.specs.Rules.registerStep Rattle.machine.specs.Rules.modelledStep Rattle.machine.specs.Rules.stepped Rattle.machine.specs.Registers.nothingKnown Rattle.machine.specs.Registers.slotAt Rattle.machine.specs.Registers.forgetRegister Rattle.machine.specs.Rules.carryStep Rattle.known.specs.Registers.partOf Rattle.known.specs.Registers.withPart Rattle.machine.specs.States.replaced Rattle.machine.specs.Registers.readOf Rattle.machine.specs.Registers.written Rattle.machine.specs.Registers.operandOf Rattle.machine.specs.Registers.forgetRegisters Rattle.machine.specs.Registers.forgotten Rattle.known.specs.Operations.ofItself Rattle.known.specs.Operations.ofKnown Rattle.known.specs.Operations.arithEffect Rattle.known.specs.Operations.unaryEffect Rattle.known.specs.Operations.forgetFlags Rattle.known.specs.Values.extracted Rattle.known.specs.Values.inserted Rattle.known.specs.Values.merged Rattle.alu.specs.Arithmetic.result Rattle.alu.specs.Arithmetic.carry Rattle.alu.specs.Arithmetic.overflow Rattle.alu.specs.Arithmetic.resultFlags Rattle.alu.specs.Arithmetic.performed lib.Count.ones Rattle.worked_sheets.specs.Sheets.placed Rattle.answer_sentence.specs.Sentence.sentenceOn Rattle.answer_sentence.specs.Sentence.sentenceAnswer Rattle.sentence.specs.Why.arithWhy Rattle.sentence.specs.Why.unaryWhy Rattle.sentence.specs.Why.modelledWhy Rattle.sentence.specs.Why.whyStepped Rattle.sentence.specs.Why.whySteppedAll Rattle.sentence.specs.Told.flagsTold Rattle.sentence.specs.Told.conditionTold Rattle.sentence.specs.Told.toldOf Rattle.sentence_text.specs.Sentence.joined Rattle.laws.specs.Words.sameWords Rattle.phrase.specs.Causes.valueText Rattle.phrase.specs.Causes.valuesText Rattle.phrase.specs.Causes.itselfText Rattle.phrase.specs.Causes.carryText Rattle.phrase.specs.Causes.overflowText Rattle.wording.specs.Names.words Rattle.wording.specs.Names.lowBytes Rattle.wording.specs.Names.highBytes Rattle.wording.specs.Names.lowName Rattle.wording.specs.Names.registerName Rattle.wording.specs.Values.signedBelow Rattle.wording.specs.Values.signedText Rattle.wording.specs.Values.isText Rattle.text.specs.Digits.digits Rattle.text.specs.Digits.placesWithin Rattle.text.specs.Ascii.ascii
+unfolding fewDigits Rattle.sheet_field.specs.Field.little Rattle.sheet_field.specs.Field.fieldAt Rattle.sheet_field.specs.Field.checkField Rattle.sheet_field.specs.Field.codeAt Rattle.sheet_field.specs.Field.countAt Rattle.sheet_instruction.specs.Instruction.registerAt Rattle.sheet_instruction.specs.Instruction.operandAt Rattle.sheet_instruction.specs.Instruction.withRegister Rattle.sheet_instruction.specs.Instruction.registersFrom Rattle.sheet_instruction.specs.Instruction.registersAt Rattle.sheet_instruction.specs.Instruction.mapAt Rattle.sheet_instruction.specs.Instruction.addressAt Rattle.sheet_instruction.specs.Instruction.headAt Rattle.sheet_instruction.specs.Instruction.tailAt Rattle.sheet_instruction.specs.Instruction.instructionAt Rattle.sheet.specs.Sheet.instructionsFrom Rattle.sheet.specs.Sheet.blockAt Rattle.sheet.specs.Sheet.blocksFrom Rattle.sheet.specs.Sheet.nodesFrom Rattle.sheet.specs.Sheet.sheetAt Rattle.sheet.specs.Sheet.readingOf Rattle.isa.specs.Mnemonics.named Rattle.isa.specs.Mnemonics.table Rattle.verdict_block.specs.Verdict.within Rattle.verdict_block.specs.Verdict.codeOf Rattle.verdict_block.specs.Verdict.apart Rattle.machine.specs.Rules.steppedAll Rattle.machine.specs.Finish.finished Rattle.machine.specs.Rules.arithStep Rattle.machine.specs.Rules.unaryUnknown Rattle.machine.specs.Rules.unaryStep Rattle.machine.specs.Rules.registerStep Rattle.machine.specs.Rules.modelledStep Rattle.machine.specs.Rules.stepped Rattle.machine.specs.Registers.nothingKnown Rattle.machine.specs.Registers.slotAt Rattle.machine.specs.Registers.forgetRegister Rattle.machine.specs.Rules.carryStep Rattle.known.specs.Registers.partOf Rattle.known.specs.Registers.withPart Rattle.machine.specs.States.replaced Rattle.machine.specs.Registers.readOf Rattle.machine.specs.Registers.written Rattle.machine.specs.Registers.operandOf Rattle.machine.specs.Registers.forgetRegisters Rattle.machine.specs.Registers.forgotten Rattle.known.specs.Operations.ofItself Rattle.known.specs.Operations.ofKnown Rattle.known.specs.Operations.arithEffect Rattle.known.specs.Operations.unaryEffect Rattle.known.specs.Operations.forgetFlags Rattle.known.specs.Values.extracted Rattle.known.specs.Values.inserted Rattle.known.specs.Values.merged Rattle.alu.specs.Arithmetic.result Rattle.alu.specs.Arithmetic.carry Rattle.alu.specs.Arithmetic.overflow Rattle.alu.specs.Arithmetic.resultFlags Rattle.alu.specs.Arithmetic.performed lib.Count.ones Rattle.worked_sheets.specs.Sheets.placed Rattle.sentence_block.specs.Sentence.sentenceOn Rattle.answer_sentence.specs.Sentence.sentenceAnswer Rattle.sentence.specs.Why.arithWhy Rattle.sentence.specs.Why.unaryWhy Rattle.sentence.specs.Why.modelledWhy Rattle.sentence.specs.Why.whyStepped Rattle.sentence.specs.Why.whySteppedAll Rattle.sentence.specs.Told.flagsTold Rattle.sentence.specs.Told.conditionTold Rattle.sentence.specs.Told.toldOf Rattle.sentence_text.specs.Sentence.joined Rattle.laws.specs.Words.sameWords Rattle.phrase.specs.Causes.valueText Rattle.phrase.specs.Causes.valuesText Rattle.phrase.specs.Causes.itselfText Rattle.phrase.specs.Causes.carryText Rattle.phrase.specs.Causes.overflowText Rattle.wording.specs.Names.words Rattle.wording.specs.Names.lowBytes Rattle.wording.specs.Names.highBytes Rattle.wording.specs.Names.lowName Rattle.wording.specs.Names.registerName Rattle.wording.specs.Values.signedBelow Rattle.wording.specs.Values.signedText Rattle.wording.specs.Values.isText Rattle.text.specs.Digits.digits Rattle.text.specs.Digits.placesWithin Rattle.text.specs.Ascii.ascii
 few-said = refl
 
 pub as-said : All (λ (r : SentenceRow). answerTo r ≡ saidBy r) sentenceRows
-unfolding All sentenceRows Rattle.sheet_field.specs.Field.little Rattle.sheet_field.specs.Field.fieldAt Rattle.sheet_field.specs.Field.checkField Rattle.sheet_field.specs.Field.codeAt Rattle.sheet_field.specs.Field.countAt Rattle.sheet_instruction.specs.Instruction.registerAt Rattle.sheet_instruction.specs.Instruction.operandAt Rattle.sheet_instruction.specs.Instruction.withRegister Rattle.sheet_instruction.specs.Instruction.registersFrom Rattle.sheet_instruction.specs.Instruction.registersAt Rattle.sheet_instruction.specs.Instruction.mapAt Rattle.sheet_instruction.specs.Instruction.addressAt Rattle.sheet_instruction.specs.Instruction.headAt Rattle.sheet_instruction.specs.Instruction.tailAt Rattle.sheet_instruction.specs.Instruction.instructionAt Rattle.sheet.specs.Sheet.instructionsFrom Rattle.sheet.specs.Sheet.blockAt Rattle.sheet.specs.Sheet.blocksFrom Rattle.sheet.specs.Sheet.nodesFrom Rattle.sheet.specs.Sheet.sheetAt Rattle.sheet.specs.Sheet.readingOf Rattle.isa.specs.Mnemonics.named Rattle.isa.specs.Mnemonics.table Rattle.verdict_block.specs.Verdict.within Rattle.verdict_block.specs.Verdict.codeOf Rattle.verdict_block.specs.Verdict.apart Rattle.machine.specs.Rules.steppedAll Rattle.machine.specs.Finish.finished Rattle.machine.specs.Rules.arithStep Rattle.machine.specs.Rules.unaryUnknown Rattle.machine.specs.Rules.unaryStep Rattle.machine.specs.Rules.registerStep Rattle.machine.specs.Rules.modelledStep Rattle.machine.specs.Rules.stepped Rattle.machine.specs.Registers.nothingKnown Rattle.machine.specs.Registers.slotAt Rattle.machine.specs.Registers.forgetRegister Rattle.machine.specs.Rules.carryStep Rattle.known.specs.Registers.partOf Rattle.known.specs.Registers.withPart Rattle.machine.specs.States.replaced Rattle.machine.specs.Registers.readOf Rattle.machine.specs.Registers.written Rattle.machine.specs.Registers.operandOf Rattle.machine.specs.Registers.forgetRegisters Rattle.machine.specs.Registers.forgotten Rattle.known.specs.Operations.ofItself Rattle.known.specs.Operations.ofKnown Rattle.known.specs.Operations.arithEffect Rattle.known.specs.Operations.unaryEffect Rattle.known.specs.Operations.forgetFlags Rattle.known.specs.Values.extracted Rattle.known.specs.Values.inserted Rattle.known.specs.Values.merged Rattle.alu.specs.Arithmetic.result Rattle.alu.specs.Arithmetic.carry Rattle.alu.specs.Arithmetic.overflow Rattle.alu.specs.Arithmetic.resultFlags Rattle.alu.specs.Arithmetic.performed lib.Count.ones Rattle.worked_sheets.specs.Sheets.placed Rattle.answer_sentence.specs.Sentence.sentenceOn Rattle.answer_sentence.specs.Sentence.sentenceAnswer Rattle.sentence.specs.Why.arithWhy Rattle.sentence.specs.Why.unaryWhy Rattle.sentence.specs.Why.modelledWhy Rattle.sentence.specs.Why.whyStepped Rattle.sentence.specs.Why.whySteppedAll Rattle.sentence.specs.Told.flagsTold Rattle.sentence.specs.Told.conditionTold Rattle.sentence.specs.Told.toldOf Rattle.sentence_text.specs.Sentence.joined Rattle.laws.specs.Words.sameWords Rattle.phrase.specs.Causes.valueText Rattle.phrase.specs.Causes.valuesText Rattle.phrase.specs.Causes.itselfText Rattle.phrase.specs.Causes.carryText Rattle.phrase.specs.Causes.overflowText Rattle.wording.specs.Names.words Rattle.wording.specs.Names.lowBytes Rattle.wording.specs.Names.highBytes Rattle.wording.specs.Names.lowName Rattle.wording.specs.Names.registerName Rattle.wording.specs.Values.signedBelow Rattle.wording.specs.Values.signedText Rattle.wording.specs.Values.isText Rattle.text.specs.Digits.digits Rattle.text.specs.Ascii.ascii
+unfolding All sentenceRows Rattle.sheet_field.specs.Field.little Rattle.sheet_field.specs.Field.fieldAt Rattle.sheet_field.specs.Field.checkField Rattle.sheet_field.specs.Field.codeAt Rattle.sheet_field.specs.Field.countAt Rattle.sheet_instruction.specs.Instruction.registerAt Rattle.sheet_instruction.specs.Instruction.operandAt Rattle.sheet_instruction.specs.Instruction.withRegister Rattle.sheet_instruction.specs.Instruction.registersFrom Rattle.sheet_instruction.specs.Instruction.registersAt Rattle.sheet_instruction.specs.Instruction.mapAt Rattle.sheet_instruction.specs.Instruction.addressAt Rattle.sheet_instruction.specs.Instruction.headAt Rattle.sheet_instruction.specs.Instruction.tailAt Rattle.sheet_instruction.specs.Instruction.instructionAt Rattle.sheet.specs.Sheet.instructionsFrom Rattle.sheet.specs.Sheet.blockAt Rattle.sheet.specs.Sheet.blocksFrom Rattle.sheet.specs.Sheet.nodesFrom Rattle.sheet.specs.Sheet.sheetAt Rattle.sheet.specs.Sheet.readingOf Rattle.isa.specs.Mnemonics.named Rattle.isa.specs.Mnemonics.table Rattle.verdict_block.specs.Verdict.within Rattle.verdict_block.specs.Verdict.codeOf Rattle.verdict_block.specs.Verdict.apart Rattle.machine.specs.Rules.steppedAll Rattle.machine.specs.Finish.finished Rattle.machine.specs.Rules.arithStep Rattle.machine.specs.Rules.unaryUnknown Rattle.machine.specs.Rules.unaryStep Rattle.machine.specs.Rules.registerStep Rattle.machine.specs.Rules.modelledStep Rattle.machine.specs.Rules.stepped Rattle.machine.specs.Registers.nothingKnown Rattle.machine.specs.Registers.slotAt Rattle.machine.specs.Registers.forgetRegister Rattle.machine.specs.Rules.carryStep Rattle.known.specs.Registers.partOf Rattle.known.specs.Registers.withPart Rattle.machine.specs.States.replaced Rattle.machine.specs.Registers.readOf Rattle.machine.specs.Registers.written Rattle.machine.specs.Registers.operandOf Rattle.machine.specs.Registers.forgetRegisters Rattle.machine.specs.Registers.forgotten Rattle.known.specs.Operations.ofItself Rattle.known.specs.Operations.ofKnown Rattle.known.specs.Operations.arithEffect Rattle.known.specs.Operations.unaryEffect Rattle.known.specs.Operations.forgetFlags Rattle.known.specs.Values.extracted Rattle.known.specs.Values.inserted Rattle.known.specs.Values.merged Rattle.alu.specs.Arithmetic.result Rattle.alu.specs.Arithmetic.carry Rattle.alu.specs.Arithmetic.overflow Rattle.alu.specs.Arithmetic.resultFlags Rattle.alu.specs.Arithmetic.performed lib.Count.ones Rattle.worked_sheets.specs.Sheets.placed Rattle.sentence_block.specs.Sentence.sentenceOn Rattle.answer_sentence.specs.Sentence.sentenceAnswer Rattle.sentence.specs.Why.arithWhy Rattle.sentence.specs.Why.unaryWhy Rattle.sentence.specs.Why.modelledWhy Rattle.sentence.specs.Why.whyStepped Rattle.sentence.specs.Why.whySteppedAll Rattle.sentence.specs.Told.flagsTold Rattle.sentence.specs.Told.conditionTold Rattle.sentence.specs.Told.toldOf Rattle.sentence_text.specs.Sentence.joined Rattle.laws.specs.Words.sameWords Rattle.phrase.specs.Causes.valueText Rattle.phrase.specs.Causes.valuesText Rattle.phrase.specs.Causes.itselfText Rattle.phrase.specs.Causes.carryText Rattle.phrase.specs.Causes.overflowText Rattle.wording.specs.Names.words Rattle.wording.specs.Names.lowBytes Rattle.wording.specs.Names.highBytes Rattle.wording.specs.Names.lowName Rattle.wording.specs.Names.registerName Rattle.wording.specs.Values.signedBelow Rattle.wording.specs.Values.signedText Rattle.wording.specs.Values.isText Rattle.text.specs.Digits.digits Rattle.text.specs.Ascii.ascii
 as-said = (rw (eight-places 0xffff_ffee, two-places), (rw (five-places 0xfffb), each answerTo saidBy fewDigits few-said))

@@ -9,7 +9,8 @@ use Rattle.sheet.specs.declared.Sheet.{Sheet}
 use Rattle.sheet.specs.declared.Reading.the-variants as reading
 use Rattle.sheet.specs.Sheet.{readingOf}
 use Rattle.text.specs.Ascii.{ascii}
-use Rattle.answer_sentence.specs.Sentence.{Answered, sentenceOn, sentenceAnswer}
+use Rattle.sentence_block.specs.Sentence.{sentenceOn}
+use Rattle.answer_sentence.specs.Sentence.{Answered, sentenceAnswer}
 use Rattle.answer_sentence.specs.Sentence.ToldNumbers.{long}
 use Rattle.worked_sheets.specs.Sheets.{Placed, sheet, imm, bit16, al, rax, rcx, ecx, cx, jump, call, stc, clc, cmc, mov, add, sub, cmp, and, or, xor, test, inc, dec, neg, je, jb, jo, jrcxz, jecxz, jcxz}
 

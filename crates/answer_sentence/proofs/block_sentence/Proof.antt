@@ -41,6 +41,9 @@ slice-aggregate-sentence-on-2 c = sym (length-take-le _ _ ((c .before .before .b
 sentence-on-requires : tie.Need-sentence-on-requires
 sentence-on-requires c κs = ((sym (c .before .before .before .before .before .before .before .before .before .before .before .before .index-instructions .ensures .0) ∙ c .before .before .before .before .before .before .before .before .reading2 .given .1), (c .before .before .before .before .if1 .left, ((c .before .before .before .before .before .before .before .before .before .before .before .before .index-instructions .ensures .1 _ (c .before .before .before .before .before .before .before .before .reading2 .given .1) .0 (le-trans (accepted _ _ (sym (c .before .before .before .before .before .before .before .before .before .before .before .before .index-instructions .ensures .0) ∙ c .before .before .before .before .before .before .before .before .reading2 .given .1) .few) (search needs))) .are, (c .before .before .before .before .before .before .before .before .before .before .before .before .index-instructions .ensures .1 _ (c .before .before .before .before .before .before .before .before .reading2 .given .1) .1 (le-trans (accepted _ _ (sym (c .before .before .before .before .before .before .before .before .before .before .before .before .index-instructions .ensures .0) ∙ c .before .before .before .before .before .before .before .before .reading2 .given .1) .few) (search needs))) .are)))
 
+answer-of-requires : tie.Need-answer-of-requires
+answer-of-requires c κs = search needs
+
 returns-2 : tie.Need-returns-2
 returns-2 c = sentence-refused _ _ _ (c .before .before .before .before .before .index-instructions .ensures .0) (c .before .reading .given .1)
 
@@ -48,7 +51,7 @@ same-length : tie.Need-same-length
 same-length c = search needs
 
 returns-3 : tie.Need-returns-3
-returns-3 c = sentence-given _ _ _ (c .before .before .before .before .before .before .before .before .before .before .before .before .before .before .before .index-instructions .ensures .0) (c .before .before .sentence-on .result) (c .before .before .before .before .before .before .before .before .before .before .before .reading2 .given .1) (c .before .before .before .before .before .before .before .if1 .left) (c .before .before .sentence-on .ensures)
+returns-3 c = sentence-given _ _ _ (c .before .before .before .before .before .before .before .before .before .before .before .before .before .before .before .before .index-instructions .ensures .0) (c .before .before .before .sentence-on .result) _ (c .before .before .before .before .before .before .before .before .before .before .before .before .reading2 .given .1) (c .before .before .before .before .before .before .before .before .if1 .left) (c .answer-of .ensures) (c .before .before .before .sentence-on .ensures)
 
 pub block-sentence-spec : {M : Type 1} → statement M
 block-sentence-spec =
@@ -65,6 +68,7 @@ block-sentence-spec =
     array-share-prefix-places
     slice-aggregate-sentence-on-2
     sentence-on-requires
+    answer-of-requires
     returns-2
     same-length
     returns-3)

@@ -9,18 +9,21 @@ use Rattle.isa.specs.declared.Mnemonic.{Mnemonic}
 use Rattle.isa.specs.declared.Instruction.{Instruction}
 use Rattle.machine.specs.Registers.{nothingKnown}
 use Rattle.machine.specs.Rules.{steppedAll}
+use Rattle.sheet.specs.Sheet.{sheetAt}
 use Rattle.sheet.proofs.Fronts.{one}
+use Rattle.verdict_block.specs.declared.Range.{Range}
 use Rattle.verdict_block.specs.declared.Jump.{Jump}
 use Rattle.verdict_block.specs.declared.Jump.the-variants.{Conditional, Nothing}
 use Rattle.verdict_block.specs.Verdict.{apart, jumpOf}
+use Rattle.verdict_block.specs.Contracts.{RangeOf}
 use Rattle.verdict_block.proofs.Between.{apart-none, apart-between}
 use Rattle.sentence.specs.declared.Setters.{Setters}
 use Rattle.sentence.specs.declared.Telling.{Telling}
 use Rattle.sentence.specs.Why.{noWhy}
 use Rattle.sentence.specs.Contracts.{tellingOf, tellingText}
 use Rattle.sentence.proofs.Tellings.{telling-text}
-use Rattle.answer_sentence.specs.Sentence.{sentenceAt}
-use Rattle.answer_sentence.specs.Contracts.{carryAt, resultAt, Traced}
+use Rattle.sentence_block.specs.Sentence.{sentenceAt, sentenceOn}
+use Rattle.sentence_block.specs.Contracts.{carryAt, resultAt, Traced}
 
 module _ (l : List Instruction) where
   -- there is no instruction
@@ -44,3 +47,10 @@ module _ (l : List Instruction) where
     sentence-branch {m} is traced telling-is said-is =
         rw (apart-between l first last end some below last-is fits, ← jump-is some, is, said-is some, telling-is)
         (telling-text _ _ (traced .share some) m)
+
+-- a block's sentence, from its range
+pub on-range : (s : List ℕ) (number : ℕ) {range : Range} {sentence : List ℕ} → RangeOf s number range
+    → sentence ≡ sentenceAt nothingKnown noWhy (apart (slice (range .first) (range .end) (sheetAt s .instructions .list)))
+    → sentence ≡ sentenceOn s number
+unfolding sentenceOn
+on-range s number of is = rw (of .code) is

@@ -1,8 +1,8 @@
 use native.Mathlib.Omega.{arith}
-use Rattle.answer_sentence.proofs.Traced.{own-there}
+use Rattle.sentence_block.proofs.Traced.{own-there}
 use borrow.Author.Needs.{needs}
-use Rattle.answer_sentence.proofs.cause_at.Statement.{statement}
-use Rattle.answer_sentence.proofs.cause_at.Tie as tie
+use Rattle.sentence_block.proofs.cause_at.Statement.{statement}
+use Rattle.sentence_block.proofs.cause_at.Tie as tie
 
 unknown-requires : tie.Need-unknown-requires
 unknown-requires c κs = search needs

@@ -2,10 +2,10 @@ use native.Mathlib.Omega.{arith}
 use Prim.Native.Nat.{_-_}
 use Rattle.sentence_text.specs.Contracts.{saidText}
 use Rattle.verdict_block.proofs.OnSheet.{inside}
-use Rattle.answer_sentence.proofs.Sentences.{sentence-none, sentence-other, sentence-branch}
+use Rattle.sentence_block.proofs.Sentences.{sentence-none, sentence-other, sentence-branch}
 use borrow.Author.Needs.{needs}
-use Rattle.answer_sentence.proofs.said_in.Statement.{statement}
-use Rattle.answer_sentence.proofs.said_in.Tie as tie
+use Rattle.sentence_block.proofs.said_in.Statement.{statement}
+use Rattle.sentence_block.proofs.said_in.Tie as tie
 
 returns : tie.Need-returns
 unfolding saidText

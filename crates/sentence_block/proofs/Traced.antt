@@ -26,7 +26,7 @@ use Rattle.sentence.specs.Contracts.Sets.{sets-none, sets-carry, turns-carry, s
 use Rattle.sentence.proofs.Changes.{Way, carryWay, resultWay, Change, Changes, changed}
 use Rattle.sentence.proofs.Changes.Way.{sets, turns, keeps}
 use Rattle.sentence.proofs.Changes.Change.{unknown as becomes-unknown, set, stays, kept, round}
-use Rattle.answer_sentence.specs.Contracts.{ownAt, carryAt, resultAt, Traced}
+use Rattle.sentence_block.specs.Contracts.{ownAt, carryAt, resultAt, Traced}
 
 -- ---- one instruction more
 

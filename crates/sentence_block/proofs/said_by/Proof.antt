@@ -3,8 +3,8 @@ use mathlib.Core.List.{append-nil}
 use Rattle.sentence_text.specs.Sentence.{turnedTimes}
 use Rattle.sentence_text.specs.Contracts.{saidText}
 use borrow.Author.Needs.{needs}
-use Rattle.answer_sentence.proofs.said_by.Statement.{statement}
-use Rattle.answer_sentence.proofs.said_by.Tie as tie
+use Rattle.sentence_block.proofs.said_by.Statement.{statement}
+use Rattle.sentence_block.proofs.said_by.Tie as tie
 
 enum-told : tie.Need-enum-told
 enum-told c = search needs

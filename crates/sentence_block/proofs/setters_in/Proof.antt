@@ -2,11 +2,11 @@ use native.Mathlib.Omega.{arith}
 use Prim.Native.Nat.{_-_, _≤_}
 use Rattle.sheet.specs.Sheet.{sheetAt}
 use Rattle.verdict_block.proofs.OnSheet.{inside}
-use Rattle.answer_sentence.specs.Contracts.{Traced}
-use Rattle.answer_sentence.proofs.Declared.{declared-there}
-use Rattle.answer_sentence.proofs.Traced.{traced-none, traced-next, traced-all}
-use Rattle.answer_sentence.proofs.setters_in.Statement.{statement}
-use Rattle.answer_sentence.proofs.setters_in.Tie as tie
+use Rattle.sentence_block.specs.Contracts.{Traced}
+use Rattle.sentence_block.proofs.Declared.{declared-there}
+use Rattle.sentence_block.proofs.Traced.{traced-none, traced-next, traced-all}
+use Rattle.sentence_block.proofs.setters_in.Statement.{statement}
+use Rattle.sentence_block.proofs.setters_in.Tie as tie
 
 abbrev Inv-loop : tie.InvT-loop
 Inv-loop s sheet places first end setters₀ i₀ setters i =

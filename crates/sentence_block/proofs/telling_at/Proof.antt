@@ -2,8 +2,8 @@ use mathlib.Core.Path.{ap, _∙_}
 use Rattle.sentence.specs.Contracts.{tellingOf}
 use Rattle.machine.specs.declared.State.{State}
 use borrow.Author.Needs.{needs}
-use Rattle.answer_sentence.proofs.telling_at.Statement.{statement}
-use Rattle.answer_sentence.proofs.telling_at.Tie as tie
+use Rattle.sentence_block.proofs.telling_at.Statement.{statement}
+use Rattle.sentence_block.proofs.telling_at.Tie as tie
 
 unknown-requires : tie.Need-unknown-requires
 unknown-requires c κs = search needs
