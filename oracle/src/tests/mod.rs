@@ -1,4 +1,5 @@
 mod evaluation;
+mod frames;
 mod listing;
 mod nodes;
 mod sentences;
