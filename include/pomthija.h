@@ -30,7 +30,7 @@ extern "C" {
 
 /* The number of this interface. pomthija_version gives the library's: where the two differ, this is not
  * the header of the library that the host is linked with. */
-#define POMTHIJA_VERSION 2
+#define POMTHIJA_VERSION 1
 
 uint64_t pomthija_version(void);
 
@@ -86,8 +86,7 @@ enum {
     POMTHIJA_COUNT = 3,       /* a count outside its limits; offset: its first byte */
     POMTHIJA_ADDRESS = 4,     /* an instruction's address is no greater than the one before; offset: its first byte */
     POMTHIJA_REGISTER = 5,    /* a general register (class 1) that does not exist; offset: its class byte */
-    POMTHIJA_SIZES = 6,       /* two general registers of a modelled instruction differ in size, as in add eax, bx: mend
-                                 the size of one; offset: its map */
+    POMTHIJA_INSTRUCTION = 6, /* operands or declared flags that a modelled instruction cannot have; offset: its map */
     POMTHIJA_TREE = 7,        /* records that do not form one tree; offset: the record without enough children, or,
                                  where trees are left over, the byte after the expression */
     POMTHIJA_CONSTANT = 8,    /* a constant that does not fit its width; offset: its value's first byte */
@@ -96,22 +95,14 @@ enum {
     /* the sheet is accepted, but not the request */
     POMTHIJA_RECORDS = 10,    /* a value that a node assigns, or its condition, passes 128 records once the values
                                  assigned before stand in it; offset: the node's first byte */
-    POMTHIJA_TERMS = 11,      /* an equality of a node passes the limits on terms; offset: the operator's record that
-                                 passes one first, or that of == or != if both sides together have too many, in the
-                                 condition or in the statement whose value has it */
+    POMTHIJA_TERMS = 11,      /* an equality of a node passes the limits on terms; offset: the node's first byte */
     POMTHIJA_ROOM = 12,       /* the list is too short for the lines; offset: the sheet's length */
     POMTHIJA_NUMBER = 13,     /* the sheet has no block, or node, of this number; offset: 0 */
     POMTHIJA_DIVISION = 14,   /* the run divides by zero; offset: the node's first byte */
     POMTHIJA_NOT_PLAIN = 15,  /* an effect, a load or a statement that assigns nothing; offset: the node's first byte */
     POMTHIJA_VALUE = 16,      /* no value for a variable, or one that its type cannot hold; offset: the number of the
                                  first such variable, from 0 */
-    POMTHIJA_TEXT = 17,       /* the text is too short for the sentence; offset: the sentence's length */
-
-    /* the sheet is not in the format, as for 1 to 9 */
-    POMTHIJA_CLASS = 18,      /* a modelled instruction other than mov has a register that is not general (class 1):
-                                 give it mnemonic 0, and declare what it writes; offset: its map */
-    POMTHIJA_FLAGS = 19       /* inc or dec of a register declares not all of PF, ZF, SF and OF, or neg not all five:
-                                 add them to its written flags; offset: its map */
+    POMTHIJA_TEXT = 17        /* the text is too short for the sentence; offset: the sentence's length */
 };
 
 /* Runs one node of a sheet, numbered from 0, on given values, and says whether its condition holds:

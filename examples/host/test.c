@@ -37,14 +37,7 @@ static const uint8_t twice[] = {2, 0, 0, 1, 0, 0, 0, 0, 0, 0, 0, 0, 0, 1, 0, 0, 
 /* an instruction with a register of class 1 and index 16 */
 static const uint8_t ill_formed[] = {1, 0, 4, 0, 0, 0, 0, 0, 0, 0, 0, 0, 0, 1, 16, 32, 0};
 
-/* add eax, bx */
-static const uint8_t sizes[] = {1, 0, 12, 0, 0, 0, 0, 0, 0, 0, 0, 6, 0, 1, 0, 32, 0, 0, 1, 3, 16, 0};
-
-/* add of eax and a register of class 2 with 16 bits */
-static const uint8_t other_class[] = {1, 0, 12, 0, 0, 0, 0, 0, 0, 0, 0, 6, 0, 1, 0, 32, 0, 0, 2, 0, 16, 0};
-
-/* inc that declares no flags, of a register of class 2 and of eax */
-static const uint8_t neither[] = {1, 0, 4, 0, 0, 0, 0, 0, 0, 0, 0, 13, 0, 2, 0, 32, 0};
+/* inc eax that declares no flags */
 static const uint8_t undeclared[] = {1, 0, 4, 0, 0, 0, 0, 0, 0, 0, 0, 13, 0, 1, 0, 32, 0};
 
 /* a condition that is the constant 256 of width 1 */
@@ -210,8 +203,7 @@ static void write_long(void)
     put(0, 2);
 }
 
-/* a node that asks whether a product of three sums of eight variables is 0: 512 terms. The second product passes the limit, at 128:
- * its records start at 36, and a variable or an operator has two bytes. */
+/* a node that asks whether a product of three sums of eight variables is 0: 512 terms */
 static void write_wide(void)
 {
     used = 0;
@@ -230,49 +222,6 @@ static void write_wide(void)
     }
     put(1, 1), put(4, 1), put(0, 8);
     put(7, 1), put(10, 1);
-    put(0, 2);
-}
-
-/* the first nine variables joined by or, 34 bytes: 511 terms, of which the last or makes 256 */
-static void put_nine(void)
-{
-    for (int v = 0; v < 9; v++) {
-        put(0, 1), put(v, 1);
-        if (v > 0)
-            put(7, 1), put(6, 1);
-    }
-}
-
-/* a node whose condition asks whether variable 10 is 0, which has the value of variable 9, and that one the nine: the statement's
- * first record is at 25, its last or at 57 */
-static void write_held(void)
-{
-    used = 0;
-    put(0, 2), put(0, 2), put(1, 2);
-    put(11, 2);
-    for (int v = 0; v < 11; v++)
-        put(6, 1);
-    put(2, 2);
-    put(3, 1), put(9, 1), put(17, 2);
-    put_nine();
-    put(3, 1), put(10, 1), put(1, 2), put(0, 1), put(9, 1);
-    put(3, 2), put(0, 1), put(10, 1), put(1, 1), put(4, 1), put(0, 8), put(7, 1), put(10, 1);
-    put(0, 2);
-}
-
-/* two nodes: true, and from 15 on whether the nine are 0; its first record is at 30, its last or at 62 */
-static void write_second(void)
-{
-    used = 0;
-    put(0, 2), put(0, 2), put(2, 2);
-    put(0, 2), put(0, 2), put(1, 2), put(2, 1), put(0, 2);
-    put(9, 2);
-    for (int v = 0; v < 9; v++)
-        put(6, 1);
-    put(0, 2);
-    put(19, 2);
-    put_nine();
-    put(1, 1), put(4, 1), put(0, 8), put(7, 1), put(10, 1);
     put(0, 2);
 }
 
@@ -311,10 +260,7 @@ static void refusals(void)
     refuses("a count over its limit", bad, sizeof bad, POMTHIJA_COUNT, 6);
     refuses("an address twice", twice, sizeof twice, POMTHIJA_ADDRESS, 13);
     refuses("an ill formed register", ill_formed, sizeof ill_formed, POMTHIJA_REGISTER, 13);
-    refuses("registers of two sizes", sizes, sizeof sizes, POMTHIJA_SIZES, 2);
-    refuses("a register of another class", other_class, sizeof other_class, POMTHIJA_CLASS, 2);
-    refuses("a register of another class, and undeclared flags", neither, sizeof neither, POMTHIJA_CLASS, 2);
-    refuses("undeclared flags", undeclared, sizeof undeclared, POMTHIJA_FLAGS, 2);
+    refuses("undeclared flags", undeclared, sizeof undeclared, POMTHIJA_INSTRUCTION, 2);
     bad[6] = 1;
     bad[11] = 4;
     refuses("not one tree", bad, sizeof bad, POMTHIJA_TREE, sizeof bad - 4);
@@ -366,12 +312,7 @@ static void verdicts(void)
     write_long();
     judges("more than 128 records", written, used, 0, POMTHIJA_RECORDS, 6, POMTHIJA_REASON_NONE);
     write_wide();
-    judges("more than 256 terms", written, used, 0, POMTHIJA_TERMS, 128, POMTHIJA_REASON_NONE);
-    write_held();
-    judges("more than 256 terms in a value", written, used, 0, POMTHIJA_TERMS, 57, POMTHIJA_REASON_NONE);
-    write_second();
-    judges("the first of two nodes", written, used, 0, POMTHIJA_OK, POMTHIJA_ALWAYS, POMTHIJA_REASON_TRUTH);
-    judges("more than 256 terms in the second node", written, used, 1, POMTHIJA_TERMS, 62, POMTHIJA_REASON_NONE);
+    judges("more than 256 terms", written, used, 0, POMTHIJA_TERMS, 6, POMTHIJA_REASON_NONE);
 }
 
 /* a node whose condition has 127 records: whether a sum of 63 variables, nested to the right, is 0; of all chains it needs
@@ -422,11 +363,7 @@ static void listings(void)
     write_long();
     lists("more than 128 records", written, used, 100, POMTHIJA_RECORDS, 6, NULL, 0);
     write_wide();
-    lists("more than 256 terms", written, used, 100, POMTHIJA_TERMS, 128, NULL, 0);
-    write_held();
-    lists("more than 256 terms in a value", written, used, 100, POMTHIJA_TERMS, 57, NULL, 0);
-    write_second();
-    lists("more than 256 terms in the second node", written, used, 100, POMTHIJA_TERMS, 62, NULL, 0);
+    lists("more than 256 terms", written, used, 100, POMTHIJA_TERMS, 6, NULL, 0);
 }
 
 /* what is said where there is room, and the answer where there is one byte too few */

@@ -14,7 +14,7 @@ extern "C" {
 }
 
 /// The interface that is declared above.
-const VERSION: u64 = 2;
+const VERSION: u64 = 1;
 
 /// A list that is long enough for every sheet.
 const LIST: usize = 2_048 * LINE;

@@ -16,11 +16,8 @@ pub enum Answer {
     Undecided,
     /// The block does not end in a conditional branch.
     NoBranch,
-    /// The verdict on a node is refused, by this number at this byte of the sheet.
-    Refused {
-        number: u8,
-        place: usize,
-    },
+    /// The verdict on a node is refused, by this number.
+    Refused(u8),
     /// The given source was not run to its end, or not asked.
     NotRun,
 }
@@ -37,17 +34,17 @@ pub const FLAGS: u8 = 1;
 
 impl Answer {
     pub fn is_refused(self) -> bool {
-        matches!(self, Answer::Refused { .. })
+        matches!(self, Answer::Refused(_))
     }
 
-    /// The answer in words, a refusal without its place.
+    /// The answer in words.
     pub fn named(self) -> String {
         match self {
             Answer::Decided(Decided { holds: true, reason }) => format!("always {reason}"),
             Answer::Decided(Decided { holds: false, reason }) => format!("never {reason}"),
             Answer::Undecided => "undecided".to_string(),
             Answer::NoBranch => "no branch".to_string(),
-            Answer::Refused { number, .. } => format!("refused {number}"),
+            Answer::Refused(number) => format!("refused {number}"),
             Answer::NotRun => "not judged by the given source".to_string(),
         }
     }
@@ -60,7 +57,7 @@ impl fmt::Display for Answer {
             Answer::Decided(Decided { holds: false, reason }) => write!(out, "v{reason}"),
             Answer::Undecided => write!(out, "u"),
             Answer::NoBranch => write!(out, "n"),
-            Answer::Refused { number, place } => write!(out, "r{number}@{place}"),
+            Answer::Refused(number) => write!(out, "r{number}"),
             Answer::NotRun => write!(out, "-"),
         }
     }
@@ -78,13 +75,7 @@ impl FromStr for Answer {
             b"-" => Ok(Answer::NotRun),
             [b'a', _, ..] => Ok(Answer::Decided(Decided { holds: true, reason: number()? })),
             [b'v', _, ..] => Ok(Answer::Decided(Decided { holds: false, reason: number()? })),
-            [b'r', _, ..] => {
-                let (number, place) = word[1..].split_once('@').ok_or_else(unclear)?;
-                match (number.parse(), place.parse()) {
-                    (Ok(number), Ok(place)) => Ok(Answer::Refused { number, place }),
-                    _ => Err(unclear()),
-                }
-            }
+            [b'r', _, ..] => Ok(Answer::Refused(number()?)),
             _ => Err(unclear()),
         }
     }

@@ -21,8 +21,8 @@ const USAGE: &str = "usage:
                                    the stored cases, and the lines due
   oracle blocks --program PATH --given PATH [--sheets N] [--seed S]
   oracle blocks --stub --given PATH [--sheets N] [--seed S]
-  oracle nodes --program PATH [--given PATH] [--nodes N] [--seed S] [--limits] [--smallest]
-  oracle nodes --stub [--given PATH] [--nodes N] [--seed S] [--limits] [--smallest]
+  oracle nodes --program PATH [--given PATH] [--nodes N] [--seed S] [--smallest]
+  oracle nodes --stub [--given PATH] [--nodes N] [--seed S] [--smallest]
   oracle runs --program PATH [--runs N] [--seed S]
   oracle runs --stub [--runs N] [--seed S]
   oracle runs --given PATH [--runs N] [--seed S]
@@ -71,7 +71,6 @@ struct Options {
     given: Option<String>,
     stub: bool,
     smallest: bool,
-    limits: bool,
     sheets: Option<u64>,
     nodes: Option<u64>,
     runs: Option<u64>,
@@ -88,7 +87,6 @@ impl Options {
             let plain = match *word {
                 "--stub" => Some(&mut options.stub),
                 "--smallest" => Some(&mut options.smallest),
-                "--limits" => Some(&mut options.limits),
                 _ => None,
             };
             if let Some(plain) = plain {
@@ -198,7 +196,6 @@ fn compare_nodes(options: &Options) -> Outcome {
         given: options.given.as_ref().map(std::slice::from_ref),
         nodes: options.nodes.unwrap_or(20_000),
         seed: options.seed.unwrap_or(1),
-        near_limits: options.limits,
         smallest: options.smallest,
     };
     nodes::compare(&job).map_err(|error| format!("{}: {error}", program[0]))

@@ -3,7 +3,6 @@ use Prim.Native.Nat.{ℕ}
 use mathlib.Core.Path.{◌≡◌, refl}
 use mathlib.Core.Bool.{Bool, true, false, cond}
 use mathlib.Core.List.{List}
-use mathlib.Core.Option.{Option, none, some}
 use lib.Dec.{ltb}
 use Rattle.substitution.specs.Substitution.{Substituted, too_long, into, with_assignments}
 use Rattle.verdict.specs.declared.Verdict.{Verdict}
@@ -12,14 +11,13 @@ use Rattle.verdict.specs.declared.Answer.{Answer}
 use Rattle.verdict.specs.declared.Answer.TheVariants.{Given, Refused}
 use Rattle.verdict.specs.Numbers.{Numbers, answer_numbers}
 use Rattle.verdict.specs.Numbers.Numbers.{decision, undecided, no_branch, refused}
-use Rattle.decide.specs.Decide.{decide}
-use Rattle.decide.specs.Passed.{condition_passed}
+use Rattle.decide.specs.Decide.{decide, fits}
 use Rattle.decide.proofs.Reasons.{has-branch}
 use Rattle.sheet_node.specs.Node.{Node}
 use Rattle.sheet.specs.declared.Reading.{Reading}
 use Rattle.sheet.specs.declared.Reading.TheVariants as reading
 use Rattle.sheet.specs.Sheet.{reading_of}
-use Rattle.verdict_node.specs.NodeVerdict.{on_passed, on_substituted, byte_of, node_verdict}
+use Rattle.verdict_node.specs.NodeVerdict.{on_substituted, node_verdict}
 use Rattle.answer_node.specs.Node.{on_node, node_answer}
 
 abbrev Judges : Numbers → Type 0
@@ -38,21 +36,17 @@ test-judges : (b : Bool) (a : Answer) (k at : ℕ) → Judges (answer_numbers a)
 test-judges true a k at judges = judges
 test-judges false a k at judges = tt
 
-passed-judges : (byte : ℕ → ℕ) (v : Verdict) (o : Option ℕ) → (v ≡ NoBranch → ⊥) → Judges (answer_numbers (on_passed byte v o))
-passed-judges byte v none there = given-judges v there
-passed-judges byte v (some k) there = tt
+substituted-judges : (place : ℕ) (e : Substituted) → Judges (answer_numbers (on_substituted place e))
+substituted-judges place too_long = tt
+substituted-judges place (into e) = test-judges (fits e) (Given (decide e)) _ _ (given-judges (decide e) (has-branch e))
 
-substituted-judges : (place : ℕ) (byte : ℕ → ℕ) (e : Substituted) → Judges (answer_numbers (on_substituted place byte e))
-substituted-judges place byte too_long = tt
-substituted-judges place byte (into e) = passed-judges byte (decide e) (condition_passed e) (has-branch e)
-
-node-judges : (n : Node) (place : ℕ) (bytes : ℕ → ℕ → ℕ) → Judges (answer_numbers (node_verdict n place bytes))
+node-judges : (n : Node) (place : ℕ) → Judges (answer_numbers (node_verdict n place))
 unfolding node_verdict
-node-judges n place bytes = substituted-judges place (byte_of n bytes) (with_assignments n.statements n.condition)
+node-judges n place = substituted-judges place (with_assignments n.statements n.condition)
 
 reading-judges : (r : Reading) (s : List ℕ) (number : ℕ) → Judges (answer_numbers (on_node r s number))
 reading-judges (reading.Refused k at) s number = tt
-reading-judges (reading.Accepted sheet) s number = test-judges (ltb number sheet.nodes.count) (node_verdict _ _ _) _ _ (node-judges _ _ _)
+reading-judges (reading.Accepted sheet) s number = test-judges (ltb number sheet.nodes.count) (node_verdict _ _) _ _ (node-judges _ _)
 
 answer-judges : (s : List ℕ) (number : ℕ) → Judges (node_answer s number)
 unfolding node_answer

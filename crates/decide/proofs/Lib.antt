@@ -4,8 +4,6 @@ pub mod Complete
 pub mod Reasons
 -- the verdict is right of every evaluation
 pub mod Sound
--- records that pass the limits
-pub mod Passed
 -- laws of the code's steps
 pub mod Judged
 -- buffers for an equality

@@ -2,4 +2,3 @@ pub mod Decide
 pub mod Decided
 pub mod Rows
 pub mod Answers
-pub mod Passed

@@ -4,25 +4,17 @@ ghost use Rattle.expr.specs.Codes.{op_equal};
 ghost use Rattle.expr.specs.Tree.{Wf, tree_of};
 ghost use Rattle.parity.specs.Lent.{LentTwo};
 ghost use Rattle.exact.specs.Answers.{Buffers};
-ghost use Rattle.decide.specs.Decide.{said as said_of, asked as asked_of, or_else, equal_sides, equality as equalityOf, unsigned_cast, above_zero, mirrored as mirroredOf, unsigned_zero, both as bothOf, negated as negatedOf, either as either_of, decide as decideOf};
-ghost use Rattle.decide.specs.Passed.{earlier as earlierOf, equality_passed, condition_passed};
-ghost use Rattle.decide.specs.Answers.{answered, exact_verdict, parity_verdict, option_of, known_passed, parted_passed, first_step, place_in, halves_of, SidesOf};
+ghost use Rattle.decide.specs.Decide.{said as said_of, asked as asked_of, or_else, equal_sides, equality as equalityOf, unsigned_cast, above_zero, mirrored as mirroredOf, unsigned_zero, both as bothOf, negated as negatedOf, either as either_of, decide as decideOf, equality_fits, fits};
+ghost use Rattle.decide.specs.Answers.{answered, exact_verdict, parity_verdict, known_fits, parted_fits, first_step, halves_of, SidesOf};
 
 use exact::{Known, Parted};
 use verdict::{Reason, Verdict};
 
-// A verdict, or the place of the first record that passes a limit.
+// A verdict, or that an equality passes the limits.
 #[derive(Drop)]
 pub enum Decision {
     Of(Verdict),
-    TooMany(usize),
-}
-
-// Where a record passes a limit, or that none does.
-#[derive(Drop)]
-pub enum Past {
-    Record(usize),
-    Nowhere,
+    TooMany,
 }
 
 fn said(reason: Reason, holds: bool) -> Verdict
@@ -66,10 +58,10 @@ fn exact_verdict(equal: bool, a: Known, b: Known, as_written: bool) -> Verdict
                 said(Reason::ExactSides, asked(equal, x == y))
             }
             Known::Open => Verdict::Undecided,
-            Known::TooMany(_) => Verdict::Undecided,
+            Known::TooMany => Verdict::Undecided,
         },
         Known::Open => Verdict::Undecided,
-        Known::TooMany(_) => Verdict::Undecided,
+        Known::TooMany => Verdict::Undecided,
     }
 }
 
@@ -80,47 +72,28 @@ fn parity_verdict(equal: bool, sides: Parted) -> Verdict
     match sides {
         Parted::Always => said(Reason::Parity, asked(equal, false)),
         Parted::Open => Verdict::Undecided,
-        Parted::TooMany(_) => Verdict::Undecided,
+        Parted::TooMany => Verdict::Undecided,
     }
 }
 
-// Where the exact step of a side passes a limit.
-fn known_past(v: Known) -> Past
-    ensures { option_of result ≡ known_passed v }
+// A side is within the limits.
+fn known_fits(v: Known) -> bool
+    ensures { result ≡ known_fits v }
 {
     match v {
-        Known::Value(_) => Past::Nowhere,
-        Known::Open => Past::Nowhere,
-        Known::TooMany(word) => Past::Record(word),
+        Known::Value(_) => true,
+        Known::Open => true,
+        Known::TooMany => false,
     }
 }
 
-// Where parity passes a limit.
-fn parted_past(sides: Parted) -> Past
-    ensures { option_of result ≡ parted_passed sides }
+fn parted_fits(sides: Parted) -> bool
+    ensures { result ≡ parted_fits sides }
 {
     match sides {
-        Parted::Always => Past::Nowhere,
-        Parted::Open => Past::Nowhere,
-        Parted::TooMany(word) => Past::Record(word),
-    }
-}
-
-// The earlier of two places.
-fn earlier(a: Past, b: Past) -> Past
-    ensures { option_of result ≡ earlierOf (option_of a) (option_of b) }
-{
-    match a {
-        Past::Record(j) => match b {
-            Past::Record(k) => {
-                if k < j {
-                    return Past::Record(k);
-                }
-                Past::Record(j)
-            }
-            Past::Nowhere => Past::Record(j),
-        },
-        Past::Nowhere => b,
+        Parted::Always => true,
+        Parted::Open => true,
+        Parted::TooMany => false,
     }
 }
 
@@ -197,10 +170,9 @@ fn either(left: Verdict, right: Verdict) -> Verdict
     negated(both(negated(left), negated(right)))
 }
 
-// Logic from its halves: && where `and`, else ||. The right half stands behind the left one's words.
-fn halves(and: bool, left: Decision, right: Decision, words: usize) -> Decision
-    requires { words + place_in right ≤ 256 }
-    ensures { result ≡ halves_of words and left right }
+// Logic from its halves: && where `and`, else ||.
+fn halves(and: bool, left: Decision, right: Decision) -> Decision
+    ensures { result ≡ halves_of and left right }
 {
     match left {
         Decision::Of(a) => match right {
@@ -210,9 +182,9 @@ fn halves(and: bool, left: Decision, right: Decision, words: usize) -> Decision
                 }
                 Decision::Of(either(a, b))
             }
-            Decision::TooMany(word) => Decision::TooMany(words + word),
+            Decision::TooMany => Decision::TooMany,
         },
-        Decision::TooMany(word) => Decision::TooMany(word),
+        Decision::TooMany => Decision::TooMany,
     }
 }
 
@@ -236,7 +208,7 @@ fn equal_sides(operator: u64, left: &[u64], right: &[u64]) -> Verdict
     Verdict::Undecided
 }
 
-// == or != from the answers of its steps: the first record that passes a limit, or else the first step that decides.
+// == or != from the answers of its steps: within the limits the first step that decides.
 fn first_step(
     same: Verdict,
     equal: bool,
@@ -247,16 +219,14 @@ fn first_step(
 ) -> Decision
     ensures { result ≡ first_step same equal a b as_written sides }
 {
-    match earlier(parted_past(sides), earlier(known_past(a), known_past(b))) {
-        Past::Record(word) => Decision::TooMany(word),
-        Past::Nowhere => {
-            let later = or_else(
-                exact_verdict(equal, a, b, as_written),
-                parity_verdict(equal, sides),
-            );
-            Decision::Of(or_else(same, later))
-        }
+    if parted_fits(sides) & (known_fits(a) & known_fits(b)) {
+        let later = or_else(
+            exact_verdict(equal, a, b, as_written),
+            parity_verdict(equal, sides),
+        );
+        return Decision::Of(or_else(same, later));
     }
+    Decision::TooMany
 }
 
 // == or !=: equal sides, exact sides, then parity.
@@ -271,13 +241,13 @@ fn equality(
 ) -> Decision
     requires lent_two { LentTwo whole.now 0 left.now right.now atoms.old 0 terms.old }
     requires buffers { Buffers (length left.now + length right.now + 2) atoms.old terms.old scratch.old }
-    ensures { result ≡ answered (equality_passed (tree_of left.now) (tree_of right.now)) (or_else (equal_sides operator (tree_of left.now) (tree_of right.now)) (equalityOf (eqb operator op_equal) (tree_of left.now) (tree_of right.now))) }
+    ensures { result ≡ answered (equality_fits (tree_of left.now) (tree_of right.now)) (or_else (equal_sides operator (tree_of left.now) (tree_of right.now)) (equalityOf (eqb operator op_equal) (tree_of left.now) (tree_of right.now))) }
 {
     let same = equal_sides(operator, left, right);
     let as_written = exact::written(left) & exact::written(right);
     let sides = exact::parted_sides(whole, left, right, atoms, terms, scratch);
-    let a = exact::exact(left, 0, atoms, terms, scratch);
-    let b = exact::exact(right, left.len(), atoms, terms, scratch);
+    let a = exact::exact(left, atoms, terms, scratch);
+    let b = exact::exact(right, atoms, terms, scratch);
     first_step(same, operator == expr::EQUAL, a, b, as_written, sides)
 }
 
@@ -299,7 +269,7 @@ fn products_room() -> [u64; 4096]
 fn equality_short(operator: u64, whole: &[u64], left: &[u64], right: &[u64]) -> Decision
     requires sides_of { SidesOf whole.now left.now right.now }
     requires whole_len_bound { length whole.now ≤ 36 }
-    ensures { result ≡ answered (equality_passed (tree_of left.now) (tree_of right.now)) (or_else (equal_sides operator (tree_of left.now) (tree_of right.now)) (equalityOf (eqb operator op_equal) (tree_of left.now) (tree_of right.now))) }
+    ensures { result ≡ answered (equality_fits (tree_of left.now) (tree_of right.now)) (or_else (equal_sides operator (tree_of left.now) (tree_of right.now)) (equalityOf (eqb operator op_equal) (tree_of left.now) (tree_of right.now))) }
 {
     let mut atoms = [0u64; 64];
     let mut terms = [0u64; 560];
@@ -319,7 +289,7 @@ fn equality_short(operator: u64, whole: &[u64], left: &[u64], right: &[u64]) -> 
 fn equality_long(operator: u64, whole: &[u64], left: &[u64], right: &[u64]) -> Decision
     requires sides_of { SidesOf whole.now left.now right.now }
     requires whole_len_bound { length whole.now ≤ 256 }
-    ensures { result ≡ answered (equality_passed (tree_of left.now) (tree_of right.now)) (or_else (equal_sides operator (tree_of left.now) (tree_of right.now)) (equalityOf (eqb operator op_equal) (tree_of left.now) (tree_of right.now))) }
+    ensures { result ≡ answered (equality_fits (tree_of left.now) (tree_of right.now)) (or_else (equal_sides operator (tree_of left.now) (tree_of right.now)) (equalityOf (eqb operator op_equal) (tree_of left.now) (tree_of right.now))) }
 {
     let mut atoms = [0u64; 64];
     let mut terms = terms_room();
@@ -383,7 +353,7 @@ fn relation(operator: u64, left: &[u64], right: &[u64]) -> Verdict
 pub fn decide(rs: &[u64]) -> Decision
     requires wf { Wf rs.now }
     requires rs_len_bound { length rs.now ≤ 256 }
-    ensures { result ≡ answered (condition_passed (tree_of rs.now)) (decideOf (tree_of rs.now)) }
+    ensures { result ≡ answered (fits (tree_of rs.now)) (decideOf (tree_of rs.now)) }
 {
     let n = rs.len() - 2;
     let tag = rs[n];
@@ -404,7 +374,7 @@ pub fn decide(rs: &[u64]) -> Decision
     if (operator == expr::LOGICAL_AND) | (operator == expr::LOGICAL_OR) {
         let a = decide(left);
         let b = decide(right);
-        return halves(operator == expr::LOGICAL_AND, a, b, m);
+        return halves(operator == expr::LOGICAL_AND, a, b);
     }
     if (operator == expr::EQUAL) | (operator == expr::NOT_EQUAL) {
         if rs.len() <= 36 {

@@ -2,7 +2,5 @@
 pub mod ExactValue
 -- the relations on exact sides
 pub mod Sides
--- records that pass the limits
-pub mod Passed
 -- laws of the code's steps
 pub mod Steps

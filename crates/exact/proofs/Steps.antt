@@ -1,5 +1,5 @@
 -- The laws that the code's steps cite: constants, shapes, low bits by their polynomials, exact sides by their roots.
-use Prim.Native.Nat.{ℕ, ◌+◌, ◌*◌, ◌-◌, ◌/◌, ◌%◌, ◌≤◌}
+use Prim.Native.Nat.{ℕ, ◌+◌, ◌-◌, ◌%◌, ◌≤◌}
 use mathlib.Core.Path.{◌≡◌, refl, sym, ap, ◌∙◌}
 use mathlib.Core.Bool.{Bool, true, false, cond, ◌&&◌, ◌||◌}
 use mathlib.Core.List.{List, [], ◌∷◌}
@@ -9,7 +9,7 @@ use lib.Dec.{eqb, leb}
 use lib.ListN.{length, get_or, take}
 use lib.Seq.{take-length}
 use borrow.Author.Tests.{ne_eqb}
-use Rattle.expr.specs.Tree.{Expr, Wf, tree_of, tag_of, size}
+use Rattle.expr.specs.Tree.{Expr, Wf, tree_of, tag_of}
 use Rattle.expr.specs.Tree.Expr.{variable, constant, condition_true, condition_false, effect, load, cast, binary, ternary}
 use Rattle.expr.proofs.Laws.{kind-of}
 use Rattle.expr.proofs.Parts.{root}
@@ -19,20 +19,16 @@ use Rattle.parity.specs.declared.Constant.TheVariants as constants
 use Rattle.parity.specs.declared.Pair.TheVariants.{Sum}
 use Rattle.parity.specs.declared.Size.{Size}
 use Rattle.parity.specs.declared.Size.TheVariants as sizes
-use Rattle.parity.specs.Passed.{is_none, later, passed}
-use Rattle.parity.specs.Lent.{terms_room, option_of, pair_of, pair_passed, sized, atoms_at, Lent, Given}
+use Rattle.parity.specs.Lent.{terms_room, option_of, pair_of, atoms_at, Lent, Given}
 use Rattle.parity.proofs.Rooms.{products-lent}
-use Rattle.parity.proofs.Passed.{below-is, passed-below}
-use Rattle.parity.proofs.Calls.{words_size}
-use Rattle.parity.proofs.Steps.{Told, given-none, given-told}
-use Rattle.exact.specs.Exact.{same_sides, valued, is_constant, decided_bit, low, shape, at_most_one, even_only, shape_value, exact, shape_written, written, is_one}
-use Rattle.exact.specs.Passed.{shape_passed, exact_passed}
+use Rattle.parity.proofs.Steps.{Told, told, passed}
+use Rattle.exact.specs.Exact.{same_sides, valued, is_constant, decided_bit, low, shape, at_most_one, even_only, shape_value, exact, shape_written, written, shape_fits, exact_fits, is_one}
 use Rattle.exact.specs.Exact.Shape.{low_left, low_right, even, vanishes, other}
 use Rattle.exact.specs.declared.Known.{Known}
 use Rattle.exact.specs.declared.Known.TheVariants.{Value, Open, TooMany}
 use Rattle.exact.specs.declared.Parted.TheVariants as parteds
 use Rattle.exact.specs.declared.Shape as Shape
-use Rattle.exact.specs.Answers.{Buffers, shape_of, known_if, known, cast_known, even_known, sum_passed, parted}
+use Rattle.exact.specs.Answers.{Buffers, shape_of, known_if, known, cast_known, even_known, sum_fits, parted}
 
 -- a constant, and what is none
 pub constant-value : {r : Constant.Constant} {v : Option ℕ} {x : ℕ} (k : ℕ) → option_of r ≡ v → r ≡ constants.Of x → eqb x k ≡ valued v k
@@ -127,106 +123,75 @@ none_yet : (whole : List ℕ) → atoms_at whole [] ≡ []
 unfolding atoms_at
 none_yet whole = refl
 
-module _ (at : ℕ) (e : Expr) {part table terms : List ℕ} {r : Size} (g : Given (passed (atoms_at part []) e) 0 (parity (atoms_at part []) e) part table terms r) where
-  alone : Given (passed [] e) 0 (parity [] e) part table terms r
+module _ (e : Expr) {part table terms : List ℕ} {r : Size} (g : Given (parity (atoms_at part []) e) part table terms r) where
+  alone : Given (parity [] e) part table terms r
   alone = rw (none_yet part) at g
 
-  past_word : (p : Option ℕ) (n k : ℕ) {w : ℕ} → sizes.TooMany w ≡ sized 0 p n k → p ≡ some (w / 2) × (w ≡ 2 * (w / 2))
-  past_word none n k h = let z : ◌≡◌ {A = ℕ} 0 1 = cc in absurd (omega arith)
-  past_word (some j) n k {w} h = let same : w ≡ 0 + 2 * j = cc in let half : j ≡ w / 2 = omega arith in (ap some half, omega arith)
-
-  module _ {w : ℕ} (h : r ≡ sizes.TooMany w) where
-    at-word : passed [] e ≡ some (w / 2) × (w ≡ 2 * (w / 2))
-    at-word = past_word (passed [] e) (length (parity [] e).poly) (length (parity [] e).atoms) (sym h ∙ alone.size)
-
-    -- the record stands in the part
-    pub low-within : w ≤ 2 * size e
-    low-within = omega (arith, at-word.1, below-is (size e) (passed [] e) (passed-below [] e) at-word.0)
-
-    pub low-past : TooMany (at + w) ≡ known at (passed [] e) (low e)
-    low-past = rw at-word.0 (ap (λ (i : ℕ). TooMany (at + i)) at-word.1)
+  pub low-past : r ≡ sizes.TooMany → TooMany ≡ known (parity [] e).fits (low e)
+  low-past h = rw (passed alone.made h)
 
   module _ {n k : ℕ} (h : r ≡ sizes.Of n k) where
-    low_told : Told (is_none (passed [] e)) (parity [] e).poly (length (parity [] e).atoms) terms n k
-    low_told = given-told alone h
+    low_told : Told (parity [] e).fits (parity [] e).poly (length (parity [] e).atoms) terms n k
+    low_told = told alone.made h
 
-    pub low-none : n ≡ 0 → Value 0 ≡ known at (passed [] e) (low e)
-    low-none z = rw (given-none alone h, no-terms (parity [] e).poly (omega (arith, low_told.count)))
+    pub low-none : n ≡ 0 → Value 0 ≡ known (parity [] e).fits (low e)
+    low-none z = rw (low_told.fit, no-terms (parity [] e).poly (omega (arith, low_told.count)))
 
     low_bit : (n ≡ 0 → ⊥) → low e ≡ cond (eqb n 1 && eqb (get_or terms 0 0) 0) (some 1) none
     low_bit z = bit-one (parity [] e).poly (λ f. z (low_told.count ∙ f)) ∙ ap (λ (b : Bool). cond b (some 1) none) (sym (one-is terms (parity [] e).poly n low_told.count low_told.stands))
 
-    pub low-one : (n ≡ 0 → ⊥) → (eqb n 1 && eqb (get_or terms 0 0) 0) ≡ true → Value 1 ≡ known at (passed [] e) (low e)
-    low-one z y = rw (given-none alone h, low_bit z, y)
+    pub low-one : (n ≡ 0 → ⊥) → (eqb n 1 && eqb (get_or terms 0 0) 0) ≡ true → Value 1 ≡ known (parity [] e).fits (low e)
+    low-one z y = rw (low_told.fit, low_bit z, y)
 
-    pub low-open : (n ≡ 0 → ⊥) → (eqb n 1 && eqb (get_or terms 0 0) 0) ≡ false → Open ≡ known at (passed [] e) (low e)
-    low-open z y = rw (given-none alone h, low_bit z, y)
+    pub low-open : (n ≡ 0 → ⊥) → (eqb n 1 && eqb (get_or terms 0 0) 0) ≡ false → Open ≡ known (parity [] e).fits (low e)
+    low-open z y = rw (low_told.fit, low_bit z, y)
 
 -- the sum of two sides, with no atoms before them
-module _ (a b : Expr) {whole table terms : List ℕ} {r : Size} (g : Given (pair_passed Sum (atoms_at whole []) a b) 0 (pair_of Sum (atoms_at whole []) a b) whole table terms r) where
-  sum-alone : Given (sum_passed a b) 0 (pair_of Sum [] a b) whole table terms r
+module _ (a b : Expr) {whole table terms : List ℕ} {r : Size} (g : Given (pair_of Sum (atoms_at whole []) a b) whole table terms r) where
+  sum-alone : Given (pair_of Sum [] a b) whole table terms r
   sum-alone = rw (none_yet whole) at g
 
-  pub parted-past : {w : ℕ} → r ≡ sizes.TooMany w → parteds.TooMany w ≡ parted (sum_passed a b) (is_one (difference a b))
-  parted-past {w} h = go (sum_passed a b) (length (difference a b)) (length (pair_of Sum [] a b).atoms) (sym h ∙ sum-alone.size)
-    where
-      go : (p : Option ℕ) (n k : ℕ) → sizes.TooMany w ≡ sized 0 p n k → parteds.TooMany w ≡ parted p (is_one (difference a b))
-      go none n k h = let z : ◌≡◌ {A = ℕ} 0 1 = cc in absurd (omega arith)
-      go (some j) n k h = let same : w ≡ 0 + 2 * j = cc in ap parteds.TooMany (omega arith)
+  pub parted-past : r ≡ sizes.TooMany → parteds.TooMany ≡ parted (sum_fits a b) (is_one (difference a b))
+  parted-past h = rw (passed sum-alone.made h)
 
-  pub parted-is : {n k : ℕ} → r ≡ sizes.Of n k → parted none (eqb n 1 && eqb (get_or terms 0 0) 0) ≡ parted (sum_passed a b) (is_one (difference a b))
+  pub parted-is : {n k : ℕ} → r ≡ sizes.Of n k → parted true (eqb n 1 && eqb (get_or terms 0 0) 0) ≡ parted (sum_fits a b) (is_one (difference a b))
   parted-is {n} h =
-      let t = given-told sum-alone h in
-      rw (given-none sum-alone h, one-is terms (difference a b) n t.count t.stands)
+      let t = told sum-alone.made h in
+      rw (t.fit, one-is terms (difference a b) n t.count t.stands)
 
--- exact sides by their roots, at a place
-module _ (at : ℕ) where
-  cast-known : (p v : Option ℕ) → cast_known (known at p v) ≡ known at p (at_most_one v)
-  cast-known (some k) v = refl
-  cast-known none none = refl
-  cast-known none (some x) = by (leb x 1)
-    where
-      by : (b : Bool) → cond b (Value x) Open ≡ known_if (cond b (some x) none)
-      by true = refl
-      by false = refl
+-- exact sides by their roots
+cast-known : (f : Bool) (v : Option ℕ) → cast_known (known f v) ≡ known f (at_most_one v)
+cast-known false v = refl
+cast-known true none = refl
+cast-known true (some x) = by (leb x 1)
+  where
+    by : (b : Bool) → cond b (Value x) Open ≡ known_if (cond b (some x) none)
+    by true = refl
+    by false = refl
 
-  even-known : (p v : Option ℕ) → even_known (known at p v) ≡ known at p (even_only v)
-  even-known (some k) v = refl
-  even-known none none = refl
-  even-known none (some x) = by (eqb x 0)
-    where
-      by : (b : Bool) → cond b (Value 0) Open ≡ known_if (cond b (some 0) none)
-      by true = refl
-      by false = refl
-
-  -- the place in a right part is one of the whole
-  pub known-later : (p v : Option ℕ) (s : ℕ) {words : ℕ} → words ≡ at + 2 * s → known words p v ≡ known at (later s p) v
-  known-later none v s e = refl
-  known-later (some k) v s e = ap TooMany (omega arith)
-
-  pub right-bit : (ws rest : List ℕ) (m : ℕ) {r : Known} → Wf ws → length ws ≡ m → r ≡ known (at + m) (passed [] (tree_of rest)) (low (tree_of rest))
-      → r ≡ known at (later (size (tree_of ws)) (passed [] (tree_of rest))) (low (tree_of rest))
-  right-bit ws rest m w e h =
-      h ∙ known-later (passed [] (tree_of rest)) (low (tree_of rest)) (size (tree_of ws)) (omega (arith, words_size ws w))
-
-  module _ {e : Expr} where
-    pub exact-constant : {w x : ℕ} → e ≡ constant w x → Value x ≡ known at (exact_passed e) (exact e)
-    unfolding exact exact_passed
-    exact-constant k = rw k
-
-    pub exact-cast : {t : ℕ} {a : Expr} {v r : Known} → e ≡ cast t a → v ≡ known at (exact_passed a) (exact a) → r ≡ cast_known v → r ≡ known at (exact_passed e) (exact e)
-    unfolding exact exact_passed
-    exact-cast {a = a} k h g = rw k (g ∙ ap cast_known h ∙ cast-known (exact_passed a) (exact a))
-
-    pub exact-shape : {o o' : ℕ} {a b : Expr} {s k : Shape.Shape} → e ≡ binary o a b → shape_of s ≡ shape o' a b → o' ≡ o → s ≡ k
-        → known at (shape_passed (shape_of k) a b) (shape_value (shape_of k) a b) ≡ known at (exact_passed e) (exact e)
-    unfolding exact exact_passed
-    exact-shape t g p h = rw (t, ← p, ← g, h)
-
-  pub exact-even : (a : Expr) {k r : Known} → k ≡ known at (passed [] a) (low a) → r ≡ even_known k → r ≡ known at (passed [] a) (even_only (low a))
-  exact-even a h g = g ∙ ap even_known h ∙ even-known (passed [] a) (low a)
+even-known : (f : Bool) (v : Option ℕ) → even_known (known f v) ≡ known f (even_only v)
+even-known false v = refl
+even-known true none = refl
+even-known true (some x) = by (eqb x 0)
+  where
+    by : (b : Bool) → cond b (Value 0) Open ≡ known_if (cond b (some 0) none)
+    by true = refl
+    by false = refl
 
 module _ {e : Expr} where
+  pub exact-constant : {w x : ℕ} → e ≡ constant w x → Value x ≡ known (exact_fits e) (exact e)
+  unfolding exact exact_fits
+  exact-constant k = rw k
+
+  pub exact-cast : {t : ℕ} {a : Expr} {v r : Known} → e ≡ cast t a → v ≡ known (exact_fits a) (exact a) → r ≡ cast_known v → r ≡ known (exact_fits e) (exact e)
+  unfolding exact exact_fits
+  exact-cast {a = a} k h g = rw k (g ∙ ap cast_known h ∙ cast-known (exact_fits a) (exact a))
+
+  pub exact-shape : {o o' : ℕ} {a b : Expr} {s k : Shape.Shape} → e ≡ binary o a b → shape_of s ≡ shape o' a b → o' ≡ o → s ≡ k
+      → known (shape_fits (shape_of k) a b) (shape_value (shape_of k) a b) ≡ known (exact_fits e) (exact e)
+  unfolding exact exact_fits
+  exact-shape t g p h = rw (t, ← p, ← g, h)
+
   pub written-constant : {w x : ℕ} → e ≡ constant w x → true ≡ written e
   unfolding written
   written-constant k = rw k
@@ -240,21 +205,24 @@ module _ {e : Expr} where
   unfolding written
   written-shape t g p h = rw (t, ← p, ← g, h)
 
-not-exact : (at : ℕ) (e : Expr) → (tag_of e % 16 ≡ 1 → ⊥) → (tag_of e % 16 ≡ 6 → ⊥) → (tag_of e % 16 ≡ 7 → ⊥) → (Open ≡ known at (exact_passed e) (exact e)) × (false ≡ written e)
-unfolding exact exact_passed written tag_of
-not-exact at (variable n) h1 h6 h7 = (refl, refl)
-not-exact at (constant w x) h1 h6 h7 = absurd (h1 (kind-of 1 w (omega arith)))
-not-exact at condition_true h1 h6 h7 = (refl, refl)
-not-exact at condition_false h1 h6 h7 = (refl, refl)
-not-exact at (effect t) h1 h6 h7 = (refl, refl)
-not-exact at (load t a) h1 h6 h7 = (refl, refl)
-not-exact at (cast t a) h1 h6 h7 = absurd (h6 (kind-of 6 t (omega arith)))
-not-exact at (binary o a b) h1 h6 h7 = absurd (h7 (kind-of 7 o (omega arith)))
-not-exact at (ternary c a b) h1 h6 h7 = (refl, refl)
+pub exact-even : (a : Expr) {k r : Known} → k ≡ known (parity [] a).fits (low a) → r ≡ even_known k → r ≡ known (parity [] a).fits (even_only (low a))
+exact-even a h g = g ∙ ap even_known h ∙ even-known (parity [] a).fits (low a)
 
-pub exact-other : (at : ℕ) (ws : List ℕ) (n : ℕ) → Wf ws → n + 2 ≡ length ws
+not-exact : (e : Expr) → (tag_of e % 16 ≡ 1 → ⊥) → (tag_of e % 16 ≡ 6 → ⊥) → (tag_of e % 16 ≡ 7 → ⊥) → (Open ≡ known (exact_fits e) (exact e)) × (false ≡ written e)
+unfolding exact exact_fits written tag_of
+not-exact (variable n) h1 h6 h7 = (refl, refl)
+not-exact (constant w x) h1 h6 h7 = absurd (h1 (kind-of 1 w (omega arith)))
+not-exact condition_true h1 h6 h7 = (refl, refl)
+not-exact condition_false h1 h6 h7 = (refl, refl)
+not-exact (effect t) h1 h6 h7 = (refl, refl)
+not-exact (load t a) h1 h6 h7 = (refl, refl)
+not-exact (cast t a) h1 h6 h7 = absurd (h6 (kind-of 6 t (omega arith)))
+not-exact (binary o a b) h1 h6 h7 = absurd (h7 (kind-of 7 o (omega arith)))
+not-exact (ternary c a b) h1 h6 h7 = (refl, refl)
+
+pub exact-other : (ws : List ℕ) (n : ℕ) → Wf ws → n + 2 ≡ length ws
     → (get_or ws n 0 % 16 ≡ 1 → ⊥) → (get_or ws n 0 % 16 ≡ 6 → ⊥) → (get_or ws n 0 % 16 ≡ 7 → ⊥)
-    → (Open ≡ known at (exact_passed (tree_of ws)) (exact (tree_of ws))) × (false ≡ written (tree_of ws))
-exact-other at ws n w e h1 h6 h7 =
+    → (Open ≡ known (exact_fits (tree_of ws)) (exact (tree_of ws))) × (false ≡ written (tree_of ws))
+exact-other ws n w e h1 h6 h7 =
     let tag = ap (λ (t : ℕ). t % 16) (root ws n w e).tag in
-    not-exact at (tree_of ws) (λ k. h1 (tag ∙ k)) (λ k. h6 (tag ∙ k)) (λ k. h7 (tag ∙ k))
+    not-exact (tree_of ws) (λ k. h1 (tag ∙ k)) (λ k. h6 (tag ∙ k)) (λ k. h7 (tag ∙ k))

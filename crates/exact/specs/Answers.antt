@@ -1,10 +1,9 @@
--- What the code of `exact` borrows, and its answers: each with the place of the record that passes a limit of refusal 11, in words, two for
--- each record.
-use Rattle.std.specs.Prelude.{ℕ, ◌+◌, ◌*◌, ◌≤◌, Bool, cond, List, [], eqb, leb, length}
+-- What the code of `exact` borrows, and its answers: each with the limits of refusal 11 beside it.
+use Rattle.std.specs.Prelude.{ℕ, ◌≤◌, Bool, cond, List, [], eqb, leb, length}
 use Rattle.std.proofs.Math.Option.{Option, none, some}
 use Rattle.expr.specs.Tree.{Expr}
 use Rattle.parity.specs.declared.Pair.TheVariants.{Sum}
-use Rattle.parity.specs.Lent.{terms_room, ProductsRoom, pair_passed}
+use Rattle.parity.specs.Lent.{terms_room, ProductsRoom, pair_of}
 use Rattle.exact.specs.declared.Known.{Known}
 use Rattle.exact.specs.declared.Known.TheVariants.{Value, Open, TooMany}
 use Rattle.exact.specs.declared.Parted as Parted
@@ -32,25 +31,22 @@ abbrev pub known_if : Option ℕ → Known
 known_if none = Open
 known_if (some x) = Value x
 
--- of a side that stands at `at`
-abbrev pub known : ℕ → Option ℕ → Option ℕ → Known
-known at none v = known_if v
-known at (some k) v = TooMany (at + 2 * k)
+abbrev pub known : Bool → Option ℕ → Known
+known fits v = cond fits (known_if v) TooMany
 
 abbrev pub cast_known : Known → Known
 cast_known (Value x) = cond (leb x 1) (Value x) Open
 cast_known Open = Open
-cast_known (TooMany w) = TooMany w
+cast_known TooMany = TooMany
 
 abbrev pub even_known : Known → Known
 even_known (Value x) = cond (eqb x 0) (Value 0) Open
 even_known Open = Open
-even_known (TooMany w) = TooMany w
+even_known TooMany = TooMany
 
--- the first record that passes a limit, of those that `parity` enters from the sides and of the sum of the sides
-abbrev pub sum_passed : Expr → Expr → Option ℕ
-sum_passed a b = pair_passed Sum [] a b
+-- the sides' polynomials and their sum are within the limits
+abbrev pub sum_fits : Expr → Expr → Bool
+sum_fits a b = (pair_of Sum [] a b).fits
 
-abbrev pub parted : Option ℕ → Bool → Parted.Parted
-parted none one = cond one parteds.Always parteds.Open
-parted (some k) one = parteds.TooMany (2 * k)
+abbrev pub parted : Bool → Bool → Parted.Parted
+parted fits one = cond fits (cond one parteds.Always parteds.Open) parteds.TooMany

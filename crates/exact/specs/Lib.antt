@@ -1,4 +1,3 @@
 pub mod Exact
 pub mod Sides
 pub mod Answers
-pub mod Passed

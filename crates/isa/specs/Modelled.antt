@@ -1,6 +1,5 @@
 -- Which instructions are modelled (a term of the scope document), and which modelled ones are at fault.
-use Rattle.std.specs.Prelude.{ℕ, Bool, true, false, cond, not, ◌&&◌, ◌||◌, eqb}
-use Rattle.refusal.specs.Numbers.{SIZES, CLASS, FLAGS}
+use Rattle.std.specs.Prelude.{ℕ, Bool, true, false, not, ◌&&◌, ◌||◌, eqb}
 use Rattle.isa.specs.declared.Operand.{Operand}
 use Rattle.isa.specs.declared.Operand.TheVariants.{Absent, Reg, Imm, Mem}
 use Rattle.isa.specs.declared.Unary.{Unary}
@@ -94,10 +93,3 @@ at_fault i =
     && (sizes_differ i.first i.second
     || not (is_mov i.mnemonic) && (outside i.first || outside i.second)
     || undeclared i.mnemonic i.flags)
-
--- Which of the three it is refused for: the first that it has, in the order of their numbers; 0 stands for none (R14, R15, R16, R17).
-abbrev pub fault_number : Mnemonic → Operand → Operand → ℕ → ℕ
-fault_number m first second flags =
-    cond (sizes_differ first second) SIZES
-    (cond (not (is_mov m) && (outside first || outside second)) CLASS
-    (cond (undeclared m flags) FLAGS 0))

@@ -4,7 +4,7 @@ ghost use Rattle.std.specs.Prelude.{◌≡◌, ◌<◌};
 ghost use Rattle.isa.specs.Register.{well_formed};
 ghost use Rattle.isa.specs.Mnemonics.{named};
 ghost use Rattle.isa.specs.FlagBits.{declares};
-ghost use Rattle.isa.specs.Modelled.{is_register, is_absent, takes, modelled, sizes_differ, outside, is_mov, declares_result, declares_own, undeclared, fault_number};
+ghost use Rattle.isa.specs.Modelled.{is_register, is_absent, takes, modelled, sizes_differ, outside, is_mov, declares_result, declares_own, undeclared};
 ghost use Rattle.isa.specs.Promises.{is_size, is_unary, fault_of};
 
 // Class 1 are the general registers; index, size in bits and offset in bits name the part.
@@ -340,7 +340,7 @@ fn is_unary(m: Mnemonic) -> bool
     }
 }
 
-// Refused as 6, 18 or 19, from what it depends on. An instruction without operands has no fault; nor has one whose registers are of class 1
+// Refusal 6, from what it depends on. An instruction without operands has no fault; nor has one whose registers are of class 1
 // and of one size, unless it must declare flags.
 pub fn is_at_fault(m: Mnemonic, call: bool, first: Operand, second: Operand, flags: u64) -> bool
     ensures { result ≡ fault_of m call first second flags }
@@ -356,21 +356,4 @@ pub fn is_at_fault(m: Mnemonic, call: bool, first: Operand, second: Operand, fla
     }
     let modelled = !call & is_taken(m, is_register(first), alone);
     modelled & (differ | (!is_mov(m) & outside) | is_undeclared(m, flags))
-}
-
-// The number that an instruction at fault is refused with: 6 for sizes that differ, else 18 for a register outside class 1, else 19 for flags that are
-// not declared; 0 where it has none of these.
-pub fn fault_number(m: Mnemonic, first: Operand, second: Operand, flags: u64) -> u64
-    ensures { result ≡ fault_number m first second flags }
-{
-    if sizes_differ(first, second) {
-        return refusal::SIZES;
-    }
-    if !is_mov(m) & (is_outside(first) | is_outside(second)) {
-        return refusal::CLASS;
-    }
-    if is_undeclared(m, flags) {
-        return refusal::FLAGS;
-    }
-    0
 }

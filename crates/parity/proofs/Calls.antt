@@ -1,38 +1,32 @@
 -- The laws of the calls by which `parity` goes through a part: what a child borrows, and what a part's polynomial is by its root.
 use Prim.Native.Nat.{ℕ, ◌+◌, ◌*◌, ◌-◌, ◌%◌, ◌≤◌, ◌<◌}
-use mathlib.Core.Path.{◌≡◌, refl, sym, ap, ◌∙◌}
-use mathlib.Core.Bool.{Bool, true, false, cond, ◌&&◌}
+use mathlib.Core.Path.{◌≡◌, refl, sym, ap, subst, ◌∙◌}
+use mathlib.Core.Bool.{true, false}
 use mathlib.Core.List.{List, ◌++◌, append_cancel_left}
-use mathlib.Core.Option.{Option, none, some}
 use native.Mathlib.Omega.{arith}
 use lib.ListN.{length, get_or, take, drop, length-append, length-drop}
 use lib.Seq.{length-take-le, take-take, take-add, drop-drop, take_at, drop_at, take-append-le}
 use borrow.Author.Tests.{eq-eqb, ne_eqb}
-use Rattle.expr.specs.Tree.{Expr, Wf, tree_of, tag_of, flat, size}
+use Rattle.expr.specs.Tree.{Expr, Wf, tree_of, tag_of, flat}
 use Rattle.expr.specs.Tree.Expr.{variable, constant, condition_true, condition_false, effect, load, cast, binary, ternary}
-use Rattle.expr.proofs.Laws.{kind-of, wf-two, flat-size}
+use Rattle.expr.proofs.Laws.{kind-of, wf-two}
 use Rattle.expr.proofs.Parts.{root}
 use Rattle.expr.proofs.Children.{TwoChildren}
 use Rattle.parity.specs.Parity.{Low, constant_poly, entered, atom_low, low_of, parity}
-use Rattle.parity.specs.Passed.{or_later, is_none, later, first_of, passed}
 use Rattle.parity.specs.declared.Pair.{Pair}
 use Rattle.parity.specs.declared.Pair.TheVariants.{Sum, Product, Or}
 use Rattle.parity.specs.declared.Entry.{Entry}
 use Rattle.parity.specs.declared.Entry.TheVariants.{Both}
 use Rattle.parity.specs.declared.Size.{Size}
 use Rattle.parity.specs.declared.Size.TheVariants.{Of, TooMany}
-use Rattle.parity.specs.Lent.{entry_of, pair_poly, pair_fits, pair_low, pair_of, pair_passed, sized, atoms_at, ProductsRoom, Lent, LentTwo, Sides, Made, Given}
+use Rattle.parity.specs.Lent.{entry_of, pair_poly, pair_fits, pair_low, pair_of, atoms_at, ProductsRoom, Lent, LentTwo, Sides, Made, Given}
 use Rattle.parity.proofs.Ordered.{parity-ascending, parity-few, atoms-few}
 use Rattle.parity.proofs.Rooms.{leaves, parity-terms, eight-each, pairs-room}
-use Rattle.parity.proofs.Passed.{later-none, fits-none, fits-passed}
-use Rattle.parity.proofs.Steps.{Told, given-none, given-told, told-within, atoms-count}
+use Rattle.parity.proofs.Steps.{Told, told, passed, made_none, told-within, atoms-count}
 
 pub wf-length : (ws : List ℕ) → Wf ws → length (flat (tree_of ws)) ≡ length ws
 unfolding Wf
 wf-length ws w = ap length w
-
-pub words_size : (ws : List ℕ) → Wf ws → length ws ≡ 2 * size (tree_of ws)
-words_size ws w = sym (wf-length ws w) ∙ flat-size (tree_of ws)
 
 -- how many terms a part has, by its words
 side-terms : (l : List Expr) (ws : List ℕ) → Wf ws → {n : ℕ} → n ≡ length (parity l (tree_of ws)).poly → n < leaves (length ws)
@@ -93,124 +87,60 @@ module _ {whole : List ℕ} {at : ℕ} {part table : List ℕ} {count : ℕ} {te
       }
 
   -- a part without new atoms
-  pub given-same : (low : Low) → low.atoms ≡ atoms_at whole (take count table) → (terms' : List ℕ) (r : Size)
-      → Made true 0 low.poly count terms' r → Given none at low whole table terms' r
-  given-same low a terms' r m =
+  pub given-same : (low : Low) → low.fits ≡ true → low.atoms ≡ atoms_at whole (take count table) → (terms' : List ℕ) (r : Size)
+      → Made true low.poly count terms' r → Given low whole table terms' r
+  given-same low f a terms' r m =
       let size : length low.atoms ≡ count = ap length a ∙ atoms-count whole at part table count terms lent in
       record {
-        size = rw size m.size;
-        stands = λ _. m.stands refl;
+        made = rw (f, size) m;
         atoms = λ _. ap (λ (k : ℕ). atoms_at whole (take k table)) size ∙ sym a;
         parts = λ _. rw size lent.parts;
       }
 
--- a part's polynomial, and its first record that passes a limit
-pub record Is (l : List Expr) (e : Expr) (low : Low) (passes : Option ℕ) : Type 0 where
-  pub low-is : parity l e ≡ low
-  pub passes-is : passed l e ≡ passes
-
 -- what is given of one result is given of an equal one
-pub given-as : {l : List Expr} {e : Expr} {low : Low} {p : Option ℕ} {at : ℕ} {whole table terms : List ℕ} {r : Size} → Is l e low p
-    → Given p at low whole table terms r → Given (passed l e) at (parity l e) whole table terms r
-given-as i g = rw (i.low-is, i.passes-is) g
+pub given-as : {low low' : Low} {whole table terms : List ℕ} {r : Size} → low ≡ low' → Given low' whole table terms r → Given low whole table terms r
+given-as {low} {low'} {whole} {table} {terms} {r} e g = subst (λ (x : Low). Given x whole table terms r) (sym e) g
 
--- a part that is within the limits whatever stands in it
-within : {l : List Expr} {e : Expr} {low : Low} → low.fits ≡ true → parity l e ≡ low → Is l e low none
-within {l} {e} f k = record { low-is = k; passes-is = fits-passed l e (ap (λ (x : Low). x.fits) k ∙ f) }
-
--- a record that passes a limit comes before any later one
-refused : (p : Option ℕ) (at n k : ℕ) {w : ℕ} {r : Size} → r ≡ sized at p n k → r ≡ TooMany w
-    → (q : Option ℕ) (low : Low) (whole table terms : List ℕ) → Given (or_later p q) at low whole table terms (TooMany w)
-refused p at n k {w} d e q low whole table terms = go p (sym e ∙ d)
+pub given-none : {low : Low} (whole table terms : List ℕ) → low.fits ≡ false → Given low whole table terms TooMany
+given-none {low} whole table terms h = record {
+  made = made_none low.poly (length low.atoms) terms h;
+  atoms = λ k. absurd (never k);
+  parts = λ k. absurd (never k);
+}
   where
-    go : (p : Option ℕ) → TooMany w ≡ sized at p n k → Given (or_later p q) at low whole table terms (TooMany w)
-    go none h = let z : ◌≡◌ {A = ℕ} 0 1 = cc in absurd (omega arith)
-    go (some j) h = record { size = h; stands = λ f. absurd (never f); atoms = λ f. absurd (never f); parts = λ f. absurd (never f) }
-      where
-        never : some j ≡ none → ⊥
-        never f = let z : ◌≡◌ {A = ℕ} 0 1 = cc in omega arith
+    never : low.fits ≡ true → ⊥
+    never k = let y : ◌≡◌ {A = ℕ} 0 1 = cc in omega arith
 
--- the place in a right side is one of the whole part
-sized-later : (p : Option ℕ) (at words s n k : ℕ) → words ≡ 2 * s → sized (at + words) p n k ≡ sized at (later s p) n k
-sized-later none at words s n k e = refl
-sized-later (some j) at words s n k e = ap TooMany (omega arith)
-
--- of both sides no record passes a limit: the part's own may
-sized-own : (f : Bool) (at s n k : ℕ) {root : ℕ} {r : Size} → root ≡ at + 2 * s → r ≡ cond f (Of n k) (TooMany root) → r ≡ sized at (cond f none (some s)) n k
-sized-own true at s n k e h = h
-sized-own false at s n k e h = h ∙ ap TooMany e
-
-own-fits : (f : Bool) (s : ℕ) → cond f none (some s) ≡ none → f ≡ true
-own-fits true s h = refl
-own-fits false s h = let z : ◌≡◌ {A = ℕ} 0 1 = cc in absurd (omega arith)
-
--- a part by its root
-atom-fits : (l : List Expr) (e : Expr) → (atom_low l e).fits ≡ true
-unfolding atom_low
-atom-fits l e = refl
-
+-- a part's polynomial by its root
 module _ (l : List Expr) {e : Expr} where
-  pub low-constant : {w x : ℕ} → e ≡ constant w x → Is l e (record { poly = constant_poly x; atoms = l; fits = true }) none
+  pub low-constant : {w x : ℕ} → e ≡ constant w x → parity l e ≡ record { poly = constant_poly x; atoms = l; fits = true }
   unfolding parity
-  low-constant k = within refl (rw k)
+  low-constant k = rw k
 
-  pub low-bool : {t : ℕ} {a : Expr} → e ≡ cast t a → t ≡ 9 → Is l e (atom_low l e) none
+  pub low-bool : {t : ℕ} {a : Expr} → e ≡ cast t a → t ≡ 9 → parity l e ≡ atom_low l e
   unfolding parity
-  low-bool {t} k h = within (atom-fits l e) (rw (k, eq-eqb t 9 h))
+  low-bool {t} k h = rw (k, eq-eqb t 9 h)
 
-  pub low-cast : {t : ℕ} {a : Expr} → e ≡ cast t a → (t ≡ 9 → ⊥) → Is l e (parity l a) (passed l a)
-  unfolding parity passed
-  low-cast {t} k h = record { low-is = rw (k, ne_eqb t 9 h); passes-is = rw (k, ne_eqb t 9 h) }
+  pub low-cast : {t : ℕ} {a : Expr} → e ≡ cast t a → (t ≡ 9 → ⊥) → parity l e ≡ parity l a
+  unfolding parity
+  low-cast {t} k h = rw (k, ne_eqb t 9 h)
 
-  module _ {o o' : ℕ} {a b : Expr} {r k : Entry} (s : e ≡ binary o a b) (g : entry_of r ≡ entered o' b) (p : o' ≡ o) (h : r ≡ k) where
-    binary-low : parity l e ≡ low_of (entry_of k) (parity l a) (parity (parity l a).atoms b) (atom_low l e) l
-    unfolding parity
-    binary-low = rw (s, ← p, ← g, h)
-
-    binary-passes : passed l e
-        ≡ first_of (entry_of k) (passed l a) (later (size a) (passed (parity l a).atoms b)) (cond (parity l e).fits none (some (size a + size b)))
-    unfolding passed
-    binary-passes = rw (s, ← p, ← g, h)
-
-    pub low-binary : Is l e (low_of (entry_of k) (parity l a) (parity (parity l a).atoms b) (atom_low l e) l)
-        (first_of (entry_of k) (passed l a) (later (size a) (passed (parity l a).atoms b)) (cond (parity l e).fits none (some (size a + size b))))
-    low-binary = record { low-is = binary-low; passes-is = binary-passes }
+  pub low-binary : {o o' : ℕ} {a b : Expr} {r k : Entry} → e ≡ binary o a b → entry_of r ≡ entered o' b → o' ≡ o → r ≡ k
+      → parity l e ≡ low_of (entry_of k) (parity l a) (parity (parity l a).atoms b) (atom_low l e) l
+  unfolding parity
+  low-binary s g p h = rw (s, ← p, ← g, h)
 
 low-both : (pair : Pair) (x y own : Low) (l : List Expr) → low_of (entry_of (Both pair)) x y own l ≡ pair_low pair x y
 low-both Sum x y own l = refl
 low-both Product x y own l = refl
 low-both Or x y own l = refl
 
-first-both : (pair : Pair) (x y own : Option ℕ) → first_of (entry_of (Both pair)) x y own ≡ or_later x (or_later y own)
-first-both Sum x y own = refl
-first-both Product x y own = refl
-first-both Or x y own = refl
-
--- the part's own record is asked only where its sides are within the limits
-own_alone : (p q : Option ℕ) (x y z : Bool) (k : ℕ) → is_none p ≡ x → is_none q ≡ y
-    → or_later p (or_later q (cond (x && (y && z)) none (some k))) ≡ or_later p (or_later q (cond z none (some k)))
-own_alone none none x y z k d e = rw (← d, ← e)
-own_alone none (some j) x y z k d e = refl
-own_alone (some j) q x y z k d e = refl
-
 pub low-pair : (l : List Expr) {e : Expr} {o o' : ℕ} {a b : Expr} {r : Entry} (pair : Pair) → e ≡ binary o a b → entry_of r ≡ entered o' b → o' ≡ o → r ≡ Both pair
-    → Is l e (pair_of pair l a b) (pair_passed pair l a b)
+    → parity l e ≡ pair_of pair l a b
 low-pair l {e} {a = a} {b = b} pair s g p h =
-    let i = low-binary l s g p h in
-    let y = parity (parity l a).atoms b in
-    let q = later (size a) (passed (parity l a).atoms b) in
-    let low : parity l e ≡ pair_of pair l a b = i.low-is ∙ low-both pair (parity l a) y (atom_low l e) l in
-    record {
-      low-is = low;
-      passes-is =
-          i.passes-is
-          ∙ first-both pair (passed l a) q (cond (parity l e).fits none (some (size a + size b)))
-          ∙ ap (λ (x : Low). or_later (passed l a) (or_later q (cond x.fits none (some (size a + size b))))) low
-          ∙ own_alone (passed l a) q (parity l a).fits y.fits (pair_fits pair (parity l a).poly y.poly) (size a + size b) (fits-none l a)
-          (later-none (size a) (passed (parity l a).atoms b) ∙ fits-none (parity l a).atoms b);
-    }
+    low-binary l s g p h ∙ low-both pair (parity l a) (parity (parity l a).atoms b) (atom_low l e) l
 
-low-other : (l : List Expr) (e : Expr) → (tag_of e % 16 ≡ 1 → ⊥) → (tag_of e % 16 ≡ 6 → ⊥) → (tag_of e % 16 ≡ 7 → ⊥) → parity l e ≡ atom_low l e
+pub low-other : (l : List Expr) (e : Expr) → (tag_of e % 16 ≡ 1 → ⊥) → (tag_of e % 16 ≡ 6 → ⊥) → (tag_of e % 16 ≡ 7 → ⊥) → parity l e ≡ atom_low l e
 unfolding parity tag_of
 low-other l (variable n) h1 h6 h7 = refl
 low-other l (constant w x) h1 h6 h7 = absurd (h1 (kind-of 1 w (omega arith)))
@@ -224,10 +154,10 @@ low-other l (ternary c a b) h1 h6 h7 = refl
 
 module _ (ws : List ℕ) (n : ℕ) (w : Wf ws) (e : n + 2 ≡ length ws) where
   pub low-atom : (l : List Expr) → (get_or ws n 0 % 16 ≡ 1 → ⊥) → (get_or ws n 0 % 16 ≡ 6 → ⊥) → (get_or ws n 0 % 16 ≡ 7 → ⊥)
-      → Is l (tree_of ws) (atom_low l (tree_of ws)) none
+      → parity l (tree_of ws) ≡ atom_low l (tree_of ws)
   low-atom l h1 h6 h7 =
       let tag = ap (λ (t : ℕ). t % 16) (root ws n w e).tag in
-      within (atom-fits l (tree_of ws)) (low-other l (tree_of ws) (λ k. h1 (tag ∙ k)) (λ k. h6 (tag ∙ k)) (λ k. h7 (tag ∙ k)))
+      low-other l (tree_of ws) (λ k. h1 (tag ∙ k)) (λ k. h6 (tag ∙ k)) (λ k. h7 (tag ∙ k))
 
 -- both sides, where the left one's polynomial is made
 module _ {whole : List ℕ} {at : ℕ} {left right table : List ℕ} {count : ℕ} {terms : List ℕ} (two : LentTwo whole at left right table count terms) where
@@ -244,19 +174,13 @@ module _ {whole : List ℕ} {at : ℕ} {left right table : List ℕ} {count : �
   }
 
   module _ {table₁ terms₁ : List ℕ} {r₁ : Size} {n noted : ℕ}
-      (g : Given (passed (atoms_at whole (take count table)) (tree_of left)) at (parity (atoms_at whole (take count table)) (tree_of left)) whole table₁ terms₁ r₁) (e : r₁ ≡ Of n noted) where
-    x-told : Told (is_none (passed (atoms_at whole (take count table)) (tree_of left))) (parity (atoms_at whole (take count table)) (tree_of left)).poly
+      (g : Given (parity (atoms_at whole (take count table)) (tree_of left)) whole table₁ terms₁ r₁) (e : r₁ ≡ Of n noted) where
+    x-told : Told (parity (atoms_at whole (take count table)) (tree_of left)).fits (parity (atoms_at whole (take count table)) (tree_of left)).poly
         (length (parity (atoms_at whole (take count table)) (tree_of left)).atoms) terms₁ n noted
-    x-told = given-told g e
-
-    x-none : passed (atoms_at whole (take count table)) (tree_of left) ≡ none
-    x-none = given-none g e
-
-    x-fit : (parity (atoms_at whole (take count table)) (tree_of left)).fits ≡ true
-    x-fit = sym (fits-none (atoms_at whole (take count table)) (tree_of left)) ∙ x-told.fit
+    x-told = told g.made e
 
     pub left-few : n ≤ 256
-    left-few = omega (arith, x-told.count, parity-few (atoms_at whole (take count table)) (tree_of left) x-fit)
+    left-few = omega (arith, x-told.count, parity-few (atoms_at whole (take count table)) (tree_of left) x-told.fit)
 
     left-terms : n < leaves (length left)
     left-terms = side-terms (atoms_at whole (take count table)) left two.left_wf x-told.count
@@ -289,47 +213,33 @@ module _ {whole : List ℕ} {at : ℕ} {left right table : List ℕ} {count : �
             atoms-count whole at left table count terms two-left,
           );
       table = omega (arith, two.table);
-      parts = rw x-told.all (g.parts x-none);
+      parts = rw x-told.all (g.parts x-told.fit);
       space = omega (arith, two.space, left-each, rest-length);
     }
 
     right-atoms : atoms_at whole (take noted table₁) ≡ (parity (atoms_at whole (take count table)) (tree_of left)).atoms
-    right-atoms = rw x-told.all (g.atoms x-none)
+    right-atoms = rw x-told.all (g.atoms x-told.fit)
 
-    module _ {table₂ rest₂ : List ℕ} {r₂ : Size}
-        (h : Given (passed (atoms_at whole (take noted table₁)) (tree_of right)) (at + length left) (parity (atoms_at whole (take noted table₁)) (tree_of right)) whole table₂ rest₂ r₂) where
-      h' : Given (passed (parity (atoms_at whole (take count table)) (tree_of left)).atoms (tree_of right)) (at + length left)
-          (parity (parity (atoms_at whole (take count table)) (tree_of left)).atoms (tree_of right)) whole table₂ rest₂ r₂
-      h' = rw right-atoms at h
-
+    module _ {table₂ rest₂ : List ℕ} {r₂ : Size} where
       -- the right side passes the limits
-      pub right-past : {w : ℕ} → r₂ ≡ TooMany w → (pair : Pair) (low : Low) (table' terms' : List ℕ)
-          → Given (pair_passed pair (atoms_at whole (take count table)) (tree_of left) (tree_of right)) at low whole table' terms' (TooMany w)
-      right-past f pair low table' terms' =
-          rw x-none
-          (let low-right = parity (parity (atoms_at whole (take count table)) (tree_of left)).atoms (tree_of right) in
-          let passes = passed (parity (atoms_at whole (take count table)) (tree_of left)).atoms (tree_of right) in
-          let n' = length low-right.poly in
-          let k' = length low-right.atoms in
-          refused (later (size (tree_of left)) passes) at n' k'
-          (h'.size ∙ sized-later passes at (length left) (size (tree_of left)) n' k' (words_size left two.left_wf))
-          f _ low whole table' terms')
+      pub right-none : Given (parity (atoms_at whole (take noted table₁)) (tree_of right)) whole table₂ rest₂ r₂ → r₂ ≡ TooMany
+          → (pair : Pair) → (pair_of pair (atoms_at whole (take count table)) (tree_of left) (tree_of right)).fits ≡ false
+      right-none h f pair =
+          let none : (parity (parity (atoms_at whole (take count table)) (tree_of left)).atoms (tree_of right)).fits ≡ false = rw right-atoms at (passed h.made f) in
+          rw (x-told.fit, none)
 
-      module _ {k all : ℕ} (f : r₂ ≡ Of k all) where
-        y-told : Told (is_none (passed (parity (atoms_at whole (take count table)) (tree_of left)).atoms (tree_of right)))
+      module _ {k all : ℕ} (h : Given (parity (atoms_at whole (take noted table₁)) (tree_of right)) whole table₂ rest₂ r₂) (f : r₂ ≡ Of k all) where
+        h' : Given (parity (parity (atoms_at whole (take count table)) (tree_of left)).atoms (tree_of right)) whole table₂ rest₂ r₂
+        h' = rw right-atoms at h
+
+        y-told : Told (parity (parity (atoms_at whole (take count table)) (tree_of left)).atoms (tree_of right)).fits
             (parity (parity (atoms_at whole (take count table)) (tree_of left)).atoms (tree_of right)).poly
             (length (parity (parity (atoms_at whole (take count table)) (tree_of left)).atoms (tree_of right)).atoms) rest₂ k all
-        y-told = given-told h' f
-
-        y-none : passed (parity (atoms_at whole (take count table)) (tree_of left)).atoms (tree_of right) ≡ none
-        y-none = given-none h' f
-
-        y-fit : (parity (parity (atoms_at whole (take count table)) (tree_of left)).atoms (tree_of right)).fits ≡ true
-        y-fit = sym (fits-none (parity (atoms_at whole (take count table)) (tree_of left)).atoms (tree_of right)) ∙ y-told.fit
+        y-told = told h'.made f
 
         right-few : k ≤ 256
         right-few =
-            omega (arith, y-told.count, parity-few (parity (atoms_at whole (take count table)) (tree_of left)).atoms (tree_of right) y-fit)
+            omega (arith, y-told.count, parity-few (parity (atoms_at whole (take count table)) (tree_of left)).atoms (tree_of right) y-told.fit)
 
         right-terms : k < leaves (length right)
         right-terms = side-terms (parity (atoms_at whole (take count table)) (tree_of left)).atoms right two.right_wf y-told.count
@@ -366,30 +276,16 @@ module _ {whole : List ℕ} {at : ℕ} {left right table : List ℕ} {count : �
             products = pairs-room (length left) (length right) n k scratch room left-terms right-terms;
           }
 
-          pub two-given : (pair : Pair) (root : ℕ) (new : List ℕ) (r : Size) → root ≡ at + length left + length right
-              → Made (pair_fits pair (take n (take n terms₁ ++ (rest₂ ++ tail))) (take k (drop n (take n terms₁ ++ (rest₂ ++ tail))))) root
+          pub two-given : (pair : Pair) (new : List ℕ) (r : Size)
+              → Made (pair_fits pair (take n (take n terms₁ ++ (rest₂ ++ tail))) (take k (drop n (take n terms₁ ++ (rest₂ ++ tail)))))
               (pair_poly pair (take n (take n terms₁ ++ (rest₂ ++ tail))) (take k (drop n (take n terms₁ ++ (rest₂ ++ tail))))) all new r
-              → Given (pair_passed pair (atoms_at whole (take count table)) (tree_of left) (tree_of right)) at
-              (pair_of pair (atoms_at whole (take count table)) (tree_of left) (tree_of right)) whole table₂ new r
-          two-given pair root new r e m =
-              let l = atoms_at whole (take count table) in
-              let x = parity l (tree_of left) in
-              let y = parity x.atoms (tree_of right) in
-              let own = size (tree_of left) + size (tree_of right) in
-              let m' : Made (pair_fits pair x.poly y.poly) root (pair_poly pair x.poly y.poly) (length y.atoms) new r = rw (← y-told.all) (rw (first, second) at m) in
-              let there : root ≡ at + 2 * own = omega (arith, words_size left two.left_wf, words_size right two.right_wf) in
-              rw (x-none, y-none)
-              (record {
-                size = sized-own (pair_fits pair x.poly y.poly) at own (length (pair_poly pair x.poly y.poly)) (length y.atoms) there m'.size;
-                stands = λ f. m'.stands (own-fits (pair_fits pair x.poly y.poly) own f);
-                atoms = λ _. h'.atoms y-none;
-                parts = λ _. h'.parts y-none;
-              })
+              → Given (pair_of pair (atoms_at whole (take count table)) (tree_of left) (tree_of right)) whole table₂ new r
+          two-given pair new r m = record {
+            made = rw (x-told.fit, y-told.fit, ← y-told.all) (rw (first, second) at m);
+            atoms = λ _. h'.atoms y-told.fit;
+            parts = λ _. h'.parts y-told.fit;
+          }
 
-  pub left-past : {table₁ terms₁ : List ℕ} {r₁ : Size} {w : ℕ}
-      → Given (passed (atoms_at whole (take count table)) (tree_of left)) at (parity (atoms_at whole (take count table)) (tree_of left)) whole table₁ terms₁ r₁
-      → r₁ ≡ TooMany w → (pair : Pair) (low : Low) (table' terms' : List ℕ)
-      → Given (pair_passed pair (atoms_at whole (take count table)) (tree_of left) (tree_of right)) at low whole table' terms' (TooMany w)
-  left-past g e pair low table' terms' =
-      let x = parity (atoms_at whole (take count table)) (tree_of left) in
-      refused (passed (atoms_at whole (take count table)) (tree_of left)) at (length x.poly) (length x.atoms) g.size e _ low whole table' terms'
+  pub left-none : {table₁ terms₁ : List ℕ} {r₁ : Size} → Given (parity (atoms_at whole (take count table)) (tree_of left)) whole table₁ terms₁ r₁ → r₁ ≡ TooMany
+      → (pair : Pair) → (pair_of pair (atoms_at whole (take count table)) (tree_of left) (tree_of right)).fits ≡ false
+  left-none g e pair = rw (passed g.made e)

@@ -70,7 +70,7 @@ Fits γ l α φ (binary o a b) =
 Fits γ l α φ (ternary c a b) = FitsAtom γ l α φ (ternary c a b)
 
 -- the monomial of one atom
-pub single : (n : ℕ) (γ : Bits) → holds γ (2 ^ n) ≡ γ n
+single : (n : ℕ) (γ : Bits) → holds γ (2 ^ n) ≡ γ n
 single zero γ = holds-step γ 1 ∙ rw (holds-none (λ (i : ℕ). γ (suc i))) (and-true (γ 0))
   where
     and-true : (b : Bool) → (b && true) ≡ b
@@ -359,7 +359,7 @@ some_bits α φ a b =
     }
 
 -- The number that each atom with an effect in it has, by its path.
-unfoldable pub numbers : List Expr → Expr → ByPath ℕ
+unfoldable numbers : List Expr → Expr → ByPath ℕ
 numbers l (variable n) path = length l
 numbers l (constant w x) path = length l
 numbers l condition_true path = length l
@@ -394,7 +394,7 @@ atom-of γ l F φ e x own = go (has_own_value e) refl
     go false test = ap γ (sym (place_in l F e x test))
 
 -- bits by number fit the choice that they make
-pub fits-own : (γ : Bits) (l F : List Expr) (e : Expr) → Extends (parity l e).atoms F
+fits-own : (γ : Bits) (l F : List Expr) (e : Expr) → Extends (parity l e).atoms F
     → Fits γ l (λ t. γ (place F t)) (λ path. γ (numbers l e path)) e
 unfolding Fits parity numbers atom_low
 fits-own γ l F (variable n) x = atom-of γ l F (λ path. γ (length l)) (variable n) x refl

@@ -9,8 +9,6 @@ pub mod Choices
 -- low bits in evaluations
 pub mod TypeLaws
 pub mod Evaluation
--- records that pass the limits
-pub mod Passed
 -- laws of the code's steps
 pub mod Steps
 pub mod Rooms

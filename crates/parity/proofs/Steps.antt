@@ -4,7 +4,7 @@ use Prim.Native.Nat.{ℕ, zero, suc, ◌+◌, ◌*◌, ◌-◌, ◌/◌, ◌%◌
 use mathlib.Core.Path.{◌≡◌, refl, sym, ap, ap₂, ◌∙◌}
 use mathlib.Core.Bool.{Bool, true, false, cond, ◌&&◌}
 use mathlib.Core.List.{List, [], ◌∷◌, ◌++◌, append_assoc}
-use mathlib.Core.Option.{Option, none, some}
+use mathlib.Core.Option.{none, some}
 use native.Mathlib.Nat.{mod-eq_of_lt, pow-le-pow_right, lt_of_le_of_lt}
 use native.Mathlib.Numerals.{add-one}
 use native.Mathlib.Omega.{arith}
@@ -22,12 +22,11 @@ use Rattle.expr.proofs.Children.{root-kind}
 use Rattle.poly.specs.Terms.{Written, sum, product, sum_product}
 use Rattle.poly.proofs.Running.{length-times, times-one, written-ordered}
 use Rattle.poly.proofs.Values.{ascending-sum}
-use Rattle.parity.specs.Parity.{Low, constant_of, entered, few, few_pairs, joined, constant_poly, place, number_in, noted, atom_low}
+use Rattle.parity.specs.Parity.{constant_of, entered, few, few_pairs, joined, constant_poly, place, number_in, noted, atom_low}
 use Rattle.parity.specs.Parity.Entry.{adds, atom}
 use Rattle.parity.specs.declared.Size.{Size}
 use Rattle.parity.specs.declared.Size.TheVariants.{Of, TooMany}
-use Rattle.parity.specs.Passed.{is_none}
-use Rattle.parity.specs.Lent.{sized, part_at, atoms_at, Part, Parts, Lent, Sides, Made, Given}
+use Rattle.parity.specs.Lent.{part_at, atoms_at, Part, Parts, Lent, Sides, Made, Given}
 use Rattle.parity.proofs.Atoms.{number-upto}
 use Rattle.laws.proofs.Booleans.{and_both}
 
@@ -104,10 +103,10 @@ pub front : (terms : List ℕ) (t : ℕ) → 1 ≤ length terms → take 1 (set 
 front [] t h = absurd (omega arith)
 front (x ∷ terms) t h = refl
 
-pub made-odd : (terms : List ℕ) (x count : ℕ) → 1 ≤ length terms → x % 2 ≡ 1 → Made true 0 (constant_poly x) count (set terms 0 0) (Of 1 count)
+pub made-odd : (terms : List ℕ) (x count : ℕ) → 1 ≤ length terms → x % 2 ≡ 1 → Made true (constant_poly x) count (set terms 0 0) (Of 1 count)
 made-odd terms x count h odd = record { size = rw odd; stands = λ _. rw odd (front terms 0 h) }
 
-pub made-even : (terms : List ℕ) (x count : ℕ) → (x % 2 ≡ 1 → ⊥) → Made true 0 (constant_poly x) count terms (Of 0 count)
+pub made-even : (terms : List ℕ) (x count : ℕ) → (x % 2 ≡ 1 → ⊥) → Made true (constant_poly x) count terms (Of 0 count)
 made-even terms x count even = record { size = rw (ne_eqb (x % 2) 1 even); stands = λ _. rw (ne_eqb (x % 2) 1 even) }
 
 -- what is told of a polynomial within the limits, and past them
@@ -117,41 +116,24 @@ pub record Told (fits : Bool) (poly : List ℕ) (atoms : ℕ) (terms : List ℕ)
   pub all : k ≡ atoms
   pub stands : take n terms ≡ poly
 
-pub told : {fits : Bool} {root : ℕ} {poly terms : List ℕ} {atoms n k : ℕ} {r : Size} → Made fits root poly atoms terms r → r ≡ Of n k → Told fits poly atoms terms n k
-told {fits} {root} {poly} {terms} {atoms} {n} {k} {r} m e = go fits refl (sym m.size ∙ e)
+pub told : {fits : Bool} {poly terms : List ℕ} {atoms n k : ℕ} {r : Size} → Made fits poly atoms terms r → r ≡ Of n k → Told fits poly atoms terms n k
+told {fits} {poly} {terms} {atoms} {n} {k} {r} m e = go fits refl (sym m.size ∙ e)
   where
-    go : (b : Bool) → fits ≡ b → cond b (Of (length poly) atoms) (TooMany root) ≡ Of n k → Told fits poly atoms terms n k
+    go : (b : Bool) → fits ≡ b → cond b (Of (length poly) atoms) TooMany ≡ Of n k → Told fits poly atoms terms n k
     go true f h =
         let size : n ≡ length poly = cc in
         record { fit = f; count = size; all = cc; stands = rw size (m.stands f) }
     go false f h = let z : ◌≡◌ {A = ℕ} 0 1 = cc in absurd (omega arith)
 
-pub past : {fits : Bool} {root : ℕ} {poly terms : List ℕ} {atoms w : ℕ} {r : Size} → Made fits root poly atoms terms r → r ≡ TooMany w → fits ≡ false
-past {fits} {root} {poly} {terms} {atoms} {w} {r} m e = go fits refl (sym m.size ∙ e)
+pub passed : {fits : Bool} {poly terms : List ℕ} {atoms : ℕ} {r : Size} → Made fits poly atoms terms r → r ≡ TooMany → fits ≡ false
+passed {fits} {poly} {terms} {atoms} {r} m e = go fits refl (sym m.size ∙ e)
   where
-    go : (b : Bool) → fits ≡ b → cond b (Of (length poly) atoms) (TooMany root) ≡ TooMany w → fits ≡ false
+    go : (b : Bool) → fits ≡ b → cond b (Of (length poly) atoms) TooMany ≡ TooMany → fits ≡ false
     go true f h = let z : ◌≡◌ {A = ℕ} 0 1 = cc in absurd (omega arith)
     go false f h = f
 
-pub made_none : {fits : Bool} {root : ℕ} (poly : List ℕ) (atoms : ℕ) (terms : List ℕ) → fits ≡ false → Made fits root poly atoms terms (TooMany root)
+pub made_none : {fits : Bool} (poly : List ℕ) (atoms : ℕ) (terms : List ℕ) → fits ≡ false → Made fits poly atoms terms TooMany
 made_none {fits} poly atoms terms h = record { size = rw h; stands = λ k. let z : ◌≡◌ {A = Bool} false true = sym h ∙ k in let y : ◌≡◌ {A = ℕ} 0 1 = cc in absurd (omega arith) }
-
--- what is told of a part that no record passes a limit in
-pub given-none : {passes : Option ℕ} {at : ℕ} {low : Low} {whole table terms : List ℕ} {r : Size} {n k : ℕ}
-    → r ≡ Of n k → passes ≡ none
-given-none {passes} {at} {low} {n = n} {k = k} e = go passes (sym 𝓛.size ∙ e)
-  where
-    go : (p : Option ℕ) → sized at p (length low.poly) (length low.atoms) ≡ Of n k → p ≡ none
-    go none h = refl
-    go (some j) h = let z : ◌≡◌ {A = ℕ} 0 1 = cc in absurd (omega arith)
-
-pub given-told : {passes : Option ℕ} {at : ℕ} {low : Low} {whole table terms : List ℕ} {r : Size} {n k : ℕ}
-    → r ≡ Of n k → Told (is_none passes) low.poly (length low.atoms) terms n k
-given-told {passes} {at} {low} {n = n} {k = k} e =
-    let none_is : passes ≡ none = given-none e in
-    let sizes : Of (length low.poly) (length low.atoms) ≡ Of n k = rw none_is at (sym 𝓛.size ∙ e) in
-    let size : n ≡ length low.poly = cc in
-    record { fit = rw none_is; count = size; all = cc; stands = rw size (𝓛.stands none_is) }
 
 -- a list copied into another stands there, and what is before it is as it was
 pub copied-part : (l q : List ℕ) (at k : ℕ) → length q ≡ k → at + k ≤ length l → take k (drop at (paste l at q (length q))) ≡ q
@@ -178,8 +160,8 @@ pub length-sum : (p q : List ℕ) → length (sum p q) ≤ length p + length q
 length-sum p q = rw (sym (times-one p q)) (length-times p 0 q)
 
 -- a polynomial at the start, its count held to the limit
-pub limited-made : {poly old new : List ℕ} {count room atoms root : ℕ} {r : Size} → Written poly count room old new
-    → r ≡ cond (leb count 256) (Of count atoms) (TooMany root) → Made (few poly) root poly atoms new r
+pub limited-made : {poly old new : List ℕ} {count room atoms : ℕ} {r : Size} → Written poly count room old new
+    → r ≡ cond (leb count 256) (Of count atoms) TooMany → Made (few poly) poly atoms new r
 limited-made w e = record { size = rw w.count at e; stands = λ _. rw w.count at w.terms }
 
 pub told-within : {fits : Bool} {poly terms : List ℕ} {atoms n k : ℕ} → Told fits poly atoms terms n k → n ≤ length terms
@@ -201,12 +183,12 @@ module _ (terms : List ℕ) (n k : ℕ) (scratch : List ℕ) (s : Sides terms n 
   right-count = length-behind terms n k (omega (arith, s.left, s.right, s.space))
 
   -- the sum
-  pub sum-made : (copy new : List ℕ) (count room atoms root : ℕ) (r : Size)
+  pub sum-made : (copy new : List ℕ) (count room atoms : ℕ) (r : Size)
       → copy ≡ paste scratch 0 (take (n + k - n) (drop n terms)) (length (take (n + k - n) (drop n terms)))
       → Written (sum (take n terms) (take k copy)) count room terms new
-      → r ≡ cond (leb count 256) (Of count atoms) (TooMany root)
-      → Made (few (sum (take n terms) (take k (drop n terms)))) root (sum (take n terms) (take k (drop n terms))) atoms new r
-  sum-made copy new count room atoms root r e w l =
+      → r ≡ cond (leb count 256) (Of count atoms) TooMany
+      → Made (few (sum (take n terms) (take k (drop n terms)))) (sum (take n terms) (take k (drop n terms))) atoms new r
+  sum-made copy new count room atoms r e w l =
       let right : take k copy ≡ take k (drop n terms) =
       rw (behind terms n k (n + k) refl) at (ap (take k) e)
       ∙ copied-part scratch (take k (drop n terms)) 0 k right-count (omega (arith, s.right, s.copies)) in
@@ -219,11 +201,11 @@ module _ (terms : List ℕ) (n k : ℕ) (scratch : List ℕ) (s : Sides terms n 
   pub product-room : n * k ≤ 4096 → 0 + length (take n terms) * length (take (n + k - n) (drop n terms)) ≤ length scratch
   product-room h = rw (behind terms n k (n + k) refl, left-count, right-count) (omega (arith, s.products h))
 
-  pub product-made : (new : List ℕ) (count room atoms root : ℕ) (r : Size) → n * k ≤ 4096
+  pub product-made : (new : List ℕ) (count room atoms : ℕ) (r : Size) → n * k ≤ 4096
       → Written (sum_product (take 0 scratch) (take n terms) (take (n + k - n) (drop n terms))) count room scratch new
-      → r ≡ cond (leb count 256) (Of count atoms) (TooMany root)
-      → Made (few_pairs (take n terms) (take k (drop n terms)) && few (product (take n terms) (take k (drop n terms)))) root (product (take n terms) (take k (drop n terms))) atoms new r
-  product-made new count room atoms root r h w l =
+      → r ≡ cond (leb count 256) (Of count atoms) TooMany
+      → Made (few_pairs (take n terms) (take k (drop n terms)) && few (product (take n terms) (take k (drop n terms)))) (product (take n terms) (take k (drop n terms))) atoms new r
+  product-made new count room atoms r h w l =
       let pairs : few_pairs (take n terms) (take k (drop n terms)) ≡ true = rw (left-count, right-count) (le-leb (n * k) 4096 h) in
       rw pairs (limited-made (rw (behind terms n k (n + k) refl) at w) l)
 
@@ -234,9 +216,9 @@ sides-few terms n k t =
     omega (arith, t.count, product-few (few_pairs (take n terms) (take k (drop n terms))) (product (take n terms) (take k (drop n terms))) t.fit)
 
 -- a polynomial moved from the start of one list to that of another
-pub moved_made : {fits : Bool} {root : ℕ} {poly from : List ℕ} {atoms n k : ℕ} (terms : List ℕ) → Told fits poly atoms from n k → n ≤ length terms
-    → Made fits root poly atoms (paste terms 0 (take n from) (length (take n from))) (Of n k)
-moved_made {fits} {root} {poly} {from} {atoms} {n} {k} terms t h = record {
+pub moved_made : {fits : Bool} {poly from : List ℕ} {atoms n k : ℕ} (terms : List ℕ) → Told fits poly atoms from n k → n ≤ length terms
+    → Made fits poly atoms (paste terms 0 (take n from) (length (take n from))) (Of n k)
+moved_made {fits} {poly} {from} {atoms} {n} {k} terms t h = record {
   size = rw (t.fit, t.count, t.all);
   stands = λ _.
       let long : length (take n from) ≡ n = length-take-le n from (told-within t) in
@@ -286,10 +268,10 @@ module _ (terms : List ℕ) (n k : ℕ) (scratch : List ℕ) (s : Sides terms n 
     pub join-taken : length (take count copy) ≤ 256
     join-taken = omega (arith, ap length join-product, t.count, join-count)
 
-    pub join-made : (new : List ℕ) (whole room' root : ℕ) (r : Size) → Written (sum (take sums mid) (take count copy)) whole room' mid new
-        → r ≡ cond (leb whole 256) (Of whole all) (TooMany root)
-        → Made (few_pairs (take n terms) (take k (drop n terms)) && (few (product (take n terms) (take k (drop n terms))) && few (joined (take n terms) (take k (drop n terms))))) root (joined (take n terms) (take k (drop n terms))) atoms new r
-    join-made new whole room' root r v l =
+    pub join-made : (new : List ℕ) (whole room' : ℕ) (r : Size) → Written (sum (take sums mid) (take count copy)) whole room' mid new
+        → r ≡ cond (leb whole 256) (Of whole all) TooMany
+        → Made (few_pairs (take n terms) (take k (drop n terms)) && (few (product (take n terms) (take k (drop n terms))) && few (joined (take n terms) (take k (drop n terms))))) (joined (take n terms) (take k (drop n terms))) atoms new r
+    join-made new whole room' r v l =
         let fit = and_both (few_pairs (take n terms) (take k (drop n terms))) (few (product (take n terms) (take k (drop n terms)))) t.fit in
         rw (fit.0, fit.1, ← t.all) (limited-made (rw (join-sum.terms, join-product) at v) l)
 
@@ -337,22 +319,21 @@ module _ (whole : List ℕ) (at : ℕ) (part table : List ℕ) (count : ℕ) (te
 
     -- an atom that has a number
     pub atom-known : (x : ℕ) → x ≡ 2 ^ n → n < count
-        → Given none at (atom_low (atoms_at whole (take count table)) (tree_of part)) whole table (set terms 0 x) (Of 1 count)
+        → Given (atom_low (atoms_at whole (take count table)) (tree_of part)) whole table (set terms 0 x) (Of 1 count)
     unfolding atom_low
     atom-known x e h =
         let l = atoms_at whole (take count table) in
         let same : noted l (tree_of part) ≡ l = rw (lt-ltb (number_in l (tree_of part)) (length l) (omega (arith, atoms-count))) in
         let size : length (noted l (tree_of part)) ≡ count = ap length same ∙ atoms-count in
         record {
-          size = rw size;
-          stands = λ _. one-term x e;
+          made = record { size = rw size; stands = λ _. one-term x e };
           atoms = λ _. ap (λ (k : ℕ). atoms_at whole (take k table)) size ∙ sym same;
           parts = λ _. rw size lent.parts;
         }
 
     -- a new one
     pub atom-new : (x w : ℕ) → x ≡ 2 ^ n → count ≤ n → w ≡ at * 512 + (at + length part)
-        → Given none at (atom_low (atoms_at whole (take count table)) (tree_of part)) whole (set table count w) (set terms 0 x) (Of 1 (count + 1))
+        → Given (atom_low (atoms_at whole (take count table)) (tree_of part)) whole (set table count w) (set terms 0 x) (Of 1 (count + 1))
     unfolding atom_low
     atom-new x w e h v =
         let l = atoms_at whole (take count table) in
@@ -365,8 +346,7 @@ module _ (whole : List ℕ) (at : ℕ) (part table : List ℕ) (count : ℕ) (te
         let table' : take (count + 1) (set table count w) ≡ take count table ++ (w ∷ []) =
         rw add-one (take-suc-set table count w (omega (arith, lent-count, lent.table))) in
         record {
-          size = rw size;
-          stands = λ _. one-term x e;
+          made = record { size = rw size; stands = λ _. one-term x e };
           atoms = λ _.
               ap (λ (k : ℕ). atoms_at whole (take k (set table count w))) size
               ∙ ap (atoms_at whole) table'

@@ -2,12 +2,11 @@
 -- a polynomial at the start of a list of terms.
 use Rattle.std.specs.Prelude.{ℕ, ◌+◌, ◌*◌, ◌-◌, ◌/◌, ◌%◌, ◌≤◌, ◌<◌, ◌≡◌, Bool, true, cond, ◌&&◌, List, [], ◌∷◌, length, get_or, take, drop}
 use Rattle.std.proofs.Math.Option.{Option, none, some}
-use Rattle.expr.specs.Tree.{Expr, Wf, tree_of, size}
+use Rattle.expr.specs.Tree.{Expr, Wf, tree_of}
 use Rattle.search.specs.Ascending.{Ascending}
 use Rattle.poly.specs.Terms.{sum, product}
 use Rattle.parity.specs.Parity as Parity
 use Rattle.parity.specs.Parity.{Low, parity, few, few_pairs, joined}
-use Rattle.parity.specs.Passed.{or_later, later, passed}
 use Rattle.parity.specs.declared.Constant as Constant
 use Rattle.parity.specs.declared.Constant.TheVariants as constants
 use Rattle.parity.specs.declared.Pair.{Pair}
@@ -52,19 +51,6 @@ pair_low pair x y = record {
 -- a part that is entered by both sides, given the atoms before it
 abbrev pub pair_of : Pair → List Expr → Expr → Expr → Low
 pair_of pair atoms a b = let x = parity atoms a in pair_low pair x (parity x.atoms b)
-
--- the first record of such a part that passes a limit: of the left side's, then of the right side's, and then the part's own
-abbrev pub pair_passed : Pair → List Expr → Expr → Expr → Option ℕ
-pair_passed pair atoms a b =
-    let x = parity atoms a in
-    or_later (passed atoms a)
-    (or_later (later (size a) (passed x.atoms b))
-    (cond (pair_fits pair x.poly (parity x.atoms b).poly) none (some (size a + size b))))
-
--- how many terms and atoms, or the place of the record that passes a limit: in words, two for each record, of a part that stands at `at`
-abbrev pub sized : ℕ → Option ℕ → ℕ → ℕ → Size
-sized at none n k = Of n k
-sized at (some j) n k = TooMany (at + 2 * j)
 
 -- the words of an atom, given as 512 times its start plus its end
 abbrev pub part_at : List ℕ → ℕ → List ℕ
@@ -129,14 +115,13 @@ pub record Sides (terms : List ℕ) (n k : ℕ) (scratch : List ℕ) : Type 0 wh
   pub copies : 512 ≤ length scratch
   pub products : n * k ≤ 4096 → n * k ≤ length scratch
 
--- A polynomial within the limits stands at the start, and its size is told; else the place of its part's own record.
-pub record Made (fits : Bool) (root : ℕ) (poly : List ℕ) (atoms : ℕ) (terms : List ℕ) (r : Size) : Type 0 where
-  pub size : r ≡ cond fits (Of (length poly) atoms) (TooMany root)
+-- A polynomial within the limits stands at the start, and its size is told; else that it passes them.
+pub record Made (fits : Bool) (poly : List ℕ) (atoms : ℕ) (terms : List ℕ) (r : Size) : Type 0 where
+  pub size : r ≡ cond fits (Of (length poly) atoms) TooMany
   pub stands : fits ≡ true → take (length poly) terms ≡ poly
 
--- The same with the atoms in the table, of a part that stands at `at` and whose records may pass a limit.
-pub record Given (passes : Option ℕ) (at : ℕ) (low : Low) (whole table terms : List ℕ) (r : Size) : Type 0 where
-  pub size : r ≡ sized at passes (length low.poly) (length low.atoms)
-  pub stands : passes ≡ none → take (length low.poly) terms ≡ low.poly
-  pub atoms : passes ≡ none → atoms_at whole (take (length low.atoms) table) ≡ low.atoms
-  pub parts : passes ≡ none → Parts whole (take (length low.atoms) table)
+-- The same with the atoms in the table.
+pub record Given (low : Low) (whole table terms : List ℕ) (r : Size) : Type 0 where
+  pub made : Made low.fits low.poly (length low.atoms) terms r
+  pub atoms : low.fits ≡ true → atoms_at whole (take (length low.atoms) table) ≡ low.atoms
+  pub parts : low.fits ≡ true → Parts whole (take (length low.atoms) table)

@@ -1,4 +1,3 @@
 pub mod Parity
 pub mod LowBit
 pub mod Lent
-pub mod Passed

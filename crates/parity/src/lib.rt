@@ -2,12 +2,10 @@
 // kept as its offsets there. Polynomials stand at the start of a borrowed list, which serves as a stack: the left side's is made at its
 // start, the right side's after it, and the two are put together at the start.
 ghost use Rattle.std.specs.Prelude.{◌≡◌, true, cond, ◌&&◌, ◌+◌, ◌≤◌, leb, length, take, drop};
-ghost use Rattle.std.proofs.Math.Option.{none};
 ghost use Rattle.expr.specs.Tree.{Wf, tree_of};
 ghost use Rattle.poly.specs.Terms.{sum as sum_of, product as productOf};
 ghost use Rattle.parity.specs.Parity.{constant_of, on_remainder, on_shift, entered as entered_of, place as place_in, number_in, parity as parityOf, few, few_pairs, constant_poly, joined as joinedOf, atom_low};
-ghost use Rattle.parity.specs.Passed.{passed};
-ghost use Rattle.parity.specs.Lent.{option_of, entry_of, pair_poly, pair_fits, pair_of, pair_passed, atoms_at, Parts, ProductsRoom, Lent, LentTwo, Sides, Made, Given};
+ghost use Rattle.parity.specs.Lent.{option_of, entry_of, pair_poly, pair_fits, pair_of, atoms_at, Parts, ProductsRoom, Lent, LentTwo, Sides, Made, Given};
 
 // A constant's value as it is written, or that a part is something else.
 #[derive(Drop)]
@@ -34,12 +32,11 @@ pub enum Entry {
     Atom,
 }
 
-// How many terms a polynomial has, and how many atoms have a number with it; or where in the whole the first record stands that passes a
-// limit.
+// How many terms a polynomial has, and how many atoms have a number with it; or that a part passes the limits.
 #[derive(Drop)]
 pub enum Size {
     Of(usize, usize),
-    TooMany(usize),
+    TooMany,
 }
 
 // The value of a part that is a constant.
@@ -142,7 +139,7 @@ fn atom(
     terms: &mut [u64],
 ) -> Size
     requires { Lent whole.now at part.now atoms.old count terms.old }
-    ensures { Given none at (atom_low (atoms_at whole.now (take count atoms.old)) (tree_of part.now)) whole.now atoms.new terms.new result }
+    ensures { Given (atom_low (atoms_at whole.now (take count atoms.old)) (tree_of part.now)) whole.now atoms.new terms.new result }
 {
     let n = number(whole, &atoms[..count], part);
     terms[0] = 1 << n;
@@ -156,7 +153,7 @@ fn atom(
 // The polynomial of a constant.
 fn constant_poly(terms: &mut [u64], count: usize, x: u64) -> Size
     requires { 1 ≤ length terms.old }
-    ensures { Made true 0 (constant_poly x) count terms.new result }
+    ensures { Made true (constant_poly x) count terms.new result }
 {
     if x % 2 == 1 {
         terms[0] = 0;
@@ -165,97 +162,69 @@ fn constant_poly(terms: &mut [u64], count: usize, x: u64) -> Size
     Size::Of(0, count)
 }
 
-// A polynomial's count of terms is held to the limit: its part's own record stands at `root`.
-fn limited(count: usize, atoms: usize, root: usize) -> Size
-    ensures { result ≡ cond (leb count 256) (Size.Of count atoms) (Size.TooMany root) }
+// A polynomial's count of terms is held to the limit.
+fn limited(count: usize, atoms: usize) -> Size
+    ensures { result ≡ cond (leb count 256) (Size.Of count atoms) Size.TooMany }
 {
     if count <= 256 {
         return Size::Of(count, atoms);
     }
-    Size::TooMany(root)
+    Size::TooMany
 }
 
 // The sum of the sides, at the start.
-fn add_sides(
-    terms: &mut [u64],
-    n: usize,
-    k: usize,
-    scratch: &mut [u64],
-    atoms: usize,
-    root: usize,
-) -> Size
+fn add_sides(terms: &mut [u64], n: usize, k: usize, scratch: &mut [u64], atoms: usize) -> Size
     requires { Sides terms.old n k scratch.old }
-    ensures { Made (few (sum_of (take n terms.old) (take k (drop n terms.old)))) root (sum_of (take n terms.old) (take k (drop n terms.old))) atoms terms.new result }
+    ensures { Made (few (sum_of (take n terms.old) (take k (drop n terms.old)))) (sum_of (take n terms.old) (take k (drop n terms.old))) atoms terms.new result }
 {
     let end = n + k;
     slice::copy_to(&terms[n..end], scratch, 0);
     let count = poly::add(terms, n, &scratch[..k]);
-    limited(count, atoms, root)
+    limited(count, atoms)
 }
 
 // The product of the sides, at the start of the scratch.
-fn product_sides(
-    terms: &[u64],
-    n: usize,
-    k: usize,
-    scratch: &mut [u64],
-    atoms: usize,
-    root: usize,
-) -> Size
+fn product_sides(terms: &[u64], n: usize, k: usize, scratch: &mut [u64], atoms: usize) -> Size
     requires { Sides terms.now n k scratch.old }
-    ensures { Made (few_pairs (take n terms.now) (take k (drop n terms.now)) && few (productOf (take n terms.now) (take k (drop n terms.now)))) root (productOf (take n terms.now) (take k (drop n terms.now))) atoms scratch.new result }
+    ensures { Made (few_pairs (take n terms.now) (take k (drop n terms.now)) && few (productOf (take n terms.now) (take k (drop n terms.now)))) (productOf (take n terms.now) (take k (drop n terms.now))) atoms scratch.new result }
 {
     if 4096 < n * k {
-        return Size::TooMany(root);
+        return Size::TooMany;
     }
     let end = n + k;
     let count = poly::add_product(scratch, 0, &terms[..n], &terms[n..end]);
-    limited(count, atoms, root)
+    limited(count, atoms)
 }
 
 // The product of the sides, at the start.
-fn multiply_sides(
-    terms: &mut [u64],
-    n: usize,
-    k: usize,
-    scratch: &mut [u64],
-    atoms: usize,
-    root: usize,
-) -> Size
+fn multiply_sides(terms: &mut [u64], n: usize, k: usize, scratch: &mut [u64], atoms: usize) -> Size
     requires { Sides terms.old n k scratch.old }
-    ensures { Made (few_pairs (take n terms.old) (take k (drop n terms.old)) && few (productOf (take n terms.old) (take k (drop n terms.old)))) root (productOf (take n terms.old) (take k (drop n terms.old))) atoms terms.new result }
+    ensures { Made (few_pairs (take n terms.old) (take k (drop n terms.old)) && few (productOf (take n terms.old) (take k (drop n terms.old)))) (productOf (take n terms.old) (take k (drop n terms.old))) atoms terms.new result }
 {
-    match product_sides(terms, n, k, scratch, atoms, root) {
+    match product_sides(terms, n, k, scratch, atoms) {
         Size::Of(count, all) => {
             slice::copy_to(&scratch[..count], terms, 0);
             Size::Of(count, all)
         }
-        Size::TooMany(_) => Size::TooMany(root),
+        Size::TooMany => Size::TooMany,
     }
 }
 
 // The or of the sides, at the start: their sum, with their product added to it.
-fn join_sides(
-    terms: &mut [u64],
-    n: usize,
-    k: usize,
-    scratch: &mut [u64],
-    atoms: usize,
-    root: usize,
-) -> Size
+fn join_sides(terms: &mut [u64], n: usize, k: usize, scratch: &mut [u64], atoms: usize) -> Size
     requires { Sides terms.old n k scratch.old }
-    ensures { Made (pair_fits Pair.Or (take n terms.old) (take k (drop n terms.old))) root (joinedOf (take n terms.old) (take k (drop n terms.old))) atoms terms.new result }
+    ensures { Made (pair_fits Pair.Or (take n terms.old) (take k (drop n terms.old))) (joinedOf (take n terms.old) (take k (drop n terms.old))) atoms terms.new result }
 {
-    match product_sides(terms, n, k, scratch, atoms, root) {
+    match product_sides(terms, n, k, scratch, atoms) {
         Size::Of(count, all) => {
             let end = n + k;
             let last = count + k;
             slice::copy_to(&terms[n..end], scratch, count);
             let sum = poly::add(terms, n, &scratch[count..last]);
             let whole = poly::add(terms, sum, &scratch[..count]);
-            limited(whole, all, root)
+            limited(whole, all)
         }
-        Size::TooMany(_) => Size::TooMany(root),
+        Size::TooMany => Size::TooMany,
     }
 }
 
@@ -267,15 +236,14 @@ fn combined(
     k: usize,
     scratch: &mut [u64],
     atoms: usize,
-    root: usize,
 ) -> Size
     requires { Sides terms.old n k scratch.old }
-    ensures { Made (pair_fits pair (take n terms.old) (take k (drop n terms.old))) root (pair_poly pair (take n terms.old) (take k (drop n terms.old))) atoms terms.new result }
+    ensures { Made (pair_fits pair (take n terms.old) (take k (drop n terms.old))) (pair_poly pair (take n terms.old) (take k (drop n terms.old))) atoms terms.new result }
 {
     match pair {
-        Pair::Sum => add_sides(terms, n, k, scratch, atoms, root),
-        Pair::Product => multiply_sides(terms, n, k, scratch, atoms, root),
-        Pair::Or => join_sides(terms, n, k, scratch, atoms, root),
+        Pair::Sum => add_sides(terms, n, k, scratch, atoms),
+        Pair::Product => multiply_sides(terms, n, k, scratch, atoms),
+        Pair::Or => join_sides(terms, n, k, scratch, atoms),
     }
 }
 
@@ -294,7 +262,7 @@ pub fn sides(
 ) -> Size
     requires lent_two { LentTwo whole.now at left.now right.now atoms.old count terms.old }
     requires products_room { ProductsRoom (length left.now + length right.now + 2) scratch.old }
-    ensures { Given (pair_passed pair (atoms_at whole.now (take count atoms.old)) (tree_of left.now) (tree_of right.now)) at (pair_of pair (atoms_at whole.now (take count atoms.old)) (tree_of left.now) (tree_of right.now)) whole.now atoms.new terms.new result }
+    ensures { Given (pair_of pair (atoms_at whole.now (take count atoms.old)) (tree_of left.now) (tree_of right.now)) whole.now atoms.new terms.new result }
 {
     match parity(whole, at, left, atoms, count, terms, scratch) {
         Size::Of(n, noted) => {
@@ -307,19 +275,11 @@ pub fn sides(
                 &mut terms[n..],
                 scratch,
             ) {
-                Size::Of(k, all) => combined(
-                    pair,
-                    terms,
-                    n,
-                    k,
-                    scratch,
-                    all,
-                    at + left.len() + right.len(),
-                ),
-                Size::TooMany(word) => Size::TooMany(word),
+                Size::Of(k, all) => combined(pair, terms, n, k, scratch, all),
+                Size::TooMany => Size::TooMany,
             }
         }
-        Size::TooMany(word) => Size::TooMany(word),
+        Size::TooMany => Size::TooMany,
     }
 }
 
@@ -337,7 +297,7 @@ pub fn parity(
 ) -> Size
     requires lent { Lent whole.now at part.now atoms.old count terms.old }
     requires products_room { ProductsRoom (length part.now) scratch.old }
-    ensures { Given (passed (atoms_at whole.now (take count atoms.old)) (tree_of part.now)) at (parityOf (atoms_at whole.now (take count atoms.old)) (tree_of part.now)) whole.now atoms.new terms.new result }
+    ensures { Given (parityOf (atoms_at whole.now (take count atoms.old)) (tree_of part.now)) whole.now atoms.new terms.new result }
 {
     let n = part.len() - 2;
     let tag = part[n];

@@ -27,4 +27,4 @@ ReturnedVerdict r out reason (refused_verdict number place) = (r ≡ number) × 
 
 -- The number of the C interface, which changes where a host has to change (F4).
 abbrev pub version : ℕ
-version = 2
+version = 1

@@ -14,7 +14,7 @@ use verdict::{Answer, Verdict};
 pub extern "C" fn pomthija_version() -> u64
     ensures { result ≡ version }
 {
-    2
+    1
 }
 
 // The node verdict: 0, with 1 (always), 0 (never) or 2 (undecided) in `out` and the reason's number in `reason`, 0 where

@@ -21,9 +21,9 @@ ADDRESS = 4
 abbrev pub REGISTER : ℕ
 REGISTER = 5
 
--- Register operands of a modelled instruction whose sizes differ (R14).
-abbrev pub SIZES : ℕ
-SIZES = 6
+-- Operands or declared flags that a modelled instruction cannot have (R14, R15, R16).
+abbrev pub INSTRUCTION : ℕ
+INSTRUCTION = 6
 
 -- Records that do not form one tree (R18, R19).
 abbrev pub TREE : ℕ
@@ -68,11 +68,3 @@ VALUE = 16
 -- A text that is too short for the sentence; its offset is the length needed (W17).
 abbrev pub TEXT : ℕ
 TEXT = 17
-
--- A register operand outside class 1 of a modelled instruction other than mov (R15).
-abbrev pub CLASS : ℕ
-CLASS = 18
-
--- inc, dec or neg that does not declare a flag which it sets (R16).
-abbrev pub FLAGS : ℕ
-FLAGS = 19

@@ -16,8 +16,8 @@ pub const ADDRESS: u64 = 4;
 // A class 1 register that is not well formed.
 pub const REGISTER: u64 = 5;
 
-// Register operands of a modelled instruction whose sizes differ.
-pub const SIZES: u64 = 6;
+// Operands or declared flags that a modelled instruction cannot have.
+pub const INSTRUCTION: u64 = 6;
 
 // Records that do not form one tree.
 pub const TREE: u64 = 7;
@@ -51,9 +51,3 @@ pub const VALUE: u64 = 16;
 
 // A text that is too short for the sentence; its offset is the length needed.
 pub const TEXT: u64 = 17;
-
-// A register operand outside class 1 of a modelled instruction other than mov.
-pub const CLASS: u64 = 18;
-
-// inc, dec or neg that does not declare a flag which it sets.
-pub const FLAGS: u64 = 19;

@@ -1,16 +1,13 @@
--- Every refusal of reading has one of its numbers, and an offset that is not beyond the sheet's end. Assumes nothing.
+-- Every refusal of reading has a number from 1 to 9, and an offset that is not beyond the sheet's end. Assumes nothing.
 -- Each stage keeps that the offset it comes to is within the sheet, and a refusal stands at an offset that an earlier stage came to.
 use Prim.Native.Nat.{ℕ, zero, suc, ◌+◌, ◌≤◌}
 use mathlib.Core.Path.{◌≡◌, refl}
-use mathlib.Core.Logic.{inl, inr}
 use mathlib.Core.List.{List}
-use mathlib.Core.Bool.{Bool, true, false, true≢false, cond, not, ◌&&◌, ◌||◌}
+use mathlib.Core.Bool.{Bool, true, false, cond}
 use native.Mathlib.Omega.{arith}
 use lib.Dec.{leb, eqb}
 use lib.ListN.{length}
 use borrow.Author.Tests.{leb-true}
-use Rattle.isa.specs.declared.Instruction.{Instruction}
-use Rattle.isa.specs.Modelled.{modelled, sizes_differ, outside, is_mov, undeclared, at_fault, fault_number}
 use Rattle.sheet_field.specs.declared.Place.{Place}
 use Rattle.sheet_field.specs.declared.Place.TheVariants.{At, Refused}
 use Rattle.sheet_field.specs.declared.Field.{Field}
@@ -21,7 +18,11 @@ use Rattle.sheet_instruction.specs.Instruction.{register_at, operand_at, with_re
 use Rattle.sheet_expression.specs.Expression.{has_argument, argument_at, constant_at, record_at, taken_more, taken_from, expression_at}
 use Rattle.sheet_node.specs.Node.{StatementRead, map_at as statement_map_at, assignment_at, statement_at, types_from, statements_from, addresses_from, node_at}
 use Rattle.sheet.specs.declared.Reading.TheVariants as reading
-use Rattle.sheet.specs.Sheet.{ByReading, instructions_from, block_at, blocks_from, nodes_from, sheet_at, answer_of, reading_of}
+use Rattle.sheet.specs.Sheet.{instructions_from, block_at, blocks_from, nodes_from, sheet_at, answer_of, reading_of}
+
+-- reading's refusals have the numbers 1 to 9
+abbrev pub ByReading : ℕ → Type 0
+ByReading k = (1 ≤ k) × (k ≤ 9)
 
 -- a refusal of a sheet of that length
 pub record Refusal (size k at : ℕ) : Type 0 where
@@ -35,19 +36,6 @@ Within size (Refused k at) = Refusal size k at
 abbrev after : Field → Place
 after f = f.next
 
--- an instruction at fault has a number
-numbered : (m d o u : Bool) → not (m && ((d || o) || u)) ≡ false → ByReading (cond d 6 (cond o 18 (cond u 19 0)))
-numbered m true o u e = inl (omega arith, omega arith)
-numbered m false true u e = inr (inl refl)
-numbered m false false true e = inr (inr refl)
-numbered true false false false e = absurd (true≢false e)
-numbered false false false false e = absurd (true≢false e)
-
-numbered-at : (i : Instruction) → not (at_fault i) ≡ false → ByReading (fault_number i.mnemonic i.first i.second i.flags)
-numbered-at i e =
-    numbered (modelled i) (sizes_differ i.first i.second) (not (is_mov i.mnemonic) && (outside i.first || outside i.second))
-    (undeclared i.mnemonic i.flags) e
-
 module _ (s : List ℕ) where
   -- reading came to an offset of the sheet, or was refused at one
   record Placed (p : Place) : Type 0 where
@@ -57,13 +45,10 @@ module _ (s : List ℕ) where
   start (At at) h = h.within
   start (Refused k at) h = h.within.place
 
-  judged-by : (ok : Bool) (k at : ℕ) (p : Place) → (ok ≡ false → ByReading k) → at ≤ length s → Placed p → Placed (judge ok k at p)
-  judged-by true k at (At next) n le h = h
-  judged-by false k at (At next) n le h = record { within = record { number = n refl; place = le } }
-  judged-by ok k at (Refused k' at') n le h = h
-
   judged : (ok : Bool) (k at : ℕ) (p : Place) → ByReading k → at ≤ length s → Placed p → Placed (judge ok k at p)
-  judged ok k at p n = judged-by ok k at p (λ _. n)
+  judged true k at (At next) n le h = h
+  judged false k at (At next) n le h = record { within = record { number = n; place = le } }
+  judged ok k at (Refused k' at') n le h = h
 
   -- one of two, each with an offset
   either : {A : Type 0} (next : A → Place) (b : Bool) (x y : A) → Placed (next x) → Placed (next y) → Placed (next (cond b x y))
@@ -78,21 +63,21 @@ module _ (s : List ℕ) where
       go : (t : Bool) → leb (at + n) (length s) ≡ t
           → Placed (after (cond (leb (at + n) (length s)) (record { value = little s at n; next = At (at + n) }) (record { value = 0; next = Refused 1 at })))
       go true e = rw e record { within = leb-true (at + n) (length s) e }
-      go false e = rw e record { within = record { number = (inl (omega arith, omega arith)); place = h.within } }
+      go false e = rw e record { within = record { number = (omega arith, omega arith); place = h.within } }
   field n (Refused k at) h = h
 
   code : (limit : ℕ) (p : Place) → Placed p → Placed (code_at limit s p).next
   unfolding code_at check_field
-  code limit p h = judged _ 2 _ _ (inl (omega arith, omega arith)) (start p h) (field 1 p h)
+  code limit p h = judged _ 2 _ _ (omega arith, omega arith) (start p h) (field 1 p h)
 
   count : (least most : ℕ) (p : Place) → Placed p → Placed (count_at least most s p).next
   unfolding count_at check_field
-  count least most p h = judged _ 3 _ _ (inl (omega arith, omega arith)) (start p h) (field 2 p h)
+  count least most p h = judged _ 3 _ _ (omega arith, omega arith) (start p h) (field 2 p h)
 
   -- instructions
   register : (p : Place) → Placed p → Placed (register_at s p).next
   unfolding register_at
-  register p h = judged _ 5 _ _ (inl (omega arith, omega arith)) (start p h) (field 1 _ (field 1 _ (field 1 _ (field 1 p h))))
+  register p h = judged _ 5 _ _ (omega arith, omega arith) (start p h) (field 1 _ (field 1 _ (field 1 _ (field 1 p h))))
 
   operand : (p : Place) → Placed p → Placed (operand_at s p).next
   unfolding operand_at
@@ -114,8 +99,8 @@ module _ (s : List ℕ) where
   head : (first : Bool) (last : ℕ) (p : Place) → Placed p → Placed (head_at first last s p).next
   unfolding head_at map_at address_at check_field
   head first last p h =
-      let m = judged _ 2 _ _ (inl (omega arith, omega arith)) (start p h) (field 1 p h) in
-      let a = judged _ 4 _ _ (inl (omega arith, omega arith)) (start (map_at s p).next m) (field 8 (map_at s p).next m) in
+      let m = judged _ 2 _ _ (omega arith, omega arith) (start p h) (field 1 p h) in
+      let a = judged _ 4 _ _ (omega arith, omega arith) (start (map_at s p).next m) (field 8 (map_at s p).next m) in
       let n = code 35 (address_at first last s (map_at s p).next).next a in
       either after (bit_of (map_at s p).value 1) _ _ (field 8 _ n) n
 
@@ -132,7 +117,7 @@ module _ (s : List ℕ) where
 
   instruction : (first : Bool) (last : ℕ) (p : Place) → Placed p → Placed (instruction_at first last s p).next
   unfolding instruction_at
-  instruction first last p h = judged-by _ _ _ _ (numbered-at (instruction_at first last s p).instruction) (start p h) (tail _ _ (head first last p h))
+  instruction first last p h = judged _ 6 _ _ (omega arith, omega arith) (start p h) (tail _ _ (head first last p h))
 
   instructions : (p : Place) (k : ℕ) → Placed p → Placed (instructions_from s p k).next
   unfolding instructions_from
@@ -148,7 +133,7 @@ module _ (s : List ℕ) where
   -- expressions
   argument : (variables kind : ℕ) (p : Place) → Placed p → Placed (argument_at variables kind s p).next
   unfolding argument_at check_field
-  argument variables kind p h = either after (has_argument kind) _ _ (judged _ 2 _ _ (inl (omega arith, omega arith)) (start p h) (field 1 p h)) h
+  argument variables kind p h = either after (has_argument kind) _ _ (judged _ 2 _ _ (omega arith, omega arith) (start p h) (field 1 p h)) h
 
   constant : (kind : ℕ) (p : Place) → Placed p → Placed (constant_at kind s p).next
   unfolding constant_at
@@ -160,8 +145,8 @@ module _ (s : List ℕ) where
       let kind = code_at 9 s p in
       let a = argument variables kind.value kind.next (code 9 p h) in
       let v = constant kind.value _ a in
-      judged _ 8 _ _ (inl (omega arith, omega arith)) (start _ a)
-      (judged _ 7 _ _ (inl (omega arith, omega arith)) (start _ v) (judged _ 7 _ _ (inl (omega arith, omega arith)) (start p h) v))
+      judged _ 8 _ _ (omega arith, omega arith) (start _ a)
+      (judged _ 7 _ _ (omega arith, omega arith) (start _ v) (judged _ 7 _ _ (omega arith, omega arith) (start p h) v))
 
   records : (variables total : ℕ) (p : Place) (k : ℕ) → Placed p → Placed (taken_from variables total s p k).next
   unfolding taken_from taken_more
@@ -176,9 +161,9 @@ module _ (s : List ℕ) where
   statement : (types : List ℕ) (p : Place) → Placed p → Placed (statement_at types s p).next
   unfolding statement_at assignment_at statement_map_at check_field
   statement types p h =
-      let m = judged _ 2 _ _ (inl (omega arith, omega arith)) (start p h) (field 1 p h) in
+      let m = judged _ 2 _ _ (omega arith, omega arith) (start p h) (field 1 p h) in
       either (λ (r : StatementRead). r.next) (eqb (statement_map_at s p).value 3) _ _
-      (judged _ 9 _ _ (inl (omega arith, omega arith)) (start p h) (expression (length types) _ (code (length types) (statement_map_at s p).next m))) m
+      (judged _ 9 _ _ (omega arith, omega arith) (start p h) (expression (length types) _ (code (length types) (statement_map_at s p).next m))) m
 
   statements : (types : List ℕ) (p : Place) (k : ℕ) → Placed p → Placed (statements_from types s p k).next
   unfolding statements_from
@@ -213,7 +198,7 @@ module _ (s : List ℕ) where
 
   end : Placed (sheet_at s).end
   unfolding sheet_at
-  end = judged _ 1 _ _ (inl (omega arith, omega arith)) (start _ all) all
+  end = judged _ 1 _ _ (omega arith, omega arith) (start _ all) all
 
   pub reading-refusal : {k at : ℕ} → reading_of s ≡ reading.Refused k at → Refusal (length s) k at
   unfolding reading_of

@@ -7,15 +7,13 @@
 --  3 | a count is within its limits | its second byte | its first byte | count_at
 --  4 | an instruction's address is above the one before | its last byte | its first byte | address_at
 --  5 | a register of class 1 is well formed | its offset byte | its class byte | register_at
---  6 | a modelled instruction's register operands of class 1 have one size | its last byte | its map byte | instruction_at
--- 18 | its register operands are of class 1, but for mov's | its last byte | its map byte | instruction_at
--- 19 | inc, dec and neg declare the flags that they set | its last byte | its map byte | instruction_at
+--  6 | a modelled instruction is not at fault | its last byte | its map byte | instruction_at
 --  7 | a record lacks no child | its last byte | its kind byte | record_at
 --  7 | an expression is one tree | its last byte | the byte after it | record_at
 --  8 | a constant fits its width | its value's last byte | its value's first byte | record_at
 --  9 | an assigned value has its variable's type | the statement's last byte | its map byte | typed_at
 -- The first check that fails gives the refusal; of two at one byte, the one with the lower number (R2, R3, R4).
-use Rattle.std.specs.Prelude.{ℕ, zero, suc, ◌+◌, ◌≤◌, ◌≡◌, ◌⊎◌, List, [], ◌∷◌, ◌++◌, eqb, leb, length, get_or}
+use Rattle.std.specs.Prelude.{ℕ, zero, suc, ◌+◌, List, [], ◌∷◌, ◌++◌, eqb, leb, length, get_or}
 use Rattle.refusal.specs.Numbers.{ENDS}
 use Rattle.expr.specs.Tree.Expr.{condition_true}
 use Rattle.sheet_field.specs.declared.Place.{Place}
@@ -23,15 +21,11 @@ use Rattle.sheet_field.specs.declared.Place.TheVariants.{At, Refused}
 use Rattle.sheet_field.specs.Field.{field_at, start_of, judge, count_at}
 use Rattle.isa.specs.declared.Instruction.{Instruction}
 use Rattle.sheet_instruction.specs.Instruction.{instruction_at}
-use Rattle.sheet_node.specs.Node.{Node, node_at, node_of, record_byte}
+use Rattle.sheet_node.specs.Node.{Node, node_at, node_of}
 use Rattle.sheet.specs.declared.Sheet.{Sheet}
 use Rattle.sheet.specs.declared.Reading.{Reading}
 use Rattle.sheet.specs.declared.Reading.TheVariants as reading
 use Rattle.sheet.specs.declared.Block.{Block}
-
--- The numbers that reading refuses with (R1).
-abbrev pub ByReading : ℕ → Type 0
-ByReading k = ((1 ≤ k) × (k ≤ 9)) ⊎ ((k ≡ 18) ⊎ (k ≡ 19))
 
 -- what instruction records that were read one after the other give: the instructions, the offset of each, the last address,
 -- and the offset after them
@@ -151,7 +145,3 @@ node_numbered s number = get_or (sheet_at s).nodes.list number no_node
 -- where its record starts
 abbrev pub node_place : List ℕ → ℕ → ℕ
 node_place s number = get_or (sheet_at s).nodes.places number 0
-
--- the kind byte of record j of the value of the node's statement i, or, by the number of statements, of its condition
-abbrev pub node_byte : List ℕ → ℕ → ℕ → ℕ → ℕ
-node_byte s number = record_byte s (node_at s (At (node_place s number)))

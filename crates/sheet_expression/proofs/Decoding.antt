@@ -13,7 +13,7 @@ use Rattle.sheet_field.specs.Field.{little, field_at, start_of, code_at, count_a
 use Rattle.sheet_field.proofs.Fields.{field-whole, field-at, judge-at, check-at, code-at, count_most}
 use Rattle.sheet_field.proofs.Counted.{back}
 use Rattle.sheet_expression.specs.declared.Record.{Record}
-use Rattle.sheet_expression.specs.Expression.{has_argument, argument_at, constant_at, record_at, Taken, taken_more, taken_from, expression_at, record_place}
+use Rattle.sheet_expression.specs.Expression.{has_argument, argument_at, constant_at, record_at, Taken, taken_more, taken_from, expression_at}
 use Rattle.sheet_expression.specs.Promises.{Took, RecordIs}
 use Rattle.sheet_expression.proofs.Lists.{Stored, stored_more, taken_next, taken-keep, took-all}
 use Rattle.sheet_expression.proofs.Accepted.{constant-at, argument-at, start-at}
@@ -165,40 +165,23 @@ module _ (variables : ℕ) (s : List ℕ) (from : ℕ) (on : WentOn (expression_
   unfolding expression_at
   expression-is = rw counted.1
 
-  pub records-counted : (count_at 1 128 s (At from)).value ≡ little s from 2
-  records-counted = ap (λ (f : Field). f.value) counted.1
-
-  pub place-counted : (k : ℕ) → record_place variables s (At from) k ≡ (up_to variables s from k).next
-  unfolding record_place
-  place-counted k = ap (λ (n : Field). (taken_from variables n.value s n.next k).next) counted.1
-
-  module _ (k : ℕ) (below : k < little s from 2) {at : ℕ} (place : At at ≡ (up_to variables s from k).next) where
+  module _ (k : ℕ) (below : k < little s from 2) {at : ℕ} {before after : List ℕ} (stored : Stored (up_to variables s from k).depth (At at) before after (up_to variables s from k)) where
     pub record-there : WentOn (record_at variables (up_to variables s from k).depth (little s from 2 - k - 1) s (At at)).next
     unfolding taken_more
     record-there =
         let n : ℕ = little s from 2 in
         let w = back (λ j. (taken_from variables n s (At (from + 2)) j).next) (taken-keep variables n s (At (from + 2))) n (k + 1) (ap (λ (t : Taken). t.next) (sym expression-is) ∙ on.1) (omega arith) in
-        (w.0, rw place (ap (λ (t : Taken). t.next) (sym (taken_next variables n s (At (from + 2)) k)) ∙ w.1))
+        (w.0, rw stored.place (ap (λ (t : Taken). t.next) (sym (taken_next variables n s (At (from + 2)) k)) ∙ w.1))
 
-    pub place-more : {r : Record} → RecordIs r (record_at variables (up_to variables s from k).depth (little s from 2 - k - 1) s (At at))
-        → At r.end ≡ (up_to variables s from (k + 1)).next
-    unfolding taken_more
-    place-more is = is.place ∙ rw (place, taken_next variables (little s from 2) s (At (from + 2)) k)
-
-  module _ (k : ℕ) (below : k < little s from 2) {at : ℕ} {before after : List ℕ} (stored : Stored (up_to variables s from k).depth (At at) before after (up_to variables s from k)) where
     pub stored-record : {r : Record} → RecordIs r (record_at variables (up_to variables s from k).depth (little s from 2 - k - 1) s (At at)) → 2 * k + 2 ≤ length before
         → Stored (up_to variables s from (k + 1)).depth (At r.end) before (set (set after (2 * k) r.tag) (2 * k + 1) r.value) (up_to variables s from (k + 1))
     stored-record is fits =
         let more = stored_more variables (little s from 2) s (At (from + 2)) k stored refl fits in
-        record { trees = refl; place = place-more k below stored.place is; list = rw (is.tag, is.value) more.list }
+        record { trees = refl; place = is.place ∙ more.place; list = rw (is.tag, is.value) more.list }
 
   pub took-whole : (k : ℕ) {next : Place} {before after : List ℕ} → k ≡ little s from 2
       → Stored (up_to variables s from k).depth next before after (up_to variables s from k) → Took (little s from 2) next before after (expression_at variables s (At from))
   took-whole k all stored = rw expression-is (took-all variables (little s from 2) s (At (from + 2)) (rw all at stored) count-few)
-
-pub place-first : (variables : ℕ) (s : List ℕ) (from : ℕ) → At (from + 2) ≡ (up_to variables s from 0).next
-unfolding taken_from
-place-first variables s from = refl
 
 pub stored-first : (variables : ℕ) (s : List ℕ) (from : ℕ) (before : List ℕ) → Stored (up_to variables s from 0).depth (At (from + 2)) before before (up_to variables s from 0)
 unfolding taken_from

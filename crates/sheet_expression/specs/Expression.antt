@@ -80,9 +80,3 @@ unfoldable pub expression_at : ℕ → List ℕ → Place → Taken
 expression_at variables s p =
     let n = count_at 1 128 s p in
     taken_from variables n.value s n.next n.value
-
--- Where record k, from 0, of the expression that starts at an offset stands: the offset of its kind byte.
-unfoldable pub record_place : ℕ → List ℕ → Place → ℕ → Place
-record_place variables s p k =
-    let n = count_at 1 128 s p in
-    (taken_from variables n.value s n.next k).next

@@ -1,8 +1,8 @@
 -- What the contracts of the readers give.
-use Rattle.std.specs.Prelude.{ℕ, ◌*◌, ◌≤◌, ◌<◌, true, List, ◌++◌, ◌≡◌, length, drop}
+use Rattle.std.specs.Prelude.{ℕ, ◌*◌, ◌≤◌, true, List, ◌++◌, ◌≡◌, length, drop}
 use Rattle.sheet_field.specs.declared.Place.{Place}
 use Rattle.sheet_field.specs.declared.Place.TheVariants.{At}
-use Rattle.sheet_field.specs.Field.{count_at, WentOn}
+use Rattle.sheet_field.specs.Field.{WentOn}
 use Rattle.expr.specs.Codes.{kind_ternary}
 use Rattle.expr.specs.Tree.{kind_of, argument_of, tree_of}
 use Rattle.expr.specs.Types.{type_of}
@@ -44,11 +44,6 @@ pub record WholeRecord (s : List ℕ) (at : ℕ) : Type 0 where
 pub record WholeExpression (s : List ℕ) (from : ℕ) : Type 0 where
   pub variables : ℕ
   pub on : WentOn (expression_at variables s (At from)).next
-
--- and it has a record of this number, from 0
-pub record WholeWith (s : List ℕ) (from k : ℕ) : Type 0 where
-  pub whole : WholeExpression s from
-  pub below : k < (count_at 1 128 s (At from)).value
 
 -- what a record that was read whole holds, and the offset after it
 pub record RecordIs (r : Record) (read : RecordReading) : Type 0 where

@@ -5,8 +5,8 @@ ghost use Rattle.sheet_field.specs.declared.Place.TheVariants.{At};
 ghost use Rattle.sheet_field.specs.Field.{WentOn};
 ghost use Rattle.expr.specs.Admission.{InTable};
 ghost use Rattle.expr.specs.Types.{together as togetherOf, binary_type, record_type};
-ghost use Rattle.sheet_expression.specs.Expression.{has_argument, argument_ok, argument_at, constant_at, fits_width, depth_after, record_at, taken_from, expression_at, record_place};
-ghost use Rattle.sheet_expression.specs.Promises.{Took, Tagged, CheckedRecord, CheckedIs, WholeRecord, RecordIs, WholeExpression, WholeWith};
+ghost use Rattle.sheet_expression.specs.Expression.{has_argument, argument_ok, argument_at, constant_at, fits_width, depth_after, record_at, taken_from, expression_at};
+ghost use Rattle.sheet_expression.specs.Promises.{Took, Tagged, CheckedRecord, CheckedIs, WholeRecord, RecordIs, WholeExpression};
 
 use sheet_field::{Field, Place, Width};
 
@@ -284,19 +284,4 @@ pub fn expression_at(s: &[u8], from: usize, out: &mut [u64]) -> Whole
         records: n,
         end: at,
     }
-}
-
-// The byte at which record k, from 0, of the expression at an offset stands, where one was read whole.
-pub fn record_place(s: &[u8], from: usize, k: usize) -> usize
-    requires { WholeWith s.now from k }
-    ensures { (variables : ℕ) → WentOn (expression_at variables s.now (At from)).next → At result ≡ record_place variables s.now (At from) k }
-{
-    let mut at = from + 2;
-    let mut i: usize = 0;
-    while i < k {
-        let r = record_at(s, at);
-        at = r.end;
-        i += 1;
-    }
-    at
 }

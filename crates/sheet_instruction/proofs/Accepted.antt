@@ -147,7 +147,7 @@ pub behind-on : (opens : Bool) (last : ℕ) (s : List ℕ) (p : Place) {a : ℕ}
 unfolding instruction_at
 behind-on opens last s p e =
     let head = head_at opens last s p in
-    let tail = (judge-at _ _ (start_of p) _ e).1 in
+    let tail = (judge-at _ 6 (start_of p) _ e).1 in
     (tail, (tail-on head.map s head.next tail).from)
 
 -- what an instruction that was read whole is
@@ -197,6 +197,6 @@ instruction-on opens last s p e =
       above = λ q. rw rises.2 (ltb-true last _ (other-true opens _ rises.0 q));
       one = well.0;
       two = well.1;
-      sound = not-true _ (judge-at _ _ (start_of p) (tail_at head.map s head.next).next e).0;
+      sound = not-true _ (judge-at _ 6 (start_of p) (tail_at head.map s head.next).next e).0;
       again = rw (address-again opens last s map.next on.address.1);
     }

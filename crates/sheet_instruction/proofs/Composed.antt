@@ -7,7 +7,6 @@ use native.Mathlib.Omega.{arith}
 use lib.ListN.{length}
 use Rattle.isa.specs.declared.Mnemonic.{Mnemonic}
 use Rattle.isa.specs.Mnemonics.{named}
-use Rattle.isa.specs.Modelled.{fault_number}
 use Rattle.isa.specs.Promises.{fault_of}
 use Rattle.sheet_field.specs.declared.Place.{Place}
 use Rattle.sheet_field.specs.declared.Place.TheVariants.{At, Refused}
@@ -109,7 +108,7 @@ module _ (opens : Bool) (last : ℕ) (s : List ℕ) (at : ℕ) {head : HeadCheck
   head-refused e =
       let whole = head_at opens last s (At at) in
       let behind : head.next ≡ (tail_at whole.map s whole.next).next = tail-stays whole.map s e ∙ rw head-is.0 in
-      judge-stays _ _ at behind e
+      judge-stays _ 6 at behind e
 
   module _ {p : ℕ} (after-head : head.next ≡ At p) {tail : TailCheck}
       (tail-is : (tail.next ≡ (tail_at head.map s (At p)).next) × (WentOn tail.next → tail ≡ tail_seen (tail_at head.map s (At p)))) where
@@ -128,16 +127,16 @@ module _ (opens : Bool) (last : ℕ) (s : List ℕ) (at : ℕ) {head : HeadCheck
 
     pub tail-refused : {k a : ℕ} → tail.next ≡ Refused k a → tail.next ≡ (instruction_at opens last s (At at)).next
     unfolding instruction_at whole-tail
-    tail-refused e = judge-stays _ _ at tail-place e
+    tail-refused e = judge-stays _ 6 at tail-place e
 
     pub number-below : head.number < 35
     number-below = seen.below
 
-    pub instruction-judged : {b number : ℕ} {m : Mnemonic} {call fault : Bool} → tail.next ≡ At b → m ≡ named head.number → call ≡ bit_of head.map 2
+    pub instruction-judged : {b : ℕ} {m : Mnemonic} {call fault : Bool} → tail.next ≡ At b → m ≡ named head.number → call ≡ bit_of head.map 2
         → fault ≡ fault_of m call tail.first tail.second tail.flags
-        → number ≡ fault_number m tail.first tail.second tail.flags → judge (not fault) number at (At b) ≡ (instruction_at opens last s (At at)).next
+        → judge (not fault) 6 at (At b) ≡ (instruction_at opens last s (At at)).next
     unfolding instruction_at whole-tail
-    instruction-judged {b} went m-is call-is fault-is number_is =
+    instruction-judged {b} went m-is call-is fault-is =
         let whole : tail ≡ tail_seen whole-tail = tail-is.1 (b, went) ∙ ap tail_seen same in
         let end : At b ≡ whole-tail.next = sym went ∙ tail-place in
-        rw (fault-is, number_is, m-is, call-is, seen.mnemonic, seen.map, whole, ← end)
+        rw (fault-is, m-is, call-is, seen.mnemonic, seen.map, whole, ← end)

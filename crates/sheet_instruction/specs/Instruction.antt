@@ -1,12 +1,12 @@
 -- Instruction records, field by field in reading order.
 use Rattle.std.specs.Prelude.{ℕ, zero, suc, ◌+◌, ◌/◌, ◌%◌, List, Bool, cond, not, ◌&&◌, ◌||◌, set, replicate, ltb, eqb}
-use Rattle.refusal.specs.Numbers.{CODE, ADDRESS, REGISTER}
+use Rattle.refusal.specs.Numbers.{CODE, ADDRESS, REGISTER, INSTRUCTION}
 use Rattle.isa.specs.declared.Register.{Register}
 use Rattle.isa.specs.declared.Operand.TheVariants.{Absent, Reg, Imm, Mem}
 use Rattle.isa.specs.declared.Instruction.{Instruction}
 use Rattle.isa.specs.Mnemonics.{named}
 use Rattle.isa.specs.Register.{well_formed}
-use Rattle.isa.specs.Modelled.{at_fault, fault_number}
+use Rattle.isa.specs.Modelled.{at_fault}
 use Rattle.sheet_field.specs.declared.Place.{Place}
 use Rattle.sheet_field.specs.declared.Field.{Field}
 use Rattle.sheet_instruction.specs.declared.RegisterReading.{RegisterReading}
@@ -110,8 +110,8 @@ tail_at map s p =
     let flags = optional_code (bit_of map 32) 32 s written.next in
     record { first = one.operand; second = two.operand; written = written.list; count = written.count; flags = flags.value; next = flags.next }
 
--- An instruction record. Bit 0 makes it a conditional branch, bit 1 call-like. Where it is modelled and at fault it is refused at its last byte as 6, 18
--- or 19, reported at its first (S6, S7, S8, R2, R4, R17).
+-- An instruction record. Bit 0 makes it a conditional branch, bit 1 call-like. Refusal 6, made at its last byte and reported at its first, where it is
+-- modelled and at fault (S6, S7, S8, R2, R4, R17).
 unfoldable pub instruction_at : Bool → ℕ → List ℕ → Place → InstructionReading
 instruction_at opens last s p =
     let head = head_at opens last s p in
@@ -128,4 +128,4 @@ instruction_at opens last s p =
       count = tail.count;
       flags = tail.flags;
     } in
-    record { instruction = it; next = judge (not (at_fault it)) (fault_number it.mnemonic it.first it.second it.flags) (start_of p) tail.next }
+    record { instruction = it; next = judge (not (at_fault it)) INSTRUCTION (start_of p) tail.next }

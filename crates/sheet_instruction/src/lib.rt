@@ -432,8 +432,7 @@ pub fn check_instruction(s: &[u8], at: usize, opens: bool, last: u64) -> Place
     };
     let mnemonic = isa::mnemonic_of(head.number);
     if isa::is_at_fault(mnemonic, bit(head.map, 2), first, second, tail.flags) {
-        let number = isa::fault_number(mnemonic, first, second, tail.flags);
-        Place::Refused(number, at)
+        Place::Refused(refusal::INSTRUCTION, at)
     } else {
         next
     }

@@ -2,11 +2,11 @@
 use Prim.Native.Nat.{ℕ, ◌+◌, ◌≤◌}
 use mathlib.Core.Path.{◌≡◌, refl, sym, ap, ◌∙◌}
 use mathlib.Core.List.{List}
-use mathlib.Core.Bool.{Bool, true, false, false≢true}
+use mathlib.Core.Bool.{Bool, true, false}
 use native.Mathlib.Omega.{arith}
 use lib.Dec.{eqb}
-use lib.ListN.{length, take, drop}
-use borrow.Author.Tests.{eqb-true, eq-eqb, ne_eqb}
+use lib.ListN.{length}
+use borrow.Author.Tests.{eq-eqb, ne_eqb}
 use Rattle.sheet_field.specs.declared.Place.{Place}
 use Rattle.sheet_field.specs.declared.Place.TheVariants.{At}
 use Rattle.sheet_field.specs.declared.Field.{Field}
@@ -79,47 +79,21 @@ module _ (types s : List ℕ) (p : Place) (on : WentOn (statement_at types s p).
       pub value_on : WentOn (expression_at (length types) s (At (at + 2))).next
       value_on = (on.0, value-is)
 
-      pub value-starts : (code_at (length types) s (map_at s p).next).next ≡ At (at + 2)
-      value-starts = let two : at + 1 + 1 ≡ at + 2 = omega arith in rw (map_read.1, variable-read.1, two)
-
-      pub value-words : (statement_at types s p).words ≡ (expression_at (length types) s (At (at + 2))).words
-      unfolding assignment_at
-      value-words = let two : at + 1 + 1 ≡ at + 2 = omega arith in rw (statement-is, variable-read.1, two)
-
       pub assigned-took : {v : ℕ} {e : Whole} {before after : List ℕ} → v ≡ little s (at + 1) 1
           → Took e.records (At e.end) before after (expression_at (length types) s (At (at + 2)))
           → TookStatement (record { assigned = true; variable = v; records = e.records; next = At e.end }) before after (statement_at types s p)
       unfolding assignment_at
       assigned-took {v} {e} v-is took =
+          let two : at + 1 + 1 ≡ at + 2 = omega arith in
+          let words : (statement_at types s p).words ≡ (expression_at (length types) s (At (at + 2))).words = rw (statement-is, variable-read.1, two) in
           record {
             assigned = rw statement-is;
             variable = v-is ∙ rw (statement-is, variable-read.1);
-            size = rw value-words took.size;
+            size = rw words took.size;
             few = took.few;
             place = took.place ∙ value-is ∙ sym on.1;
-            list = λ went. rw value-words (took.list value_on);
+            list = λ went. rw words (took.list value_on);
           }
-
--- an assignment that was read whole: its value starts two bytes behind its start, and the statement's words are the value's
-pub record Valued (types s : List ℕ) (p : Place) : Type 0 where
-  pub starts : (code_at (length types) s (map_at s p).next).next ≡ At (start_of p + 2)
-  pub on : WentOn (expression_at (length types) s (At (start_of p + 2))).next
-  pub words : (statement_at types s p).words ≡ (expression_at (length types) s (At (start_of p + 2))).words
-
-pub valued : (types s : List ℕ) (p : Place) → WentOn (statement_at types s p).next → (statement_at types s p).assigned ≡ true → Valued types s p
-unfolding statement_at
-valued types s p on is = go (eqb (map_at s p).value 3) refl
-  where
-    go : (t : Bool) → eqb (map_at s p).value 3 ≡ t → Valued types s p
-    go true q =
-        let read = map_read types s p on {at = start_of p} refl in
-        let three : little s (start_of p) 1 ≡ 3 = ap (λ (f : Field). f.value) (sym read.1) ∙ eqb-true (map_at s p).value 3 q in
-        record {
-          starts = value-starts types s p on refl refl three;
-          on = value_on types s p on refl refl three;
-          words = value-words types s p on refl refl three;
-        }
-    go false q = let z : false ≡ true = rw q at is in absurd (false≢true z)
 
 count-from : (least most : ℕ) (s : List ℕ) (at : ℕ) {b : ℕ} → (count_at least most s (At at)).next ≡ At b
     → (at + 2 ≤ length s) × (count_at least most s (At at) ≡ record { value = little s at 2; next = At (at + 2) })
@@ -149,13 +123,6 @@ module _ (s : List ℕ) (at : ℕ) (on : WentOn (node_at s (At at)).next) where
       let there : types_from s (At (at + 2)) (little s at 2) ≡ At types-place.0 = rw variables-read.1 at types-place.1 in
       let e = types-end s (At (at + 2)) (little s at 2) types-place.0 (λ b q. let z : b ≡ at + 2 = cc in omega (arith, variables-read.0)) there in
       (omega (arith, e.0, e.1), there ∙ ap At (sym e.0))
-
-  pub types-room : at + 2 + little s at 2 ≤ length s
-  types-room = types-read.0
-
-  pub types-part : take (little s at 2) (drop (at + 2) s) ≡ types_in s (node_at s (At at))
-  unfolding node_at
-  types-part = rw variables-read.1
 
   statements-read : (at + 2 + little s at 2 + 2 ≤ length s)
       × (count_at 0 64 s (At (at + 2 + little s at 2)) ≡ record { value = little s (at + 2 + little s at 2) 2; next = At (at + 2 + little s at 2 + 2) })

@@ -5,5 +5,3 @@ pub mod Checks
 pub mod Decoding
 pub mod Accepted
 pub mod Variables
--- where a node's expressions stand
-pub mod Expressions

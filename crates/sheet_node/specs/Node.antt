@@ -1,5 +1,5 @@
 -- Node records: variables' types, statements, a condition, addresses.
-use Rattle.std.specs.Prelude.{ℕ, zero, suc, ◌+◌, List, [], ◌∷◌, ◌++◌, Bool, true, false, cond, ◌||◌, eqb, ltb, length, get_or, take, drop}
+use Rattle.std.specs.Prelude.{ℕ, zero, suc, ◌+◌, List, [], ◌∷◌, ◌++◌, Bool, true, false, cond, ◌||◌, eqb, length, get_or, take, drop}
 use Rattle.refusal.specs.Numbers.{CODE, TYPE}
 use Rattle.sheet_field.specs.declared.Place.{Place}
 use Rattle.sheet_field.specs.declared.Place.TheVariants.{At, Refused}
@@ -9,7 +9,7 @@ use Rattle.expr.specs.Tree.{Expr, tree_of}
 use Rattle.expr.specs.Statement.{Statement}
 use Rattle.expr.specs.Statement.Statement.{assignment, other}
 use Rattle.expr.specs.Types.{type_of, same_type}
-use Rattle.sheet_expression.specs.Expression.{expression_at, record_place}
+use Rattle.sheet_expression.specs.Expression.{expression_at}
 use Rattle.sheet_node.specs.declared.NodeReading.{NodeReading}
 
 -- what reading a statement gives: whether it is an assignment, its variable, its value's words, and the offset after it
@@ -123,14 +123,3 @@ node_of s n =
       condition = tree_of (expression_at n.variables s n.condition).words;
       addresses = (addresses_from s n.sites n.addresses).list;
     }
-
--- Where an expression of a node starts: the value of the statement of that number, from 0, or, by the number of statements, the condition.
-unfoldable pub expression_place : List ℕ → NodeReading → ℕ → Place
-expression_place s n i =
-    let types = types_in s n in
-    let map = map_at s (statements_from types s n.body i).next in
-    cond (ltb i n.statements) (code_at (length types) s map.next).next n.condition
-
--- The kind byte of record j, from 0, of that expression (N27).
-unfoldable pub record_byte : List ℕ → NodeReading → ℕ → ℕ → ℕ
-record_byte s n i j = start_of (record_place n.variables s (expression_place s n i) j)

@@ -1,15 +1,13 @@
 -- What the contracts of the readers ask and give.
 use Rattle.std.specs.Prelude.{ℕ, ◌*◌, ◌≤◌, ◌≡◌, List, ◌++◌, length, drop}
 use Rattle.sheet_field.specs.declared.Place.{Place}
-use Rattle.sheet_field.specs.declared.Place.TheVariants.{At}
 use Rattle.sheet_field.specs.Field.{WentOn}
 use Rattle.sheet_node.specs.declared.StatementReading.{StatementReading}
 use Rattle.sheet_node.specs.declared.NodeReading.{NodeReading}
 use Rattle.sheet_node.specs.declared.NodeFront.{NodeFront}
 use Rattle.sheet_field.specs.Field.{count_at}
-use Rattle.expr.specs.Tree.{Expr, tree_of}
 use Rattle.sheet_expression.specs.Expression.{expression_at}
-use Rattle.sheet_node.specs.Node.{StatementRead, statement_at, statements_from, addresses_from, node_at, expression_place}
+use Rattle.sheet_node.specs.Node.{StatementRead, statement_at, statements_from, addresses_from, node_at}
 
 -- What a reader of a statement leaves: the statement, and a borrowed list that was `before` and is `after`: where reading went
 -- on, the value's words stand at its start, and the rest is as it was.
@@ -50,9 +48,3 @@ pub record WholeStatement (s : List ℕ) (p : Place) : Type 0 where
 pub record WholeStatements (s : List ℕ) (p : Place) (n : ℕ) : Type 0 where
   pub types : List ℕ
   pub on : WentOn (statements_from types s p n).next
-
--- expression i of the node starts at this offset, and is e
-pub record Stands (s : List ℕ) (node : NodeReading) (i from : ℕ) (e : Expr) : Type 0 where
-  pub place : expression_place s node i ≡ At from
-  pub on : WentOn (expression_at node.variables s (At from)).next
-  pub tree : tree_of (expression_at node.variables s (At from)).words ≡ e

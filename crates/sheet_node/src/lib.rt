@@ -84,16 +84,6 @@ pub fn front_at(s: &[u8], at: usize) -> NodeFront
     }
 }
 
-// The types of the node record at an offset where one was read whole.
-pub fn types_at(s: &[u8], at: usize) -> &[u8]
-    requires { WentOn (node_at s.now (At at)).next }
-    ensures { result.now ≡ types_in s.now (node_at s.now (At at)) }
-{
-    let from = at + 2;
-    let n = sheet_field::number(s, at, Width::Two) as usize;
-    &s[from..from + n]
-}
-
 // The types of a node that was read whole.
 pub fn node_types(s: &[u8], node: NodeReading) -> &[u8]
     requires { ReadNode s.now node }

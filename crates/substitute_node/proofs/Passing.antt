@@ -3,16 +3,15 @@
 use Prim.Native.Nat.{ℕ, suc, ◌+◌, ◌*◌, ◌-◌, ◌≤◌, ◌<◌}
 use mathlib.Core.Path.{◌≡◌, refl, sym, ap, subst, ◌∙◌}
 use mathlib.Core.Bool.{Bool, true, false, cond, false≢true}
-use mathlib.Core.List.{List, [], ◌∷◌, ◌++◌}
+use mathlib.Core.List.{List, [], ◌∷◌}
 use native.Mathlib.Omega.{arith}
 use native.Mathlib.Numerals.{add-one}
-use lib.ListN.{length, get_or, take, drop, replicate, length-replicate, take-append-drop, drop_of_length-le}
-use lib.Seq.{drop-cons, length-take-le, get_or-take, ext_get_or}
+use lib.ListN.{length, get_or, take, drop, replicate, length-replicate, drop_of_length-le}
+use lib.Seq.{drop-cons}
 use Rattle.sheet_field.specs.Field.{start_of, WentOn}
 use Rattle.sheet_field.specs.declared.Place.{Place}
 use Rattle.sheet_field.specs.declared.Place.TheVariants.{At}
-use Rattle.expr.specs.Tree.{Expr, size, Wf, tree_of}
-use Rattle.expr.specs.Tree.Expr.{condition_true}
+use Rattle.expr.specs.Tree.{Expr, Wf, tree_of}
 use Rattle.expr.proofs.Laws.{wf-flat, tree_of-flat}
 use Rattle.expr.specs.Statement.{Statement}
 use Rattle.expr.specs.Statement.Statement.{assignment, other}
@@ -23,7 +22,7 @@ use Rattle.sheet_node.specs.Node.{StatementRead, statement_at, statement_of, Sta
 use Rattle.sheet_node.proofs.Nodes.{statements-more}
 use Rattle.sheet_node.proofs.Statements.{statement-whole}
 use Rattle.sheet_node.proofs.Accepted.{statements-nth, statements-length}
-use Rattle.substitution.specs.Substitution.{Table, nothing_held, substitute, table_after, long, Substituted, too_long, into, substituted, with_assignments}
+use Rattle.substitution.specs.Substitution.{Table, nothing_held, substitute, long, too_long, into, substituted, with_assignments}
 use Rattle.substitution.specs.Substitution as sub
 use Rattle.substitution.specs.declared.Written.{Written}
 use Rattle.substitution.specs.declared.Written.TheVariants.{From, TooLong}
@@ -35,12 +34,11 @@ use Rattle.substitute_node.specs.Node.{Room, Lent, Idle, Stepped, Passed, MadeNo
 -- a statement that is no assignment
 pub stepped-other : {table lengths lengths' : List ℕ} → Slots table lengths → lengths' ≡ replicate (length lengths) 0 → (h : Table) (r : StatementRead)
     → r.assigned ≡ false → Stepped true table lengths' h (statement_of r)
-unfolding substituted table_after
+unfolding substituted
 stepped-other {table} {lengths} {lengths'} slots is h r unassigned =
     let b : Holds table lengths' nothing_held = rw is (cleared table (length lengths) slots.room slots.places) in
     record {
       slots = b.slots;
-      after = λ _ rest. rw unassigned (ap (λ (t : Table). table_after t rest) (sym b.holds));
       same = λ rest c. rw unassigned (ap (λ (t : Table). substituted t rest c) (sym b.holds));
     }
 
@@ -51,17 +49,16 @@ idle-other lengths is = is ∙ ap (λ (k : ℕ). replicate k 0) (sym (ap length 
 -- an assignment
 held_on : {table lengths : List ℕ} (h : Table) (v : ℕ) (e : Expr) → Holds table lengths (sub.assigned v (substitute h e) h) → long (substitute h e) ≡ false
     → Stepped true table lengths h (assignment v e)
-unfolding substituted table_after
+unfolding substituted
 held_on h v e b short = record {
   slots = b.slots;
-  after = λ _ rest. ap (λ (t : Table). table_after t rest) (sym b.holds);
   same = λ rest c. rw short (ap (λ (t : Table). substituted t rest c) (sym b.holds));
 }
 
 too_much : {table lengths : List ℕ} (h : Table) (v : ℕ) (e : Expr) → Holds table lengths h → long (substitute h e) ≡ true
     → Stepped false table lengths h (assignment v e)
 unfolding substituted
-too_much h v e b much = record { slots = b.slots; after = λ fits. absurd (false≢true fits); same = λ rest c. rw much }
+too_much h v e b much = record { slots = b.slots; same = λ rest c. rw much }
 
 assigned-same : {fits : Bool} {table lengths : List ℕ} (h : Table) (v : ℕ) (e : Expr) → Assigned fits table lengths v e h
     → Stepped fits table lengths h (assignment v e)
@@ -85,7 +82,6 @@ pub record Passing (types s : List ℕ) (p : Place) (n : ℕ) (table lengths wor
   pub words_room : length words ≡ 256
   pub out_room : length out ≡ 256
   pub quiet : Idle idle lengths
-  pub left : table_after nothing_held (statements_from types s p n).list ≡ table_after (table_of table lengths) (drop i (statements_from types s p n).list)
   pub due : (c : Expr) → with_assignments (statements_from types s p n).list c ≡ substituted (table_of table lengths) (drop i (statements_from types s p n).list) c
 
 pub passing-start : (types s : List ℕ) (p : Place) (n : ℕ) {table lengths lengths' words out : List ℕ} → Room n types table lengths words out
@@ -101,7 +97,6 @@ passing-start types s p n {table} {lengths} {lengths'} {words} {out} l is =
       words_room = l.words_room;
       out_room = l.out_room;
       quiet = λ _. idle-other lengths is;
-      left = ap (λ (t : Table). table_after t (statements_from types s p n).list) (sym b.holds);
       due = λ c. ap (λ (t : Table). substituted t (statements_from types s p n).list c) (sym b.holds);
     }
 
@@ -113,17 +108,16 @@ module _ {types s : List ℕ} {p : Place} {n : ℕ} {table lengths words out : L
   pub passing-lent : i < n → Lent types table lengths words out
   passing-lent below = record { few = g.held (omega arith); slots = g.slots; words_room = g.words_room; out_room = g.out_room }
 
-  -- what is left starts with the statement at this offset
-  left_here : i < n → drop i (statements_from types s p n).list ≡ statement_of (statement_at types s next) ∷ drop (suc i) (statements_from types s p n).list
-  left_here below =
+  -- what is due starts with the statement at this offset
+  due-here : i < n → (c : Expr) → with_assignments (statements_from types s p n).list c
+      ≡ substituted (table_of table lengths) (statement_of (statement_at types s next) ∷ drop (suc i) (statements_from types s p n).list) c
+  due-here below c =
       let size : i < length (statements_from types s p n).list = omega (arith, statements-length types s p n) in
       let this : get_or (statements_from types s p n).list i other ≡ statement_of (statement_at types s next) =
       statements-nth types s p n i other below ∙ ap (λ (q : Place). statement_of (statement_at types s q)) (sym g.place) in
-      drop-cons (statements_from types s p n).list i other size ∙ ap (λ (x : Statement). x ∷ drop (suc i) (statements_from types s p n).list) this
-
-  due-here : i < n → (c : Expr) → with_assignments (statements_from types s p n).list c
-      ≡ substituted (table_of table lengths) (statement_of (statement_at types s next) ∷ drop (suc i) (statements_from types s p n).list) c
-  due-here below c = g.due c ∙ ap (λ (l : List Statement). substituted (table_of table lengths) l c) (left_here below)
+      g.due c
+      ∙ ap (λ (l : List Statement). substituted (table_of table lengths) l c) (drop-cons (statements_from types s p n).list i other size)
+      ∙ ap (λ (x : Statement). substituted (table_of table lengths) (x ∷ drop (suc i) (statements_from types s p n).list) c) this
 
   module _ (below : i < n) {fits : Bool} {table' lengths' : List ℕ}
       (t : Stepped fits table' lengths' (table_of table lengths) (statement_of (statement_at types s next))) where
@@ -131,7 +125,6 @@ module _ {types s : List ℕ} {p : Place} {n : ℕ} {table lengths words out : L
     passing-stop out_of_lem q b = record {
       slots = t.slots;
       place = λ e. absurd (false≢true e);
-      holds = λ e. absurd (false≢true e);
       same = λ c. due-here below c ∙ t.same (drop (suc i) (statements_from types s p n).list) c
           ∙ ap (λ (b : Bool). cond b (substituted (table_of table' lengths') (drop (suc i) (statements_from types s p n).list) c) too_long) out_of_lem;
     }
@@ -146,23 +139,16 @@ module _ {types s : List ℕ} {p : Place} {n : ℕ} {table lengths words out : L
       words_room = words_same ∙ g.words_room;
       out_room = out-same ∙ g.out_room;
       quiet = still;
-      left = rw (add-one i) (g.left ∙ ap (table_after (table_of table lengths)) (left_here below) ∙ t.after within-limit (drop (suc i) (statements_from types s p n).list));
       due = λ c. rw (add-one i) (due-here below c ∙ t.same (drop (suc i) (statements_from types s p n).list) c
           ∙ ap (λ (b : Bool). cond b (substituted (table_of table' lengths') (drop (suc i) (statements_from types s p n).list) c) too_long) within-limit);
     }
 
   pub passing-end : n ≤ i → Passed (record { fits = true; idle = idle; next = next }) table lengths (statements_from types s p n)
-  unfolding table_after
   passing-end end =
       let past : length (statements_from types s p n).list ≤ i = omega (arith, statements-length types s p n) in
       let all : drop i (statements_from types s p n).list ≡ [] = drop_of_length-le (statements_from types s p n).list past in
       let last : i ≡ n = omega (arith, g.within) in
-      record {
-        slots = g.slots;
-        place = λ _. g.place ∙ ap (λ (k : ℕ). (statements_from types s p k).next) last;
-        holds = λ _. sym (g.left ∙ ap (table_after (table_of table lengths)) all);
-        same = λ c. g.due c ∙ ap (λ (l : List Statement). substituted (table_of table lengths) l c) all;
-      }
+      record { slots = g.slots; place = λ _. g.place ∙ ap (λ (k : ℕ). (statements_from types s p k).next) last; same = λ c. g.due c ∙ ap (λ (l : List Statement). substituted (table_of table lengths) l c) all }
 
 -- ---- the condition, after all statements
 
@@ -208,40 +194,3 @@ module _ {r : Step} {table lengths : List ℕ} {read : StatementsRead} (g : Pass
         (ap tree_of (took-front took (rw here on)) ∙ ap (λ (q : Place). tree_of (expression_at n s q).words) here)
         (took.place ∙ ap (λ (q : Place). (expression_at n s q).next) here)
         m
-
--- ---- the first statements of a node
-
-limited : (b : Bool) (x : Substituted) → (b ≡ false → x ≡ too_long) → cond b too_long x ≡ too_long
-limited true x short = refl
-limited false x short = short refl
-
--- statements that do not fit by themselves do not fit with others behind them
-long-before : (h : Table) (xs ys : List Statement) → ((c : Expr) → substituted h xs c ≡ too_long) → (c : Expr) → substituted h (xs ++ ys) c ≡ too_long
-unfolding substituted substitute size
-long-before h [] ys much c = let never : into condition_true ≡ too_long = much condition_true in let z : ◌≡◌ {A = ℕ} 0 1 = cc in absurd (omega arith)
-long-before h (other ∷ xs) ys much c = long-before nothing_held xs ys much c
-long-before h (assignment v e ∷ xs) ys much c =
-    let after = sub.assigned v (substitute h e) h in
-    limited (long (substitute h e)) (substituted after (xs ++ ys) c) (λ short. long-before after xs ys (λ d. rw short at (much d)) c)
-
-pub first-statements : (types s : List ℕ) (p : Place) (n i : ℕ) → i ≤ n → (statements_from types s p i).list ≡ take i (statements_from types s p n).list
-first-statements types s p n i within =
-    let few : length (take i (statements_from types s p n).list) ≡ i = length-take-le i (statements_from types s p n).list (omega (arith, statements-length types s p n)) in
-    let all : length (statements_from types s p i).list ≡ i = statements-length types s p i in
-    ext_get_or other (statements_from types s p i).list (take i (statements_from types s p n).list) (all ∙ sym few) (λ j below.
-    let less : j < i = omega arith in
-    statements-nth types s p i j other less ∙ sym (get_or-take i (statements_from types s p n).list j other less ∙ statements-nth types s p n j other (omega arith)))
-
--- where a node's substituted condition is not too long, no value of its first statements is
-pub passed-fits : (types s : List ℕ) (p : Place) (n i : ℕ) {r : Step} {table lengths : List ℕ} → Passed r table lengths (statements_from types s p i) → i ≤ n
-    → (c e : Expr) → with_assignments (statements_from types s p n).list c ≡ into e → r.fits ≡ true
-passed-fits types s p n i {r} g within c e is = go r.fits refl
-  where
-    go : (b : Bool) → r.fits ≡ b → r.fits ≡ true
-    go true q = q
-    go false q =
-        let whole : (statements_from types s p i).list ++ drop i (statements_from types s p n).list ≡ (statements_from types s p n).list =
-        rw (first-statements types s p n i within) (take-append-drop i (statements_from types s p n).list) in
-        let never : with_assignments (statements_from types s p n).list c ≡ too_long =
-        ap (λ (l : List Statement). with_assignments l c) (sym whole) ∙ long-before nothing_held _ (drop i (statements_from types s p n).list) (passed-long g q) c in
-        let z : ◌≡◌ {A = ℕ} 0 1 = cc in absurd (omega arith)

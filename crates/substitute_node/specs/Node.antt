@@ -7,7 +7,7 @@ use Rattle.sheet_expression.specs.Expression.{Taken}
 use Rattle.sheet_node.specs.Node.{StatementsRead}
 use Rattle.substitution.specs.declared.Written.{Written}
 use Rattle.substitution.specs.declared.Written.TheVariants.{From, TooLong}
-use Rattle.substitution.specs.Substitution.{Table, nothing_held, table_after, too_long, into, substituted, with_assignments}
+use Rattle.substitution.specs.Substitution.{Table, too_long, into, substituted, with_assignments}
 use Rattle.substitution.specs.Words.{table_of, Slots}
 use Rattle.substitute_node.specs.declared.Step.{Step}
 
@@ -32,18 +32,16 @@ pub record Lent (types table lengths words out : List ℕ) : Type 0 where
 abbrev pub Idle : Bool → List ℕ → Type 0
 Idle idle lengths = idle ≡ true → lengths ≡ replicate (length lengths) 0
 
--- What one statement leaves of the table h: whatever comes after it, the table left in the words leads to what is held in the end; and whatever the
--- condition, it gives what h gave, or all is too long. (N1, N2, N26)
+-- What one statement leaves of the table h: whatever comes after it, and whatever the condition, the table left in the words gives what h gave, or all
+-- is too long. (N1, N2, N26)
 pub record Stepped (fits : Bool) (table lengths : List ℕ) (h : Table) (x : Statement) : Type 0 where
   pub slots : Slots table lengths
-  pub after : fits ≡ true → (rest : List Statement) → table_after h (x ∷ rest) ≡ table_after (table_of table lengths) rest
   pub same : (rest : List Statement) (c : Expr) → substituted h (x ∷ rest) c ≡ cond fits (substituted (table_of table lengths) rest c) too_long
 
 -- What a node's statements leave, from a table in which nothing is held: the table after them, and the offset, or that all is too long. (N1, N2, N26)
 pub record Passed (r : Step) (table lengths : List ℕ) (read : StatementsRead) : Type 0 where
   pub slots : Slots table lengths
   pub place : r.fits ≡ true → r.next ≡ read.next
-  pub holds : r.fits ≡ true → table_of table lengths ≡ table_after nothing_held read.list
   pub same : (c : Expr) → with_assignments read.list c ≡ cond r.fits (substituted (table_of table lengths) [] c) too_long
 
 -- The words of a node's substituted condition fill the end of a borrowed list, and the offset after the condition is known; or refusal 10 is due. (N26)

@@ -69,7 +69,7 @@ fn take_statement(
 
 // The n statements from an offset on, which were read whole, with nothing held before them, and the offset after them; no fit where a substituted value is
 // too long.
-pub fn take_statements(
+fn take_statements(
     s: &[u8],
     p: Place,
     types: &[u8],

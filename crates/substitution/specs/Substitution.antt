@@ -69,13 +69,6 @@ entry_of v h e = cond (holdable v h e) (held e) free
 unfoldable pub assigned : ℕ → Expr → Table → Table
 assigned v e h w = cond (eqb w v) (entry_of v h e) (kept v h w)
 
--- What is held after these statements, where h is held before them: an assigned value is substituted first, and a statement with map 0 ends all that
--- is held. (N1, N2)
-unfoldable pub table_after : Table → List Statement → Table
-table_after h [] = h
-table_after h (other ∷ rest) = table_after nothing_held rest
-table_after h (assignment v e ∷ rest) = table_after (assigned v (substitute h e) h) rest
-
 -- What the statements of a node make of its condition: an expression, or refusal 10.
 pub data Substituted : Type 0 where
   too_long : Substituted

@@ -54,13 +54,13 @@ fn say_verdict(v: Verdict) -> bool {
     }
 }
 
-// r with its number and, behind an @, its place for a refusal. That of the number past the last record is due and is not said;
-// any other answer for that number is one too many on the line.
+// r with its number for a refusal. That of the number past the last record is due and is not said; any other answer for that
+// number is one too many on the line.
 fn say_refused(k: u64, at: usize, past: bool) -> bool {
     if past & (k == 13) & (at == 0) {
         return true;
     }
-    test_io::word(b" r") & test_io::digits(k) & test_io::word(b"@") & test_io::digits(at as u64)
+    test_io::word(b" r") & test_io::digits(k)
 }
 
 fn say_answer(a: Answer, past: bool) -> bool {

@@ -14,7 +14,7 @@ use Rattle.verdict.specs.declared.Answer.{Answer}
 use Rattle.verdict.specs.declared.Answer.TheVariants as answer
 use Rattle.verdict.specs.Numbers.{verdict_numbers}
 use Rattle.verdict.specs.Numbers.Numbers.{decision}
-use Rattle.sheet.specs.Sheet.{node_numbered, node_place, node_byte}
+use Rattle.sheet.specs.Sheet.{node_numbered, node_place}
 use Rattle.verdict_block.specs.Verdict.{verdict_on}
 use Rattle.verdict_node.specs.NodeVerdict.{node_verdict}
 use Rattle.verdict_sheet.specs.Sites.{block_site, node_site}
@@ -118,7 +118,7 @@ verdict_in (answer.Given v) = v
 verdict_in (answer.Refused k at) = NoBranch
 
 abbrev pub node_verdict_of : List ℕ → ℕ → Answer
-node_verdict_of s k = node_verdict (node_numbered s k) (node_place s k) (node_byte s k)
+node_verdict_of s k = node_verdict (node_numbered s k) (node_place s k)
 
 pub blocks-say : (s : List ℕ) (n : ℕ) → blocks_say s n ≡ say_up_to (block_site s) (verdict_on s) n
 unfolding blocks_say say_up_to

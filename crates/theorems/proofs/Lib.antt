@@ -11,8 +11,6 @@ pub mod Whole
 pub mod First
 pub mod Deciding
 pub mod Refusals
-pub mod NodeRefusals
-pub mod Pointing
 pub mod DueLines
 pub mod InList
 pub mod Listing

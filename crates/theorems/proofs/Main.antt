@@ -14,7 +14,7 @@ use Rattle.value.specs.Evaluation.{Values, Contents, Effects, shared, ev}
 use Rattle.value.specs.Run.{Choices, run}
 use Rattle.sheet.specs.declared.Sheet.{Sheet}
 use Rattle.sheet.specs.declared.Reading.TheVariants as reading-is
-use Rattle.sheet.specs.Sheet.{ByReading, reading_of, node_numbered, node_place}
+use Rattle.sheet.specs.Sheet.{reading_of, node_numbered, node_place}
 use Rattle.sheet_bytes.specs.Write.{All}
 use Rattle.format.specs.Sheet.{Byte, numbers, Format}
 use Rattle.format.specs.Examples.{Example, examples}
@@ -43,7 +43,6 @@ use Rattle.answer_sentence.specs.Sentence.ToldNumbers.{long, refused as refused-
 use Rattle.listing.specs.Program.{printed}
 use Rattle.theorems.specs.Runs.{Source, answer_for, Ends, ForcedEnd, node_run, SaysOf, AnswerFromRun}
 use Rattle.theorems.specs.Lines.{line_at, Listed, Refuses, TrueOf}
-use Rattle.theorems.specs.NodeRefusals.{RefusesNode, PointsAt}
 use Rattle.theorems.specs.Sentences.{Holds, RefusesSentence, SentenceRow, answer_to, said_by, sentence_rows}
 use Rattle.text.specs.Ascii.{ascii}
 use Rattle.theorems.specs.Text.{text_of, Sample, samples}
@@ -54,15 +53,13 @@ use Rattle.theorems.proofs.Public.{answers-forced}
 use Rattle.theorems.proofs.Nodes.{node-decided, evaluation-agrees, probe-run}
 use Rattle.theorems.proofs.Reasons.{node-decided-as, node-undecided-where}
 use Rattle.theorems.proofs.Refusals.{node-number, listing-number}
-use Rattle.theorems.proofs.NodeRefusals.{refuses-node}
-use Rattle.theorems.proofs.Pointing.{points-at}
 use Rattle.theorems.proofs.Outcomes.{answers-run, fourteen, refusal-number}
 use Rattle.theorems.proofs.Whole.{runs-right}
 use Rattle.theorems.proofs.Program.{text-is, limit_is, as-sampled}
 use Rattle.theorems.proofs.Listing.{lines-true, lines-due, refused-for, list-kept}
 use Rattle.theorems.proofs.Sentences.{sentence-decided, sentence-stands, sentence-refused, sentence-number, text-kept, as_said}
 
--- Reading accepts exactly the bytes of the valid sheets, and yields their content; a refusal has one of reading's numbers and an offset within the sheet.
+-- Reading accepts exactly the bytes of the valid sheets, and yields their content; a refusal has a number from 1 to 9 and an offset within the sheet.
 pub reading : Format
 reading = format
 
@@ -93,8 +90,8 @@ pub refused-listings : (s : List Byte) (list : List ℕ) (number place : ℕ)
     → ((listing_of (numbers s) list).answer ≡ refused-listing number place) ↔ Refuses (numbers s) list number place
 refused-listings = refused-for
 
--- A listing is refused with one of reading's numbers or with 10 to 12; so 0, which a C host gets with the lines, is no refusal.
-pub listing-refusals : (s list : List ℕ) {k at : ℕ} → (listing_of s list).answer ≡ refused-listing k at → ByReading k ⊎ ((10 ≤ k) × (k ≤ 12))
+-- A listing is refused with a number from 1 to 12; so 0, which a C host gets with the lines, is no refusal.
+pub listing-refusals : (s list : List ℕ) {k at : ℕ} → (listing_of s list).answer ≡ refused-listing k at → (1 ≤ k) × (k ≤ 12)
 listing-refusals = listing-number
 
 -- A refused listing leaves the list as it was.
@@ -120,7 +117,7 @@ refused-sentences = sentence-refused
 
 -- It is refused with one of reading's numbers, 13 or 17; so 0, which a C host gets with the length, is no refusal.
 pub sentence-refusals : (s : List ℕ) (number : ℕ) (text : List ℕ) {k at : ℕ} → (sentence_answer s number text).answer ≡ refused-sentence k at
-    → ByReading k ⊎ ((k ≡ 13) ⊎ (k ≡ 17))
+    → ((1 ≤ k) × (k ≤ 9)) ⊎ ((k ≡ 13) ⊎ (k ≡ 17))
 sentence-refusals = sentence-number
 
 -- A refused sentence leaves the text as it was.
@@ -186,18 +183,8 @@ worked-conditions = worked
 pub node-has-branch : (s : List ℕ) (number : ℕ) → node_answer s number ≡ no_branch → ⊥
 node-has-branch = always-judged
 
--- A node verdict is refused exactly where reading refuses, or there is no node of that number, or something that is written out has more than 128
--- records, or a record passes a limit on terms, as the relations of `limits` have it; with that number at that offset.
-pub refused-nodes : (s : List ℕ) (number k at : ℕ) → (node_answer s number ≡ refused-answer k at) ↔ RefusesNode s number k at
-refused-nodes = refuses-node
-
--- Where a node is refused as 11, the offset lies in the node, and a binary record stands there with the operator of the first record of the substituted
--- condition that passes a limit: + - × & | ^ or an equality.
-pub refused-records : (s : List ℕ) (number at : ℕ) → node_answer s number ≡ refused-answer 11 at → PointsAt s number at
-refused-records = points-at
-
--- A node verdict is refused with one of reading's numbers, with 10, 11 or 13, so never with 0.
-pub node-refusals : (s : List ℕ) (number : ℕ) {k at : ℕ} → node_answer s number ≡ refused-answer k at → ByReading k ⊎ (((10 ≤ k) × (k ≤ 11)) ⊎ (k ≡ 13))
+-- A node verdict is refused with a number from 1 to 11 or with 13, so never with 0.
+pub node-refusals : (s : List ℕ) (number : ℕ) {k at : ℕ} → node_answer s number ≡ refused-answer k at → ((1 ≤ k) × (k ≤ 11)) ⊎ (k ≡ 13)
 node-refusals = node-number
 
 -- In every evaluation the low bit of a part that has a value is its low bit at the bits that its atoms' values have.
@@ -218,7 +205,7 @@ no-outcome = fourteen
 
 -- The evaluation refuses with reading's numbers or with 13 to 16; so 0, which a C host gets with an answer, is no refusal.
 pub evaluation-refusals : (s : List ℕ) (number : ℕ) (values : List ℕ) {k at : ℕ} → evaluation_answer s number values ≡ refused k at
-    → ByReading k ⊎ ((13 ≤ k) × (k ≤ 16))
+    → ((1 ≤ k) × (k ≤ 9)) ⊎ ((13 ≤ k) × (k ≤ 16))
 evaluation-refusals = refusal-number
 
 -- No evaluation of a node contradicts its verdict: where both answer, they give one number.

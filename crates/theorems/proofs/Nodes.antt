@@ -1,7 +1,6 @@
 -- Nodes: a verdict is right of every run that has an outcome. The substituted condition speaks for every run (crate substitution),
 -- and `decide` is right of every evaluation of it (crate decide); that constants are below their width goes through substitution.
 use Prim.Native.Nat.{ℕ, zero, suc, ◌<◌, ◌≤◌}
-use mathlib.Core.Option.{Option, none, some}
 use mathlib.Core.Path.{◌≡◌, refl, sym, subst}
 use mathlib.Core.Bool.{Bool, true, false, cond, ◌||◌}
 use mathlib.Core.List.{List, [], ◌∷◌}
@@ -36,18 +35,17 @@ use Rattle.verdict.specs.Numbers.Numbers.{decision, undecided, refused}
 use Rattle.verdict.specs.declared.Answer.{Answer}
 use Rattle.verdict.specs.declared.Answer.TheVariants.{Given, Refused}
 use Rattle.sheet_node.specs.Node.{Node}
-use Rattle.decide.specs.Decide.{decide}
-use Rattle.decide.specs.Passed.{condition_passed}
+use Rattle.decide.specs.Decide.{decide, fits}
 use Rattle.parity.specs.LowBit.{Has}
 use Rattle.exact.proofs.ExactValue.{Fitting}
 use Rattle.parity.specs.LowBit.{AlwaysDiffer}
 use Rattle.decide.proofs.Complete.{decided}
 use Rattle.decide.proofs.Sound.{Meets, right}
-use Rattle.verdict_node.specs.NodeVerdict.{on_passed, on_substituted, byte_of, node_verdict}
+use Rattle.verdict_node.specs.NodeVerdict.{on_substituted, node_verdict}
 use Rattle.sheet.specs.declared.Sheet.{Sheet}
 use Rattle.sheet.specs.declared.Reading.{Reading}
 use Rattle.sheet.specs.declared.Reading.TheVariants as reading
-use Rattle.sheet.specs.Sheet.{sheet_at, reading_of, no_node, node_numbered, node_place, node_byte}
+use Rattle.sheet.specs.Sheet.{sheet_at, reading_of, no_node, node_numbered, node_place}
 use Rattle.sheet_bytes.specs.Write.{Bytes}
 use Rattle.format.proofs.Admitted.{node-admitted-at}
 use Rattle.answer_evaluation.specs.Evaluation.{evaluation_answer}
@@ -168,22 +166,22 @@ refused-given : {X : Type 0} {k at : ℕ} {v : Verdict} → Refused k at ≡ Giv
 refused-given q = let z : ◌≡◌ {A = ℕ} 0 1 = cc in absurd (omega arith)
 
 -- The verdict on a node is right of every run that has an outcome.
-pub node-right : (n : Node) → Fair n → (place : ℕ) (bytes : ℕ → ℕ → ℕ) (v : Verdict) → node_verdict n place bytes ≡ Given v → (c : Choices)
+pub node-right : (n : Node) → Fair n → (place : ℕ) (v : Verdict) → node_verdict n place ≡ Given v → (c : Choices)
     → AsSaid v (run n.types n.statements n.condition c)
 unfolding node_verdict
-node-right n fair place bytes v q c = go (with_assignments n.statements n.condition) refl q
+node-right n fair place v q c = go (with_assignments n.statements n.condition) refl q
   where
-    go : (d : Substituted) → with_assignments n.statements n.condition ≡ d → on_substituted place (byte_of n bytes) d ≡ Given v
+    go : (d : Substituted) → with_assignments n.statements n.condition ≡ d → on_substituted place d ≡ Given v
         → AsSaid v (run n.types n.statements n.condition c)
     go too_long is e = refused-given e
-    go (into result) is e = on (condition_passed result) e
+    go (into result) is e = on (fits result) e
       where
         fit : Fitting result
         fit = fitting-result n.statements (all-fitting n.types n.statements fair.assigned) nothing_held (λ v e is. not_free is) n.condition result (admitted-fitting (length n.types) n.condition fair.decides.tree) is
 
-        on : (o : Option ℕ) → on_passed (byte_of n bytes) (decide result) o ≡ Given v → AsSaid v (run n.types n.statements n.condition c)
-        on (some k) e = refused-given e
-        on none e =
+        on : (b : Bool) → cond b (Given (decide result)) (Refused 11 place) ≡ Given v → AsSaid v (run n.types n.statements n.condition c)
+        on false e = refused-given e
+        on true e =
             rw (sym (given-same e))
             (every-run n.types n.condition result (AsSaid (decide result)) (λ h. absurd (h refl))
             (λ ρ σ m f h. right n.types ρ σ m f result fit (outcome-has (ev n.types ρ σ (shared m) f result) h)) c n.statements fair.assigned is)
@@ -215,8 +213,8 @@ numbers-meet Undecided value reason went e h = let z : ◌≡◌ {A = ℕ} 0 1 =
 numbers-meet NoBranch value reason went e h = let z : ◌≡◌ {A = ℕ} 0 1 = cc in absurd (omega arith)
 
 some-outcome : (went : Bool) (t : Truth) → t ≡ cond went truth.Holds truth.Fails → t ≡ NoOutcome → ⊥
-some-outcome true t is gone = let z : ◌≡◌ {A = ℕ} 0 1 = cc in omega arith
-some-outcome false t is gone = let z : ◌≡◌ {A = ℕ} 0 1 = cc in omega arith
+some-outcome true t is none = let z : ◌≡◌ {A = ℕ} 0 1 = cc in omega arith
+some-outcome false t is none = let z : ◌≡◌ {A = ℕ} 0 1 = cc in omega arith
 
 -- The theorem: no run of a node goes against a decision on it.
 pub node-runs : (s : List ℕ) → Bytes s → (number value reason : ℕ) → node_answer s number ≡ decision value reason
@@ -224,12 +222,12 @@ pub node-runs : (s : List ℕ) → Bytes s → (number value reason : ℕ) → n
 unfolding node_answer
 node-runs s small number value reason e went r = go (reading_of s) refl e
   where
-    given : (sheet : Sheet) → reading_of s ≡ reading.Accepted sheet → (a : Answer) → node_verdict (node_numbered s number) (node_place s number) (node_byte s number) ≡ a
+    given : (sheet : Sheet) → reading_of s ≡ reading.Accepted sheet → (a : Answer) → node_verdict (node_numbered s number) (node_place s number) ≡ a
         → answer_numbers a ≡ decision value reason → value ≡ cond went 1 0
     given sheet read (Given v) is q =
         numbers-meet v value reason went q
         (subst (Meets v) r.1
-        (node-right (node_numbered s number) (numbered-fair s sheet small read number) (node_place s number) (node_byte s number) v is r.0
+        (node-right (node_numbered s number) (numbered-fair s sheet small read number) (node_place s number) v is r.0
         (some-outcome went (node_run s number r.0) r.1)))
     given sheet read (Refused k at) is q = no-decision q
 
@@ -237,9 +235,9 @@ node-runs s small number value reason e went r = go (reading_of s) refl e
     go (reading.Refused k at) q e = no-decision e
     go (reading.Accepted sheet) q e = on (ltb number sheet.nodes.count) e
       where
-        on : (t : Bool) → answer_numbers (cond t (node_verdict (node_numbered s number) (node_place s number) (node_byte s number)) (Refused 13 0)) ≡ decision value reason
+        on : (t : Bool) → answer_numbers (cond t (node_verdict (node_numbered s number) (node_place s number)) (Refused 13 0)) ≡ decision value reason
             → value ≡ cond went 1 0
-        on true e = given sheet q (node_verdict (node_numbered s number) (node_place s number) (node_byte s number)) refl e
+        on true e = given sheet q (node_verdict (node_numbered s number) (node_place s number)) refl e
         on false e = no-decision e
 
 -- A node whose substituted condition is an equality that `decide` decides is not answered undecided.
@@ -261,12 +259,12 @@ node-decided s number equal a b is differ e = go (reading_of s) e
     verdict-undecided Undecided e = refl
     verdict-undecided NoBranch e = let z : ◌≡◌ {A = ℕ} 0 1 = cc in absurd (omega arith)
 
-    on : (o : Option ℕ) → answer_numbers (on_passed (byte_of (node_numbered s number) (node_byte s number)) (decide c) o) ≡ undecided → ⊥
-    on none e = decided equal a b differ (verdict-undecided (decide c) e)
-    on (some k) e = not-undecided e
+    on : (t : Bool) → answer_numbers (cond t (Given (decide c)) (Refused 11 (node_place s number))) ≡ undecided → ⊥
+    on true e = decided equal a b differ (verdict-undecided (decide c) e)
+    on false e = not-undecided e
 
-    there : (t : Bool) → answer_numbers (cond t (node_verdict (node_numbered s number) (node_place s number) (node_byte s number)) (Refused 13 0)) ≡ undecided → ⊥
-    there true e = on (condition_passed c) (rw is at e)
+    there : (t : Bool) → answer_numbers (cond t (node_verdict (node_numbered s number) (node_place s number)) (Refused 13 0)) ≡ undecided → ⊥
+    there true e = on (fits c) (rw is at e)
     there false e = not-undecided e
 
     go : (r : Reading) → answer_numbers (on_node r s number) ≡ undecided → ⊥

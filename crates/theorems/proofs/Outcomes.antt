@@ -14,9 +14,9 @@ use Rattle.sheet_node.proofs.Variables.{ReadsDeclared, reads-declared}
 use Rattle.sheet.specs.declared.Sheet.{Sheet}
 use Rattle.sheet.specs.declared.Reading.{Reading}
 use Rattle.sheet.specs.declared.Reading.TheVariants as reading
-use Rattle.sheet.specs.Sheet.{ByReading, sheet_at, reading_of, no_node, node_numbered, node_place}
+use Rattle.sheet.specs.Sheet.{sheet_at, reading_of, no_node, node_numbered, node_place}
 use Rattle.sheet.proofs.ByNumber.{node-places-count, nth-node-read, nth-node-is}
-use Rattle.sheet.proofs.Refusals.{reading-number}
+use Rattle.sheet.proofs.Refusals.{ByReading, reading-number}
 use Rattle.value.specs.declared.Truth.{Truth}
 use Rattle.value.specs.declared.Truth.TheVariants as truth
 use Rattle.value.specs.Run.{Choices}
@@ -46,17 +46,6 @@ says evaluation.Holds t h = h
 says evaluation.Fails t h = h
 says (evaluation.Refused k at) t h = h
 
--- reading refuses neither as 14 nor as 0
-not-fourteen : {k : ℕ} → ByReading k → k ≡ 14 → ⊥
-not-fourteen (inl h) e = omega (arith, h.1, e)
-not-fourteen (inr (inl h)) e = omega (arith, h, e)
-not-fourteen (inr (inr h)) e = omega (arith, h, e)
-
-not-zero : {k : ℕ} → ByReading k → k ≡ 0 → ⊥
-not-zero (inl h) e = omega (arith, h.0, e)
-not-zero (inr (inl h)) e = omega (arith, h, e)
-not-zero (inr (inr h)) e = omega (arith, h, e)
-
 -- The theorem: for all bytes, every number and all borrowed values, the answer is what every run of that node does that starts from those values.
 pub answers-run : (s : List ℕ) (number : ℕ) (values : List ℕ) (c : Choices) → StartsFrom (node_numbered s number).types values c
     → SaysOf (evaluation_answer s number values) (node_run s number c)
@@ -64,7 +53,7 @@ unfolding evaluation_answer evaluated_node
 answers-run s number values c starts = go (reading_of s) refl
   where
     go : (r : Reading) → reading_of s ≡ r → SaysOf (node_on r s number values) (node_run s number c)
-    go (reading.Refused k at) q = λ e. absurd (not-fourteen (reading-number s q) e)
+    go (reading.Refused k at) q = λ e. absurd (omega (arith, e, reading-number s q))
     go (reading.Accepted sheet) q =
         by_test (ltb number sheet.nodes.count)
         (λ t. rw t
@@ -86,7 +75,7 @@ answer-outcome s number values c starts from = go (reading_of s) refl from
   where
     go : (r : Reading) → reading_of s ≡ r → AnswerFromRun (node_on r s number values)
         → node_on r s number values ≡ in_numbers (on_truth (node_place s number) (node_run s number c))
-    go (reading.Refused k at) q h = absurd (not-fourteen (reading-number s q) h)
+    go (reading.Refused k at) q h = absurd (omega (arith, h, reading-number s q))
     go (reading.Accepted sheet) q h =
         by_test (ltb number sheet.nodes.count)
         (λ t. rw t
@@ -118,9 +107,9 @@ fourteen s number values from = (
     said : (a : Evaluated) (t : Truth) → a ≡ refused 14 (node_place s number) → SaysOf a t → t ≡ truth.NoOutcome
     said a t e h = let g : SaysOf (refused 14 (node_place s number)) t = rw e at h in g refl
 
--- the numbers that the evaluation refuses with: reading's, 13, and the node's 14 to 16
+-- the numbers that the evaluation refuses with: reading's 1 to 9, 13, and the node's 14 to 16
 abbrev ByEvaluation : ℕ → Type 0
-ByEvaluation k = ByReading k ⊎ ((13 ≤ k) × (k ≤ 16))
+ByEvaluation k = ((1 ≤ k) × (k ≤ 9)) ⊎ ((13 ≤ k) × (k ≤ 16))
 
 numbered : (e : Evaluation) {k at : ℕ} → in_numbers e ≡ refused k at → e ≡ evaluation.Refused k at
 numbered evaluation.Holds e = cc
@@ -164,7 +153,7 @@ outcome-bit s number values value e = go (reading_of s) e
 -- a refusal's number is never 0
 pub never-zero : (s : List ℕ) (number : ℕ) (values : List ℕ) {k at : ℕ} → evaluation_answer s number values ≡ refused k at → k ≡ 0 → ⊥
 never-zero s number values e zero_is =
-    ⊎_elim (λ h. not-zero h zero_is) (λ h. omega (arith, h.0, zero_is)) (refusal-number s number values e)
+    ⊎_elim (λ (h : ByReading _). omega (arith, h.0, zero_is)) (λ h. omega (arith, h.0, zero_is)) (refusal-number s number values e)
 
 -- so a C host that is given 0 has the answer
 pub returned-zero : (s : List ℕ) (number : ℕ) (values : List ℕ) (r out : ℕ) → Returned r out (evaluation_answer s number values) → r ≡ 0

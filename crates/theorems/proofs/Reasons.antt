@@ -1,6 +1,5 @@
 -- The answer for a node that is not refused, by the relation that says what its substituted condition is decided to be.
 use Prim.Native.Nat.{ℕ}
-use mathlib.Core.Option.{Option, none, some}
 use mathlib.Core.Path.{◌≡◌, refl, sym, ap, ◌∙◌}
 use mathlib.Core.Bool.{Bool, true, false, cond}
 use mathlib.Core.List.{List}
@@ -8,17 +7,16 @@ use mathlib.Core.Logic.{◌↔◌}
 use lib.Dec.{ltb}
 use Rattle.expr.specs.Tree.{Expr}
 use Rattle.substitution.specs.Substitution.{into, with_assignments}
-use Rattle.decide.specs.Decide.{decide}
-use Rattle.decide.specs.Passed.{condition_passed}
+use Rattle.decide.specs.Decide.{decide, fits}
 use Rattle.decide.specs.Decided.{Decided}
 use Rattle.decide.proofs.Reasons.{reasons, undecided-where}
-use Rattle.verdict.specs.declared.Answer.TheVariants.{Refused}
+use Rattle.verdict.specs.declared.Answer.TheVariants.{Given, Refused}
 use Rattle.verdict.specs.Numbers.{verdict_numbers, answer_numbers}
 use Rattle.verdict.specs.Numbers.Numbers.{decision, undecided, refused}
-use Rattle.verdict_node.specs.NodeVerdict.{on_passed, on_substituted, byte_of, node_verdict}
+use Rattle.verdict_node.specs.NodeVerdict.{on_substituted, node_verdict}
 use Rattle.sheet.specs.declared.Reading.{Reading}
 use Rattle.sheet.specs.declared.Reading.TheVariants as reading
-use Rattle.sheet.specs.Sheet.{reading_of, node_numbered, node_place, node_byte}
+use Rattle.sheet.specs.Sheet.{reading_of, node_numbered, node_place}
 use Rattle.answer_node.specs.Node.{on_node, node_answer}
 
 -- the node's condition, after substitution
@@ -35,20 +33,17 @@ module _ (s : List ℕ) (number : ℕ) (e : Expr) (is : Condition s number e) (g
   unfolding node_answer node_verdict
   answer-is = go (reading_of s) given
     where
-      byte : ℕ → ℕ
-      byte = byte_of (node_numbered s number) (node_byte s number)
+      verdict : node_verdict (node_numbered s number) (node_place s number) ≡ cond (fits e) (Given (decide e)) (Refused 11 (node_place s number))
+      verdict = ap (on_substituted (node_place s number)) is
 
-      verdict : node_verdict (node_numbered s number) (node_place s number) (node_byte s number) ≡ on_passed byte (decide e) (condition_passed e)
-      verdict = ap (on_substituted (node_place s number) byte) is
+      on : (t : Bool) → ((k at : ℕ) → answer_numbers (cond t (Given (decide e)) (Refused 11 (node_place s number))) ≡ refused k at → ⊥)
+          → answer_numbers (cond t (Given (decide e)) (Refused 11 (node_place s number))) ≡ verdict_numbers (decide e)
+      on true n = refl
+      on false n = absurd (n 11 (node_place s number) refl)
 
-      on : (o : Option ℕ) → ((k at : ℕ) → answer_numbers (on_passed byte (decide e) o) ≡ refused k at → ⊥)
-          → answer_numbers (on_passed byte (decide e) o) ≡ verdict_numbers (decide e)
-      on none n = refl
-      on (some k) n = absurd (n 11 (byte k) refl)
-
-      there : (t : Bool) → ((k at : ℕ) → answer_numbers (cond t (node_verdict (node_numbered s number) (node_place s number) (node_byte s number)) (Refused 13 0)) ≡ refused k at → ⊥)
-          → answer_numbers (cond t (node_verdict (node_numbered s number) (node_place s number) (node_byte s number)) (Refused 13 0)) ≡ verdict_numbers (decide e)
-      there true n = ap answer_numbers verdict ∙ on (condition_passed e) (λ k at x. n k at (ap answer_numbers verdict ∙ x))
+      there : (t : Bool) → ((k at : ℕ) → answer_numbers (cond t (node_verdict (node_numbered s number) (node_place s number)) (Refused 13 0)) ≡ refused k at → ⊥)
+          → answer_numbers (cond t (node_verdict (node_numbered s number) (node_place s number)) (Refused 13 0)) ≡ verdict_numbers (decide e)
+      there true n = ap answer_numbers verdict ∙ on (fits e) (λ k at x. n k at (ap answer_numbers verdict ∙ x))
       there false n = absurd (n 13 0 refl)
 
       go : (r : Reading) → ((k at : ℕ) → answer_numbers (on_node r s number) ≡ refused k at → ⊥) → answer_numbers (on_node r s number) ≡ verdict_numbers (decide e)

@@ -19,7 +19,7 @@ use Rattle.machine.specs.Conditions.{condition_of}
 use Rattle.sheet.specs.declared.Sheet.{Sheet}
 use Rattle.sheet.specs.declared.Reading.{Reading}
 use Rattle.sheet.specs.declared.Reading.TheVariants as reading
-use Rattle.sheet.specs.Sheet.{ByReading, reading_of}
+use Rattle.sheet.specs.Sheet.{reading_of}
 use Rattle.sheet.proofs.Refusals.{reading-number}
 use Rattle.verdict.specs.declared.Verdict.{Verdict}
 use Rattle.verdict.specs.declared.Verdict.TheVariants.{Always, Never, Undecided, NoBranch}
@@ -207,11 +207,11 @@ text-kept s block text number place e = go (sentence-case s block text)
 
 -- Its number is one of reading's, 13 or 17.
 pub sentence-number : (s : List ℕ) (block : ℕ) (text : List ℕ) {k at : ℕ} → (sentence_answer s block text).answer ≡ refused k at
-    → ByReading k ⊎ ((k ≡ 13) ⊎ (k ≡ 17))
+    → ((1 ≤ k) × (k ≤ 9)) ⊎ ((k ≡ 13) ⊎ (k ≡ 17))
 sentence-number s block text {k} {at} e = go ((sentence-refused s block text k at).0 e)
   where
-    go : {a b : ℕ} → RefusesSentence s block text a b → ByReading a ⊎ ((a ≡ 13) ⊎ (a ≡ 17))
-    go (by_reading a b q) = inl (reading-number s q)
+    go : {a b : ℕ} → RefusesSentence s block text a b → ((1 ≤ a) × (a ≤ 9)) ⊎ ((a ≡ 13) ⊎ (a ≡ 17))
+    go (by_reading a b q) = let n = reading-number s q in inl (n.0, n.1)
     go (no_block sheet q le) = inr (inl refl)
     go (no_room sheet q less short) = inr (inr refl)
 

@@ -1,7 +1,6 @@
 pub mod Branches
 pub mod Runs
 pub mod Lines
-pub mod NodeRefusals
 pub mod Sentences
 pub mod Text
 pub mod Rows

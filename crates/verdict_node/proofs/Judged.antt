@@ -1,6 +1,7 @@
 -- The answer for a node that was read whole, from its substituted condition in borrowed words.
-use Prim.Native.Nat.{ℕ, ◌+◌, ◌*◌, ◌-◌, ◌≤◌}
+use Prim.Native.Nat.{ℕ, ◌+◌, ◌*◌, ◌-◌, ◌≤◌, ◌<◌}
 use mathlib.Core.Path.{◌≡◌, refl, sym, ap, subst, ◌∙◌}
+use mathlib.Core.Bool.{Bool, true, false, cond}
 use mathlib.Core.List.{List, []}
 use native.Mathlib.Omega.{arith}
 use lib.ListN.{length, take, drop, length-drop}
@@ -9,7 +10,7 @@ use Rattle.sheet_field.specs.declared.Place.{Place}
 use Rattle.sheet_field.specs.declared.Place.TheVariants.{At}
 use Rattle.sheet_field.specs.declared.Field.{Field}
 use Rattle.sheet_field.specs.Field.{start_of, count_at, WentOn}
-use Rattle.expr.specs.Tree.{Wf, tree_of}
+use Rattle.expr.specs.Tree.{Expr, Wf, tree_of}
 use Rattle.expr.proofs.Laws.{wf-two}
 use Rattle.sheet_expression.specs.Expression.{Taken, expression_at}
 use Rattle.sheet_expression.specs.Promises.{Took}
@@ -22,26 +23,46 @@ use Rattle.sheet_node.specs.Promises.{front_of, ReadNode}
 use Rattle.sheet_node.proofs.Accepted.{parts}
 use Rattle.substitution.specs.declared.Written.{Written}
 use Rattle.substitution.specs.declared.Written.TheVariants.{From, TooLong}
-use Rattle.substitution.specs.Substitution.{into, with_assignments}
+use Rattle.substitution.specs.Substitution.{with_assignments}
 use Rattle.substitution.proofs.Nothing.{nothing-assigned}
 use Rattle.substitute_node.specs.Node.{Room, MadeNode}
-use Rattle.verdict_node.specs.Promises.{LentNode, between, Stands, PreparedIs}
+use Rattle.decide.specs.Decide.{decide, fits}
+use Rattle.decide.specs.Answers.{answered}
+use Rattle.decide.specs.declared.Decision.{Decision}
+use Rattle.verdict.specs.declared.Verdict.{Verdict}
+use Rattle.verdict.specs.declared.Answer.{Answer}
+use Rattle.verdict.specs.declared.Answer.TheVariants.{Given, Refused}
+use Rattle.verdict_node.specs.NodeVerdict.{on_substituted, node_verdict}
+use Rattle.verdict_node.specs.Promises.{LentNode, on_decision, WholeWords, substituted_of, JudgedIs}
 
--- words that fill the end of 256 borrowed ones, as a part of them
-module _ (out : List ℕ) (full : length out ≡ 256) (at : ℕ) (tree : Wf (drop at out)) where
-  words_are : between at 256 out ≡ drop at out
-  words_are = take_all (256 - at) (drop at out) (omega (arith, length-drop at out))
+-- the words of a condition that was written, as the code takes them
+module _ {w : Written} (out : List ℕ) {at : ℕ} (whole : WholeWords w out) (is : w ≡ From at) where
+  tree : Wf (drop at out)
+  tree = rw is at whole
 
-  words-stand : Stands at 256 out
-  words-stand = record {
-    order = omega (arith, length-drop at out, wf-two (drop at out) tree);
-    inside = omega arith;
-    tree = subst Wf (sym words_are) tree;
-  }
+  pub words-place : at < length out
+  words-place = omega (arith, length-drop at out, wf-two (drop at out) tree)
 
--- a part from the start on
-from_start : (n : ℕ) (l : List ℕ) → between 0 n l ≡ take n l
-from_start n l = let same : n - 0 ≡ n = omega arith in ap (λ (k : ℕ). take k l) same
+  words_are : take (length out - at) (drop at out) ≡ drop at out
+  words_are = take_all (length out - at) (drop at out) (omega (arith, length-drop at out))
+
+  pub words-tree : Wf (take (length out - at) (drop at out))
+  words-tree = subst Wf (sym words_are) tree
+
+  pub words-few : length out ≡ 256 → length (take (length out - at) (drop at out)) ≤ 256
+  words-few full = omega (arith, ap length words_are, length-drop at out)
+
+  pub decided : (place : ℕ) {d : Decision} {r : Answer}
+      → d ≡ answered (fits (tree_of (take (length out - at) (drop at out)))) (decide (tree_of (take (length out - at) (drop at out))))
+      → r ≡ on_decision place d → r ≡ on_substituted place (substituted_of w out)
+  decided place {d} {r} d-is r-is =
+      let e : Expr = tree_of (drop at out) in
+      let d-here : d ≡ answered (fits e) (decide e) = d-is ∙ ap (λ (ws : List ℕ). answered (fits (tree_of ws)) (decide (tree_of ws))) words_are in
+      r-is ∙ ap (on_decision place) d-here ∙ by (fits e) ∙ ap (λ (x : Written). on_substituted place (substituted_of x out)) (sym is)
+    where
+      by : (b : Bool) → on_decision place (answered b (decide (tree_of (drop at out)))) ≡ cond b (Given (decide (tree_of (drop at out)))) (Refused 11 place)
+      by true = refl
+      by false = refl
 
 -- a node that was read whole where it stands
 pub whole-at : (s : List ℕ) (p : Place) → WentOn (node_at s p).next → ReadNode s (node_at s p)
@@ -83,21 +104,45 @@ module _ (s : List ℕ) (node : NodeReading) (read : ReadNode s node) {front : N
     pub this-condition : WentOn condition.next
     this-condition = rw (these, front-is, (parts s node read).body) (parts s node read).condition
 
-    substituted-here : with_assignments (node_of s node).statements (node_of s node).condition ≡ with_assignments passed.list (tree_of condition.words)
-    unfolding node_of
-    substituted-here = rw (these, front-is, (parts s node read).body, ← (parts s node read).counted)
+    verdict-here : (place : ℕ) → node_verdict (node_of s node) place ≡ on_substituted place (with_assignments passed.list (tree_of condition.words))
+    unfolding node_verdict node_of
+    verdict-here place = rw (these, front-is, (parts s node read).body, ← (parts s node read).counted)
 
-    -- what was written, with what stands behind the condition
-    pub prepared : (w : Written) (next : Place) (out : List ℕ) (full : length out ≡ 256) → MadeNode w next out passed.list condition
-        → {a : Field} → a ≡ count_at 0 16 s next
-        → PreparedIs (record { written = w; end = 256; addresses = a.value; sites = a.next }) out s node
-    prepared (From at) next out full m a-is = record {
-      whole = words-stand out full at m.0;
-      is = substituted-here ∙ m.1 ∙ ap (λ (ws : List ℕ). into (tree_of ws)) (sym (words_are out full at m.0));
-      addresses = rw (a-is, m.2, these, front-is, (parts s node read).body) (parts s node read).addresses;
-      sites = rw (a-is, m.2, these, front-is, (parts s node read).body) (parts s node read).sites;
-    }
-    prepared TooLong next out full m a-is = record { whole = tt; is = substituted-here ∙ m; addresses = tt; sites = tt }
+    module _ (w : Written) (next : Place) (out : List ℕ) (m : MadeNode w next out passed.list condition) where
+      pub made-whole : WholeWords w out
+      made-whole = by w m
+        where
+          by : (w : Written) → MadeNode w next out passed.list condition → WholeWords w out
+          by (From at) m = m.0
+          by TooLong m = tt
+
+      made-into : with_assignments passed.list (tree_of condition.words) ≡ substituted_of w out
+      made-into = by w m
+        where
+          by : (w : Written) → MadeNode w next out passed.list condition
+              → with_assignments passed.list (tree_of condition.words) ≡ substituted_of w out
+          by (From at) m = m.1
+          by TooLong m = m
+
+      module _ (place : ℕ) {r : Answer} (r-is : r ≡ on_substituted place (substituted_of w out)) where
+        pub answer-is : r ≡ node_verdict (node_of s node) place
+        answer-is = r-is ∙ ap (on_substituted place) (sym made-into) ∙ sym (verdict-here place)
+
+        -- where it is a verdict, the condition was passed
+        after-condition : (v : Verdict) → r ≡ Given v → next ≡ condition.next
+        after-condition v given = by w m r-is
+          where
+            by : (w : Written) → MadeNode w next out passed.list condition → r ≡ on_substituted place (substituted_of w out) → next ≡ condition.next
+            by (From at) m is = m.2
+            by TooLong m is = let z : ◌≡◌ {A = ℕ} 0 1 = cc in absurd (omega arith)
+
+        pub judged-node : {a : Field} → a ≡ count_at 0 16 s next
+            → JudgedIs (record { answer = r; addresses = a.value; sites = a.next }) s node place
+        judged-node a-is = record {
+          answer = answer-is;
+          addresses = λ v given. rw (a-is, after-condition v given, these, front-is, (parts s node read).body) (parts s node read).addresses;
+          sites = λ v given. rw (a-is, after-condition v given, these, front-is, (parts s node read).body) (parts s node read).sites;
+        }
 
 -- a node without statements: its condition stands as it was read
 module _ (s : List ℕ) (node : NodeReading) (read : ReadNode s node) {front : NodeFront} (front-is : front ≡ front_of node) (none : front.statements ≡ 0) where
@@ -139,17 +184,22 @@ module _ (s : List ℕ) (node : NodeReading) (read : ReadNode s node) {front : N
     pub plain-words : Wf (take (2 * records) after) × (length (take (2 * records) after) ≤ 256)
     plain-words = took-tree front.variables s front.body took stands_on
 
-    pub prepared-plain : {a : Field} → a ≡ count_at 0 16 s next → 2 * records ≤ length after
-        → PreparedIs (record { written = From 0; end = 2 * records; addresses = a.value; sites = a.next }) after s node
-    prepared-plain a-is room =
-        let words : take (2 * records) after ≡ stands.words = took-front took stands_on in
-        let here : next ≡ (condition s node read front-is {types = types_in s node} refl).next = took.place ∙ ap (λ (t : Taken). t.next) stands-there in
-        record {
-          whole = record { order = omega arith; inside = room; tree = subst Wf (sym (from_start (2 * records) after)) plain-words.0 };
-          is =
-              substituted-here s node read front-is {types = types_in s node} refl
-              ∙ rw (nothing-passed, ← stands-there) (nothing-assigned stands.words (rw words at plain-words.0) (rw words at plain-words.1))
-              ∙ ap (λ (ws : List ℕ). into (tree_of ws)) (sym (from_start (2 * records) after ∙ words));
-          addresses = rw (a-is, here, front-is, (parts s node read).body) (parts s node read).addresses;
-          sites = rw (a-is, here, front-is, (parts s node read).body) (parts s node read).sites;
-        }
+    plain-made : MadeNode (From 0) next (take (2 * records) after) (passed s node read front-is {types = types_in s node} refl).list (condition s node read front-is {types = types_in s node} refl)
+    plain-made =
+        let words : take (2 * records) after ≡ stands.words = took-front took stands_on in (
+          plain-words.0,
+          rw (nothing-passed, ← stands-there, words) (nothing-assigned stands.words (rw words at plain-words.0) (rw words at plain-words.1)),
+          took.place ∙ ap (λ (t : Taken). t.next) stands-there,
+        )
+
+    pub judged-plain : (place : ℕ) {d : Decision} {r : Answer} {a : Field}
+        → d ≡ answered (fits (tree_of (take (2 * records) after))) (decide (tree_of (take (2 * records) after)))
+        → r ≡ on_decision place d → a ≡ count_at 0 16 s next
+        → JudgedIs (record { answer = r; addresses = a.value; sites = a.next }) s node place
+    judged-plain place d-is r-is a-is =
+        let words = take (2 * records) after in
+        let all : take (length words - 0) (drop 0 words) ≡ words = take_all (length words - 0) words (omega arith) in
+        judged-node s node read front-is {types = types_in s node} refl (From 0) next (take (2 * records) after) plain-made place
+        (decided {w = From 0} (take (2 * records) after) {at = 0} plain-words.0 refl place
+        (d-is ∙ ap (λ (ws : List ℕ). answered (fits (tree_of ws)) (decide (tree_of ws))) (sym all)) r-is)
+        a-is

@@ -1,3 +1,2 @@
--- a node's substituted condition in borrowed words, and the answer from it
+-- the answer for a node, from its substituted condition
 pub mod Judged
-pub mod Answered

@@ -1,14 +1,17 @@
 -- What the contracts of a node verdict's parts ask and give.
-use Rattle.std.specs.Prelude.{ℕ, ◌*◌, ◌-◌, ◌≤◌, ◌≡◌, List, length, take, drop}
+use Rattle.std.specs.Prelude.{ℕ, ◌*◌, ◌≤◌, ◌≡◌, List, length, drop}
+use Rattle.refusal.specs.Numbers.{TERMS}
 use Rattle.expr.specs.Tree.{Wf, tree_of}
 use Rattle.sheet_node.specs.declared.NodeReading.{NodeReading}
-use Rattle.sheet_node.specs.Node.{node_of, record_byte}
+use Rattle.sheet_node.specs.Node.{node_of}
 use Rattle.substitution.specs.declared.Written.{Written}
 use Rattle.substitution.specs.declared.Written.TheVariants.{From, TooLong}
-use Rattle.substitution.specs.Substitution.{Substituted, into, too_long, with_assignments}
+use Rattle.substitution.specs.Substitution.{Substituted, into, too_long}
 use Rattle.verdict.specs.declared.Verdict.{Verdict}
-use Rattle.verdict.specs.declared.Answer.TheVariants.{Given}
-use Rattle.verdict_node.specs.declared.Prepared.{Prepared}
+use Rattle.verdict.specs.declared.Answer.{Answer}
+use Rattle.verdict.specs.declared.Answer.TheVariants.{Given, Refused}
+use Rattle.decide.specs.declared.Decision.{Decision}
+use Rattle.decide.specs.declared.Decision.TheVariants.{Of, TooMany}
 use Rattle.verdict_node.specs.declared.JudgedNode.{JudgedNode}
 use Rattle.verdict_node.specs.NodeVerdict.{node_verdict}
 
@@ -20,40 +23,23 @@ pub record LentNode (variables : ℕ) (table lengths words out : List ℕ) : Typ
   pub words_room : length words ≡ 256
   pub out_room : length out ≡ 256
 
--- a part of a borrowed list
-abbrev pub between : ℕ → ℕ → List ℕ → List ℕ
-between from end l = take (end - from) (drop from l)
+-- the answer from a decision: refusal 11 where an equality passes the limits
+abbrev pub on_decision : ℕ → Decision → Answer
+on_decision place (Of v) = Given v
+on_decision place TooMany = Refused TERMS place
 
--- the words from one offset to another are one tree
-pub record Stands (from end : ℕ) (out : List ℕ) : Type 0 where
-  pub order : from ≤ end
-  pub inside : end ≤ length out
-  pub tree : Wf (between from end out)
-
--- what was written to a borrowed list, where it ends there, is one tree
-abbrev pub WholeWords : Written → ℕ → List ℕ → Type 0
-WholeWords (From at) end out = Stands at end out
-WholeWords TooLong end out = Unit {0}
+-- what substitution has written to the end of a borrowed list is one tree
+abbrev pub WholeWords : Written → List ℕ → Type 0
+WholeWords (From at) out = Wf (drop at out)
+WholeWords TooLong out = Unit {0}
 
 -- the substituted condition that it is
-abbrev pub substituted_of : Written → ℕ → List ℕ → Substituted
-substituted_of (From at) end out = into (tree_of (between at end out))
-substituted_of TooLong end out = too_long
-
--- where it was written, what stands behind the condition was read as well
-abbrev pub Behind : Written → Type 0 → Type 0
-Behind (From at) X = X
-Behind TooLong X = Unit {0}
-
--- what a node's substitution leaves in a borrowed list
-pub record PreparedIs (r : Prepared) (out s : List ℕ) (node : NodeReading) : Type 0 where
-  pub whole : WholeWords r.written r.end out
-  pub is : with_assignments (node_of s node).statements (node_of s node).condition ≡ substituted_of r.written r.end out
-  pub addresses : Behind r.written (r.addresses ≡ node.addresses)
-  pub sites : Behind r.written (r.sites ≡ node.sites)
+abbrev pub substituted_of : Written → List ℕ → Substituted
+substituted_of (From at) out = into (tree_of (drop at out))
+substituted_of TooLong out = too_long
 
 -- what is given for a node whose record starts at an offset
 pub record JudgedIs (r : JudgedNode) (s : List ℕ) (node : NodeReading) (place : ℕ) : Type 0 where
-  pub answer : r.answer ≡ node_verdict (node_of s node) place (record_byte s node)
+  pub answer : r.answer ≡ node_verdict (node_of s node) place
   pub addresses : (v : Verdict) → r.answer ≡ Given v → r.addresses ≡ node.addresses
   pub sites : (v : Verdict) → r.answer ≡ Given v → r.sites ≡ node.sites

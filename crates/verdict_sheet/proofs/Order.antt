@@ -16,8 +16,8 @@ use Rattle.verdict.specs.declared.Answer.{Answer}
 use Rattle.verdict.specs.declared.Answer.TheVariants as answer
 use Rattle.search.specs.declared.Found.{Found}
 use Rattle.sheet_node.specs.declared.NodeReading.{NodeReading}
-use Rattle.sheet_node.specs.Node.{node_at, node_of, record_byte}
-use Rattle.sheet.specs.Sheet.{sheet_at, reading_of, no_node, node_numbered, node_place, node_byte}
+use Rattle.sheet_node.specs.Node.{node_at, node_of}
+use Rattle.sheet.specs.Sheet.{sheet_at, reading_of, no_node, node_numbered, node_place}
 use Rattle.verdict_block.specs.Verdict.{verdict_on}
 use Rattle.verdict_node.specs.NodeVerdict.{node_verdict}
 use Rattle.verdict_sheet.specs.declared.Progress.{Progress}
@@ -55,26 +55,26 @@ module _ (s : List ℕ) (sheet : Sheet) (read : reading_of s ≡ reading.Accepte
   pub node-numbered : (r : Progress) (after : List ℕ) (said : List Said)
       → Reached (sheet_at s).instructions.list r after
       (node_too (all said) (last_branch (sheet_at s).instructions.list (node_of s (node_at s (At (get_or nodes number 0)))).addresses)
-      (node_verdict (node_of s (node_at s (At (get_or nodes number 0)))) (get_or nodes number 0) (record_byte s (node_at s (At (get_or nodes number 0))))))
+      (node_verdict (node_of s (node_at s (At (get_or nodes number 0)))) (get_or nodes number 0)))
       → Reached (sheet_at s).instructions.list r after
-      (node_too (all said) (node_site s number) (node_verdict (node_numbered s number) (node_place s number) (node_byte s number)))
+      (node_too (all said) (node_site s number) (node_verdict (node_numbered s number) (node_place s number)))
   node-numbered r after said is = rw (← stands, ← places) is
 
 -- the answer for one node
 module _ (s : List ℕ) {a p : List ℕ} (index : CodeIndex s a p) (node : NodeReading) (place : ℕ) {given : Answer}
-    (given_is : given ≡ node_verdict (node_of s node) place (record_byte s node)) (said : List Said) where
+    (given_is : given ≡ node_verdict (node_of s node) place) (said : List Said) where
   pub node_through : (at : Found) {v : Verdict} {slots after : List ℕ}
       → SiteIs (sheet_at s).instructions.list at (last_branch (sheet_at s).instructions.list (node_of s node).addresses)
       → given ≡ answer.Given v → after ≡ kept_at slots at v → slots ≡ slots_of (sheet_at s).instructions.list said
       → Reached (sheet_at s).instructions.list progress.Through after
-      (node_too (all said) (last_branch (sheet_at s).instructions.list (node_of s node).addresses) (node_verdict (node_of s node) place (record_byte s node)))
+      (node_too (all said) (last_branch (sheet_at s).instructions.list (node_of s node).addresses) (node_verdict (node_of s node) place))
   node_through at {v} there is after_is before =
       rw (← given_is, is)
       (keep-saying (sheet_at s).instructions.list (rw (← index.addresses) index.rising) v said at _ there after_is before)
 
   pub node-refused : {k at : ℕ} (slots : List ℕ) → given ≡ answer.Refused k at
       → Reached (sheet_at s).instructions.list (progress.Refused k at) slots
-      (node_too (all said) (last_branch (sheet_at s).instructions.list (node_of s node).addresses) (node_verdict (node_of s node) place (record_byte s node)))
+      (node_too (all said) (last_branch (sheet_at s).instructions.list (node_of s node).addresses) (node_verdict (node_of s node) place))
   node-refused slots is = rw (← given_is, is) (refl, refl)
 
 -- the loop over nodes
@@ -89,13 +89,13 @@ module _ (s : List ℕ) (blocks : ℕ) where
       → Reached (sheet_at s).instructions.list progress.Through slots (judged_up_to s blocks k)
       → ((said : List Said) → slots ≡ slots_of (sheet_at s).instructions.list said
       → Reached (sheet_at s).instructions.list r after
-      (node_too (all said) (node_site s k) (node_verdict (node_numbered s k) (node_place s k) (node_byte s k))))
+      (node_too (all said) (node_site s k) (node_verdict (node_numbered s k) (node_place s k))))
       → Reached (sheet_at s).instructions.list r after (judged_up_to s blocks (k + 1))
   unfolding judged_up_to
   nodes-more k r slots after before step = rw (add-one k) (go (judged_up_to s blocks k) before)
     where
       go : (j : Judged) → Reached (sheet_at s).instructions.list progress.Through slots j
-          → Reached (sheet_at s).instructions.list r after (node_too j (node_site s k) (node_verdict (node_numbered s k) (node_place s k) (node_byte s k)))
+          → Reached (sheet_at s).instructions.list r after (node_too j (node_site s k) (node_verdict (node_numbered s k) (node_place s k)))
       go (all said) is = step said is
       go (refused number place) is = absurd is
 
@@ -123,7 +123,7 @@ module _ (s : List ℕ) (blocks : ℕ) where
   module _ (k : ℕ) (r : Progress) (slots after : List ℕ) (before : Reached (sheet_at s).instructions.list progress.Through slots (judged_up_to s blocks k))
       (step : (said : List Said) → slots ≡ slots_of (sheet_at s).instructions.list said
       → Reached (sheet_at s).instructions.list r after
-      (node_too (all said) (node_site s k) (node_verdict (node_numbered s k) (node_place s k) (node_byte s k)))) where
+      (node_too (all said) (node_site s k) (node_verdict (node_numbered s k) (node_place s k)))) where
     -- the node was not refused
     pub nodes-on : r ≡ progress.Through → Reached (sheet_at s).instructions.list progress.Through after (judged_up_to s blocks (k + 1))
     nodes-on is = rw is at (nodes-more k r slots after before step)

@@ -6,7 +6,7 @@ use Rattle.verdict.specs.declared.Verdict.{Verdict}
 use Rattle.verdict.specs.declared.Verdict.TheVariants.{Always, Never, Undecided, NoBranch}
 use Rattle.verdict.specs.declared.Answer.{Answer}
 use Rattle.verdict.specs.declared.Answer.TheVariants as answer
-use Rattle.sheet.specs.Sheet.{node_numbered, node_place, node_byte}
+use Rattle.sheet.specs.Sheet.{node_numbered, node_place}
 use Rattle.verdict_block.specs.Verdict.{verdict_on}
 use Rattle.verdict_node.specs.NodeVerdict.{node_verdict}
 use Rattle.verdict_lines.specs.Lines.{Line, line_of}
@@ -41,7 +41,7 @@ node_too (refused number place) site a = refused number place
 -- What the first `blocks` blocks and then the first `nodes` nodes say: blocks before nodes, earlier records before later ones (L4, L8).
 unfoldable pub judged_up_to : List ℕ → ℕ → ℕ → Judged
 judged_up_to s blocks zero = all (blocks_say s blocks)
-judged_up_to s blocks (suc k) = node_too (judged_up_to s blocks k) (node_site s k) (node_verdict (node_numbered s k) (node_place s k) (node_byte s k))
+judged_up_to s blocks (suc k) = node_too (judged_up_to s blocks k) (node_site s k) (node_verdict (node_numbered s k) (node_place s k))
 
 -- a verdict, where it is decided, or else a later one
 abbrev pub or_later : Verdict → Verdict → Verdict

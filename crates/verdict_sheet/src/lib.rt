@@ -7,7 +7,7 @@ ghost use Rattle.search.specs.Ascending.{place_of};
 ghost use Rattle.sheet.specs.declared.Reading.TheVariants.{Accepted};
 ghost use Rattle.sheet.specs.Sheet.{sheet_at, reading_of};
 ghost use Rattle.sheet_node.specs.declared.NodeReading.{NodeReading};
-ghost use Rattle.sheet_node.specs.Node.{node_of, addresses_from, record_byte};
+ghost use Rattle.sheet_node.specs.Node.{node_of, addresses_from};
 ghost use Rattle.verdict_block.specs.Verdict.{verdict_at, end_from, verdict_on};
 ghost use Rattle.verdict_lines.specs.Slots.{kept};
 ghost use Rattle.verdict_node.specs.NodeVerdict.{node_verdict};
@@ -178,7 +178,7 @@ fn keep_node(
     requires s_value { reading_of s.now ≡ Accepted sheet }
     requires code_index { CodeIndex s.now addresses.now places.now }
     requires slots_len { length slots.old ≡ length addresses.now }
-    ensures { (node : NodeReading) (place : ℕ) (said : List Said) → JudgedIs judged s.now node place → slots.old ≡ slots_of (sheet_at s.now).instructions.list said → Reached (sheet_at s.now).instructions.list result slots.new (node_too (all said) (last_branch (sheet_at s.now).instructions.list (node_of s.now node).addresses) (node_verdict (node_of s.now node) place (record_byte s.now node))) }
+    ensures { (node : NodeReading) (place : ℕ) (said : List Said) → JudgedIs judged s.now node place → slots.old ≡ slots_of (sheet_at s.now).instructions.list said → Reached (sheet_at s.now).instructions.list result slots.new (node_too (all said) (last_branch (sheet_at s.now).instructions.list (node_of s.now node).addresses) (node_verdict (node_of s.now node) place)) }
 {
     let answer = judged.answer;
     let sites = judged.sites;

@@ -383,10 +383,6 @@ product left right =
     node (replicate 13 (6 ∷ [])) []
     (left ++ right ++ (binary 2 ∷ constant 0 ∷ binary 10 ∷ []))
 
--- 17 terms
-abbrev many : List (List ℕ)
-many = odds 3 6 ++ (variable 12 ∷ binary 0 ∷ [])
-
 -- The node verdict: its refusals with their offsets (N25, N26, N27, N30).
 unfoldable pub node_rows : List NodeRow
 node_rows =
@@ -396,28 +392,10 @@ node_rows =
     ∷ record { node = chain [] (yes ∷ []); number = 1; answer = decision 1 3 }
     ∷ record { node = chain (twice 7 6 ∷ []) (yes ∷ []); number = 1; answer = refused 10 31 }
     ∷ record { node = chain [] (variable 6 ∷ variable 6 ∷ binary 10 ∷ []); number = 1; answer = refused 10 31 }
-    -- 64 times 65 terms; 256 terms; 272 terms, at the product; the sum of 256 terms and of one, at the equality
-    ∷ record { node = product (odds 5 0) (odds 5 6 ++ (variable 12 ∷ binary 0 ∷ [])); number = 1; answer = refused 11 242 }
+    -- 64 times 65 terms; 256 terms; 272 terms
+    ∷ record { node = product (odds 5 0) (odds 5 6 ++ (variable 12 ∷ binary 0 ∷ [])); number = 1; answer = refused 11 31 }
     ∷ record { node = product (odds 3 0) (odds 3 6); number = 1; answer = undecided }
-    ∷ record { node = product (odds 3 0) many; number = 1; answer = refused 11 178 }
-    ∷ record {
-      node = node (replicate 13 (6 ∷ [])) [] (odds 3 0 ++ odds 3 6 ++ (binary 2 ∷ variable 12 ∷ binary 10 ∷ []));
-      number = 1;
-      answer = refused 11 178;
-    }
-    -- the product of 272 terms is assigned, and compared; assigned, copied, and compared: it is reported in the first statement
-    ∷ record {
-      node = node (replicate 13 (6 ∷ [])) (assign 12 (odds 3 0 ++ many ++ (binary 2 ∷ [])) ∷ []) (variable 12 ∷ constant 0 ∷ binary 10 ∷ []);
-      number = 1;
-      answer = refused 11 180;
-    }
-    ∷ record {
-      node =
-          node (replicate 14 (6 ∷ [])) (assign 12 (odds 3 0 ++ many ++ (binary 2 ∷ [])) ∷ assign 13 (variable 12 ∷ []) ∷ [])
-          (variable 13 ∷ constant 0 ∷ binary 10 ∷ []);
-      number = 1;
-      answer = refused 11 181;
-    }
+    ∷ record { node = product (odds 3 0) (odds 3 6 ++ (variable 12 ∷ binary 0 ∷ [])); number = 1; answer = refused 11 31 }
     ∷ []
 
 -- A row: a node, the number of the node that is asked for, values, and the answer of the evaluation.

@@ -144,15 +144,15 @@ pub mod flag {
     pub const NAMES: &[&str] = &["cf", "pf", "zf", "sf", "of"];
 }
 
-/// Numbers of refusals: 1 to 9, 18 and 19 by reading, 10 and 11 by the verdict on a
-/// node, 13 to 16 by the operations on a number, 17 by the sentence.
+/// Numbers of refusals: 1 to 9 by reading, 10 and 11 by the verdict on a node, 13
+/// to 16 by the operations on a number, 17 by the sentence.
 pub mod refusal {
     pub const ENDED: u8 = 1;
     pub const CODE: u8 = 2;
     pub const COUNT: u8 = 3;
     pub const ADDRESS: u8 = 4;
     pub const REGISTER: u8 = 5;
-    pub const SIZES: u8 = 6;
+    pub const MODELLED: u8 = 6;
     pub const TREE: u8 = 7;
     pub const CONSTANT: u8 = 8;
     pub const TYPE: u8 = 9;
@@ -163,8 +163,6 @@ pub mod refusal {
     pub const NOT_PLAIN: u8 = 15;
     pub const VALUE: u8 = 16;
     pub const TEXT: u8 = 17;
-    pub const CLASS: u8 = 18;
-    pub const FLAGS: u8 = 19;
 }
 
 /// The number of `name` in a table of names.

@@ -169,10 +169,8 @@ impl Layout<'_> {
                 None
             },
         };
-        if modelled(&insn) {
-            for number in model_faults(&insn) {
-                self.fault_of_unit(number, start);
-            }
+        if modelled(&insn) && !model_fits(&insn) {
+            self.fault_of_unit(refusal::MODELLED, start);
         }
         Some(insn)
     }
@@ -327,25 +325,21 @@ fn modelled(insn: &Instruction) -> bool {
     fits && !insn.call_like
 }
 
-/// What a modelled instruction does not keep to, in the order of the numbers.
-fn model_faults(insn: &Instruction) -> Vec<u8> {
-    let operands = [insn.first, insn.second];
-    let registers = operands.iter().filter_map(|operand| match operand {
-        Some(Operand::Register(register)) => Some(*register),
-        _ => None,
-    });
-    let (general, others): (Vec<Register>, Vec<Register>) =
-        registers.partition(|register| register.class == GENERAL_CLASS);
-    let sizes_differ = general.windows(2).any(|pair| pair[0].size != pair[1].size);
+/// What is asked of a modelled instruction.
+fn model_fits(insn: &Instruction) -> bool {
+    let mut sizes = Vec::new();
+    for operand in [insn.first, insn.second].into_iter().flatten() {
+        match operand {
+            Operand::Register(r) if r.class == GENERAL_CLASS => sizes.push(r.size),
+            Operand::Register(_) if insn.mnemonic != MOV => return false,
+            _ => {}
+        }
+    }
+    let same_size = sizes.windows(2).all(|pair| pair[0] == pair[1]);
     let needed = match insn.mnemonic {
         INC | DEC => flag::ALL & !flag::CF,
         NEG => flag::ALL,
         _ => 0,
     };
-    let faults = [
-        (sizes_differ, refusal::SIZES),
-        (insn.mnemonic != MOV && !others.is_empty(), refusal::CLASS),
-        (insn.flags.unwrap_or(0) & needed != needed, refusal::FLAGS),
-    ];
-    faults.into_iter().filter(|(there, _)| *there).map(|(_, number)| number).collect()
+    same_size && insn.flags.unwrap_or(0) & needed == needed
 }

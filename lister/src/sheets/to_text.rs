@@ -128,9 +128,9 @@ pub fn meaning(number: u8) -> &'static str {
         refusal::REGISTER => {
             "the class 1 register at this offset has an index, size or offset that does not exist"
         }
-        refusal::SIZES => {
-            "the instruction at this offset is modelled, and its two registers differ in size, as in \
-              add eax, bx"
+        refusal::MODELLED => {
+            "the instruction at this offset is modelled, and its registers' sizes or classes or its \
+              declared flags do not fit its mnemonic"
         }
         refusal::TREE => {
             "the records are not one tree: the one at this offset lacks a child, or the expression \
@@ -138,14 +138,6 @@ pub fn meaning(number: u8) -> &'static str {
         }
         refusal::CONSTANT => "the constant at this offset does not fit its width",
         refusal::TYPE => "the assignment at this offset gives its variable a value of another type",
-        refusal::CLASS => {
-            "the instruction at this offset is modelled and no mov, and one of its registers is not \
-              of class 1"
-        }
-        refusal::FLAGS => {
-            "the instruction at this offset is inc, dec or neg of a register, and does not declare \
-              PF, ZF, SF and OF, or for neg CF"
-        }
         _ => "a number that reading does not give",
     }
 }

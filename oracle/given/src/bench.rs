@@ -151,7 +151,7 @@ fn mixed(pieces: usize, nodes: usize) -> Sheet {
         let mut node = verdict_node::node(&mut generator);
         while node.condition.len() > 40
             || node.statements.len() > 8
-            || node_limits::refusal(&node, 0).is_some()
+            || node_limits::refusal(&node).is_some()
         {
             node = verdict_node::node(&mut generator);
         }

@@ -13,7 +13,6 @@ use crate::register::RegisterId;
 #[cfg(product)]
 use crate::structure::Terminator;
 use oracle::answers::{self, Answer, Decided, FLAGS};
-use oracle::judges::evaluator::places_of_nodes;
 use oracle::judges::node_limits;
 use oracle::judges::reader;
 use oracle::judges::substitution::{substitute, Rule};
@@ -61,7 +60,8 @@ pub struct Judged {
 pub fn judged(bytes: &[u8], nodes: Nodes) -> Result<Judged, reader::Refusal> {
     let sheet = reader::read(bytes)?.sheet;
     let (blocks, sentences) = judged_blocks(&sheet).into_iter().unzip();
-    Ok(Judged { blocks, sentences, nodes: judged_nodes(&sheet, nodes) })
+    let nodes = sheet.nodes.iter().map(|node| node_answer(node, nodes)).collect();
+    Ok(Judged { blocks, sentences, nodes })
 }
 
 /// The sentences for the blocks of a sheet.
@@ -95,14 +95,13 @@ pub fn branches(sheet: &sheet::Sheet) -> Option<usize> {
 /// The answers for the nodes of a sheet alone.
 pub fn node_line(bytes: &[u8], nodes: Nodes) -> String {
     match reader::read(bytes) {
-        Ok(accepted) => answers::line("nodes", &judged_nodes(&accepted.sheet, nodes)),
+        Ok(accepted) => {
+            let answers: Vec<Answer> =
+                accepted.sheet.nodes.iter().map(|node| node_answer(node, nodes)).collect();
+            answers::line("nodes", &answers)
+        }
         Err(refusal) => refusal.to_string(),
     }
-}
-
-fn judged_nodes(sheet: &sheet::Sheet, nodes: Nodes) -> Vec<Answer> {
-    let placed = sheet.nodes.iter().zip(places_of_nodes(sheet));
-    placed.map(|(node, start)| node_answer(node, start, nodes)).collect()
 }
 
 fn answer(holds: bool, reason: u8) -> Answer {
@@ -172,10 +171,10 @@ fn operand(operand: sheet::Operand) -> Operand {
     }
 }
 
-fn node_answer(node: &sheet::Node, start: usize, nodes: Nodes) -> Answer {
+fn node_answer(node: &sheet::Node, nodes: Nodes) -> Answer {
     let differ = nodes == Nodes::WithDifferences;
-    if let (true, Some(refusal)) = (differ, node_limits::refusal(node, start)) {
-        return Answer::Refused { number: refusal.number, place: refusal.place };
+    if let (true, Some(number)) = (differ, node_limits::refusal(node)) {
+        return Answer::Refused(number);
     }
     let Some((statements, condition)) = trees(node, nodes) else {
         return Answer::NotRun;

@@ -156,13 +156,12 @@ fn assignments_are_carried_to_the_condition() {
 fn what_runs_away_is_not_judged() {
     crate::guard::hush();
     let doubling = "vars u32\nrepeat 60 {\nassign 0 (+ v0 v0)\n}\ncond (== v0 0:4)";
-    assert_eq!(node(doubling), ["-", "r10@6"]);
-    // Fourteen sums of two variables, multiplied. Behind 32 types the records start at 44:
-    // 14 sums of 6 bytes, then 1, then the products. The ninth has 512 terms.
+    assert_eq!(node(doubling), ["-", "r10"]);
+    // Fourteen sums of two variables, multiplied.
     let sums: String = (0..14).map(|i| format!("(* (+ v{} v{}) ", 2 * i, 2 * i + 1)).collect();
     let product = format!("{sums} 1:4{}", ")".repeat(14));
     let types = "u32 ".repeat(32);
-    assert_eq!(node(&format!("vars {types}\ncond (== {product} 1:4)")), ["-", "r11@154"]);
+    assert_eq!(node(&format!("vars {types}\ncond (== {product} 1:4)")), ["-", "r11"]);
     // The sentence alone would take for ever: the sides are a cast to bool.
     let [a, b] = [format!("(cast bool {product})"), format!("(+ (cast bool {product}) 1:4)")];
     assert_eq!(same(&format!("vars {types}\ncond (== {a} {b})")), "v6");

@@ -7,23 +7,11 @@ use crate::judges::substitution::{substitute, Rule};
 use crate::sheets::names::operator::*;
 use crate::sheets::names::value_type::{BOOL, COUNT, POINTER, S32, U32, U64};
 use crate::sheets::syntax::*;
-use crate::sheets::types;
 
 /// Records of an expression in a sheet.
 const MOST_RECORDS: usize = 128;
 
 const ONE: Record = Record::Constant { width: 4, value: 1 };
-const TWO: Record = Record::Constant { width: 4, value: 2 };
-
-/// Node number `index` of the run with this seed.
-pub fn numbered(seed: u64, index: u64) -> Node {
-    let mut generator = Generator::new(seed, index, 0);
-    match generator.random.below(10) {
-        0 => long_node(&mut generator),
-        1 | 2 => wide_node(&mut generator),
-        _ => held_node(&mut generator),
-    }
-}
 
 /// A node whose condition, or one of whose values, is about as long as it may
 /// be.
@@ -235,7 +223,7 @@ impl Wide<'_> {
             0 => side = join(side, AND, vec![ONE]),
             1 => side = join(vec![ONE], AND, side),
             2 if self.below(2) == 0 => {
-                side = join(side, REM, vec![TWO]);
+                side = join(side, REM, vec![Record::Constant { width: 4, value: 2 }]);
             }
             _ => {}
         }
@@ -257,223 +245,6 @@ impl Wide<'_> {
             0 => join(vec![Record::False], self.pick(&[BOTH, EITHER]), equality),
             1 => join(equality, self.pick(&[BOTH, EITHER]), vec![Record::Variable(3)]),
             _ => equality,
-        }
-    }
-}
-
-/// A node of short parts that pass a limit on terms or nearly do, in the condition
-/// and in assigned values, which may come by way of another variable or be read
-/// twice. Whole equalities are assigned too.
-pub fn held_node(generator: &mut Generator) -> Node {
-    let fits = |expression: &Expression| expression.len() <= MOST_RECORDS;
-    loop {
-        let mut writer = Held { generator, variables: Held::variables(), statements: Vec::new() };
-        let condition = writer.condition();
-        let Held { variables, statements, .. } = writer;
-        let values_fit = statements.iter().all(|statement| match statement {
-            Statement::Assign { value, .. } => fits(value),
-            Statement::Other => true,
-        });
-        if fits(&condition) && values_fit {
-            return Node { variables, statements, condition, addresses: Vec::new() };
-        }
-    }
-}
-
-/// Variables of a node of held parts: the first are never assigned.
-const FREE: u8 = 16;
-const PARTS: std::ops::Range<u8> = FREE..FREE + 8;
-const EQUALITIES: std::ops::Range<u8> = PARTS.end..PARTS.end + 4;
-
-struct Held<'a> {
-    generator: &'a mut Generator,
-    variables: Vec<u8>,
-    statements: Vec<Statement>,
-}
-
-impl Held<'_> {
-    fn variables() -> Vec<u8> {
-        let code = |number: u8| if EQUALITIES.contains(&number) { S32 } else { U32 };
-        (0..EQUALITIES.end).map(code).collect()
-    }
-
-    fn below(&mut self, limit: usize) -> usize {
-        self.generator.random.below(limit)
-    }
-
-    fn pick(&mut self, operators: &[u8]) -> u8 {
-        self.generator.random.pick(operators)
-    }
-
-    /// The operator applied to both, in either order.
-    fn either_way(&mut self, a: Expression, operator: u8, b: Expression) -> Expression {
-        match self.below(2) {
-            0 => join(a, operator, b),
-            _ => join(b, operator, a),
-        }
-    }
-
-    fn condition(&mut self) -> Expression {
-        let first = self.equality();
-        let operator = self.pick(&[BOTH, EITHER]);
-        match self.below(6) {
-            0 | 1 => join(first, operator, self.equality()),
-            2 => {
-                let [a, b] = [self.small(), self.small()];
-                self.either_way(join(a, EQUAL, b), operator, first)
-            }
-            3 => {
-                let [second, third] = [self.equality(), self.equality()];
-                let other = self.pick(&[BOTH, EITHER]);
-                let rest = self.either_way(second, other, third);
-                self.either_way(first, operator, rest)
-            }
-            _ => first,
-        }
-    }
-
-    fn equality(&mut self) -> Expression {
-        let operator = match self.below(12) {
-            0 => LESS,
-            _ => self.pick(&[EQUAL, NOT_EQUAL]),
-        };
-        let side = self.side();
-        let other = if self.below(3) == 0 { self.side() } else { self.small() };
-        let made = self.either_way(side, operator, other);
-        if self.below(4) == 0 {
-            self.held(made, EQUALITIES)
-        } else {
-            made
-        }
-    }
-
-    /// One part or two, at times where the exact step alone enters them.
-    fn side(&mut self) -> Expression {
-        let mut side = self.part();
-        if self.below(3) == 0 {
-            let operator = self.pick(&[ADD, SUB, MUL, AND, OR, XOR]);
-            let other = self.part();
-            side = join(side, operator, other);
-        }
-        side = match self.below(8) {
-            0 => join(side, AND, vec![ONE]),
-            1 => join(vec![ONE], AND, side),
-            2 => join(side, REM, vec![TWO]),
-            _ => side,
-        };
-        match self.below(5) {
-            0 => inside(side, Record::Cast(BOOL)),
-            1 => inside(side, Record::Cast(self.below(COUNT.into()) as u8)),
-            _ => side,
-        }
-    }
-
-    fn part(&mut self) -> Expression {
-        let part = if self.below(4) == 0 { self.small() } else { self.large() };
-        if self.below(2) == 0 {
-            self.held(part, PARTS)
-        } else {
-            part
-        }
-    }
-
-    /// What reads the value, which is assigned to one of these variables; at times
-    /// twice, or from another variable that it goes on to.
-    fn held(&mut self, value: Expression, among: std::ops::Range<u8>) -> Expression {
-        let mut variable = self.assigned(value, &among);
-        if self.below(3) == 0 {
-            let value = match self.below(3) {
-                0 => join(vec![variable], XOR, self.small()),
-                1 => inside(vec![variable], Record::Cast(U64)),
-                _ => vec![variable],
-            };
-            variable = self.assigned(value, &among);
-        }
-        if self.below(40) == 0 {
-            self.statements.push(Statement::Other);
-        }
-        if self.below(5) > 0 {
-            return vec![variable];
-        }
-        let operator = match among == EQUALITIES {
-            true => self.pick(&[BOTH, EITHER]),
-            false => self.pick(&[ADD, SUB, MUL, AND, OR, XOR]),
-        };
-        join(vec![variable], operator, vec![variable])
-    }
-
-    fn assigned(&mut self, mut value: Expression, among: &std::ops::Range<u8>) -> Record {
-        let variable = among.start + self.below(among.len()) as u8;
-        let declared = self.variables[variable as usize];
-        if types::of_expression(&value, &self.variables) != Some(declared) {
-            value.push(Record::Cast(declared));
-        }
-        self.statements.push(assign(variable, value));
-        Record::Variable(variable)
-    }
-
-    /// A term or none.
-    fn small(&mut self) -> Expression {
-        let number = self.below(FREE.into()) as u8;
-        let assigned = PARTS.start + self.below(PARTS.len()) as u8;
-        match self.below(24) {
-            0 => vec![Record::Effect(U32)],
-            1 => inside(vec![Record::Variable(assigned)], Record::Load(U32)),
-            2..=7 => vec![ONE],
-            8 | 9 => vec![TWO],
-            _ => vec![Record::Variable(number)],
-        }
-    }
-
-    /// Some variables joined by or: all their products, one less than a power of 2.
-    fn products(&mut self, count: usize) -> Expression {
-        let first = self.below(4);
-        let turned = self.below(2) == 0;
-        let atom = |number: usize| vec![Record::Variable((first + number) as u8)];
-        (1..count).fold(atom(0), |all, number| match turned {
-            true => join(atom(number), OR, all),
-            false => join(all, OR, atom(number)),
-        })
-    }
-
-    /// One term more, or one less where there was a 1 already.
-    fn and_one(&mut self, part: Expression) -> Expression {
-        let operator = self.pick(&[ADD, SUB, XOR]);
-        self.either_way(part, operator, vec![ONE])
-    }
-
-    fn all_products(&mut self, count: usize) -> Expression {
-        let part = self.products(count);
-        self.and_one(part)
-    }
-
-    /// About 256 terms, or a product of about 4,096 pairs.
-    fn large(&mut self) -> Expression {
-        let small = self.small();
-        let sum = self.pick(&[ADD, SUB, XOR]);
-        let fewer = usize::from(self.below(4) == 0);
-        match self.below(7) {
-            0 | 1 => {
-                let part = self.all_products(8 - fewer);
-                self.either_way(part, sum, small)
-            }
-            2 => {
-                let [part, factor] = [self.products(8 - fewer), self.and_one(small)];
-                let operator = self.pick(&[MUL, AND]);
-                self.either_way(part, operator, factor)
-            }
-            3 => self.products(9 - fewer),
-            4 => {
-                let [part, other] = [self.all_products(8 - fewer), self.and_one(small)];
-                self.either_way(part, OR, other)
-            }
-            5 => {
-                let [part, other] = [self.all_products(6), self.all_products(6)];
-                let other = self.either_way(other, sum, small);
-                let operator = self.pick(&[MUL, AND, OR]);
-                self.either_way(part, operator, other)
-            }
-            _ => self.all_products(8),
         }
     }
 }

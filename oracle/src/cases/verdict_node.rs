@@ -3,7 +3,7 @@
 //! them.
 
 use crate::cases::any_sheet::{Generator, SMALL};
-use crate::cases::limit_node::{held_node, long_node, wide_node};
+use crate::cases::limit_node::{long_node, wide_node};
 use crate::judges::substitution::{substitute, Rule};
 use crate::sheets::names::operator::{self, *};
 use crate::sheets::names::value_type::{self, S32, S64, U32, U64, U8};
@@ -19,8 +19,7 @@ pub fn numbered(seed: u64, index: u64) -> Node {
 
 pub fn node(generator: &mut Generator) -> Node {
     match generator.random.below(200) {
-        0..=17 => return generator.node(SMALL, &[]),
-        18 | 19 => return held_node(generator),
+        0..=19 => return generator.node(SMALL, &[]),
         20 | 21 => return wide_node(generator),
         22..=26 => return long_node(generator),
         27..=60 => return chain(generator),

@@ -3,7 +3,6 @@
 pub mod blocks;
 pub mod evaluations;
 pub mod frames;
-pub mod limits;
 pub mod listings;
 pub mod node_times;
 pub mod nodes;

@@ -8,9 +8,7 @@ use crate::cases::verdict_node;
 use crate::comparisons::frames::{ask_nodes, ask_reading, run};
 use crate::comparisons::nodes::sheet_of;
 use crate::comparisons::times::processor_times;
-use crate::judges::node_limits::condition;
-use crate::judges::substitution::Rule;
-use crate::judges::tree::Tree;
+use crate::judges::node_limits::{children, parity, refusal};
 use crate::sheets::from_text::write;
 use crate::sheets::syntax::Node;
 use std::io;
@@ -36,11 +34,8 @@ fn plain() -> Sheets {
 /// Conditions that are judged and have a side of 128 to 256 terms.
 fn polynomials() -> Sheets {
     let wide = |node: &Node| {
-        let Ok((condition, low_bits)) = condition(node, Rule::Ours, 0) else { return false };
-        let tree = Tree::of(&condition);
-        let large = |side: &usize| low_bits.polys[side].len() >= 128;
-        low_bits.asked.equalities.contains(&tree.root())
-            && tree.top(tree.root()).1.iter().any(large)
+        let large = |side: &&[_]| parity(side, &mut Vec::new()).is_ok_and(|poly| poly.len() >= 128);
+        refusal(node).is_none() && children(&node.condition).iter().any(large)
     };
     let nodes = (0..).map(|index| wide_node(&mut Generator::new(32, index, 0)));
     nodes.filter(wide).take(NODES).map(|node| sheet_of(&[node])).collect()

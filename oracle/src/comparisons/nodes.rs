@@ -7,11 +7,10 @@
 //! not the first, that is counted by class.
 
 use crate::answers::{Answer, Line, ABSENT};
-use crate::cases::{limit_node, verdict_node};
+use crate::cases::verdict_node;
 use crate::comparisons::frames::{ask_nodes, run};
-use crate::comparisons::limits::Met;
 use crate::comparisons::smaller;
-use crate::judges::node_verdict::{verdict, verdict_by, verdicts, Entries, BOTH_ENTRIES, NO_ENTRY};
+use crate::judges::node_verdict::{verdict, verdict_by, Entries, BOTH_ENTRIES, NO_ENTRY};
 use crate::judges::substitution::Rule;
 use crate::sheets::encode::encode;
 use crate::sheets::syntax::{Node, Sheet};
@@ -34,8 +33,6 @@ pub struct Job<'a> {
     pub given: Option<&'a [String]>,
     pub nodes: u64,
     pub seed: u64,
-    /// Nodes near the limits of 10 and 11 alone.
-    pub near_limits: bool,
     /// For each class of differences from the given source a smallest node.
     pub smallest: bool,
 }
@@ -51,8 +48,8 @@ pub enum Entry {
 impl Entry {
     /// The entry without which the answer for a node would be another one.
     pub fn of(node: &Node) -> Entry {
-        let due = verdict(node, 0);
-        let changes = |entries: Entries| verdict_by(node, 0, entries) != due;
+        let due = verdict(node);
+        let changes = |entries: Entries| verdict_by(node, entries) != due;
         match () {
             _ if changes(Entries { rule: Rule::Given, ..BOTH_ENTRIES }) => Entry::First,
             _ if changes(Entries { folds_effects: true, ..BOTH_ENTRIES }) => Entry::Second,
@@ -73,7 +70,7 @@ impl Entry {
 /// Whether the given source's answer is that of the description without the
 /// entries. Where that is refused, nothing is said.
 fn as_described(node: &Node, given: Answer) -> bool {
-    let described = verdict_by(node, 0, NO_ENTRY);
+    let described = verdict_by(node, NO_ENTRY);
     given == Answer::NotRun || described.is_refused() || described == given
 }
 
@@ -97,7 +94,6 @@ pub fn class(node: &Node, given: Answer, due: Answer) -> Option<Class> {
 #[derive(Default)]
 struct Tally {
     answers: BTreeMap<String, u64>,
-    met: Met,
     classes: BTreeMap<Class, (u64, Node)>,
     compared: u64,
     /// Nodes on which the given source was not run to its end, or not asked, so
@@ -142,12 +138,8 @@ impl Tally {
     }
 }
 
-fn sheet_with(nodes: &[Node]) -> Sheet {
-    Sheet { nodes: nodes.to_vec(), ..Default::default() }
-}
-
 pub fn sheet_of(nodes: &[Node]) -> Vec<u8> {
-    encode(&sheet_with(nodes)).bytes
+    encode(&Sheet { nodes: nodes.to_vec(), ..Default::default() }).bytes
 }
 
 pub fn size(node: &Node) -> usize {
@@ -205,8 +197,8 @@ pub fn compare(job: &Job) -> io::Result<bool> {
     let mut first = 0;
     while first < job.nodes {
         let end = job.nodes.min(first + BATCH);
-        let numbered = if job.near_limits { limit_node::numbered } else { verdict_node::numbered };
-        let nodes: Vec<Node> = (first..end).map(|index| numbered(job.seed, index)).collect();
+        let nodes: Vec<Node> =
+            (first..end).map(|index| verdict_node::numbered(job.seed, index)).collect();
         if !batch(job, &nodes, &mut tally)? {
             println!("{ABSENT}");
             return Ok(true);
@@ -214,11 +206,10 @@ pub fn compare(job: &Job) -> io::Result<bool> {
         first = end;
     }
     tally.print();
-    let met = !job.near_limits || tally.met.print(job.nodes);
     if let (true, Some(given)) = (job.smallest, job.given) {
         print_smallest(given, &tally)?;
     }
-    Ok(tally.differences == 0 && met)
+    Ok(tally.differences == 0)
 }
 
 /// False if the source is absent.
@@ -231,20 +222,15 @@ fn batch(job: &Job, nodes: &[Node], tally: &mut Tally) -> io::Result<bool> {
     let Some(found) = answers(job.program, nodes)? else {
         return Ok(false);
     };
-    let judge: Vec<Answer> =
-        nodes.chunks(NODES).flat_map(|part| verdicts(&sheet_with(part))).collect();
     for (number, node) in nodes.iter().enumerate() {
-        if job.near_limits {
-            tally.met.note(node);
-        }
-        compare_node(node, [given[number], due[number], judge[number], found[number]], tally);
+        compare_node(node, [given[number], due[number], found[number]], tally);
     }
     Ok(true)
 }
 
-/// Answers of the given source, those due, the judge's and the program's.
-fn compare_node(node: &Node, answers: [Answer; 4], tally: &mut Tally) {
-    let [given, due, judge, program] = answers;
+/// Answers of the given source, those due, and the program's.
+fn compare_node(node: &Node, [given, due, program]: [Answer; 3], tally: &mut Tally) {
+    let judge = verdict(node);
     *tally.answers.entry(judge.named()).or_default() += 1;
     tally.compared += 1;
     let open = due == Answer::NotRun;
@@ -256,7 +242,7 @@ fn compare_node(node: &Node, answers: [Answer; 4], tally: &mut Tally) {
     }
     let explained = as_described(node, given) && entry != Some(Entry::None);
     if !explained || program != judge || (!open && program != due) {
-        tally.difference(node, answers);
+        tally.difference(node, [given, due, judge, program]);
     }
 }
 

@@ -91,7 +91,7 @@ fn judge_node(node: &Node, answer: Answer, verdicts: Verdicts, tally: &mut Tally
         return;
     };
     // The given source also answers where a verdict is refused.
-    if verdict(node, 0).is_refused() && verdicts == Verdicts::GivenAsTheyAre {
+    if verdict(node).is_refused() && verdicts == Verdicts::GivenAsTheyAre {
         return;
     }
     tally.decided += 1;

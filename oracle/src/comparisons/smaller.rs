@@ -1,8 +1,8 @@
 //! Smaller nodes of the same class of differences.
 
 use crate::comparisons::nodes::{both, class, sheet_of, Class};
+use crate::judges::node_limits::children;
 use crate::judges::reader::read;
-use crate::judges::tree::Tree;
 use crate::sheets::syntax::{Expression, Node, Record, Statement};
 use std::io;
 
@@ -62,25 +62,30 @@ fn steps(node: &Node) -> Vec<Node> {
 
 /// The expression with one part replaced by one of its own parts, or by a leaf.
 fn shorter(records: &[Record]) -> Vec<Expression> {
-    let tree = Tree::of(records);
     let mut list = Vec::new();
-    for at in 0..records.len() {
-        let part = tree.part(at);
-        let (end, start) = (at + 1, at + 1 - part.len());
-        let (top, below) = tree.top(at);
+    for end in 1..=records.len() {
+        let part = last_part(&records[..end]);
+        let start = end - part.len();
         let mut inner: Vec<Expression> =
-            below.iter().map(|child| tree.part(*child).to_vec()).collect();
+            children(part).into_iter().map(|child| child.to_vec()).collect();
         inner.extend((0..4).map(|number| vec![Record::Variable(number)]));
         inner.extend([Record::True, Record::False].map(|record| vec![record]));
-        if let Record::Binary(code) = top {
-            let other = |code| [&part[..part.len() - 1], &[Record::Binary(code)]].concat();
-            inner.extend((0..code).map(other));
+        if let Some((Record::Binary(code), rest)) = part.split_last() {
+            let other = |code| [rest, &[Record::Binary(code)]].concat();
+            inner.extend((0..*code).map(other));
         }
         for other in inner {
             list.push([&records[..start], &other, &records[end..]].concat());
         }
     }
     list
+}
+
+/// The part that ends with the last record.
+fn last_part(records: &[Record]) -> &[Record] {
+    let length =
+        |part: &[Record]| 1 + children(part).iter().map(|child| child.len()).sum::<usize>();
+    &records[records.len() - length(records)..]
 }
 
 /// The node without a variable that it does not use.

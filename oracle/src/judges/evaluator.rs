@@ -197,19 +197,10 @@ fn lacking(node: &Node, values: &[u64]) -> Option<usize> {
     (0..node.variables.len()).find(|number| !fitting(*number))
 }
 
-/// The first byte of each node: where a sheet without it and those behind it ends.
-pub fn places_of_nodes(sheet: &Sheet) -> Vec<usize> {
-    let mut before = encode(&Sheet { nodes: Vec::new(), ..sheet.clone() });
-    let place = |node: &Node| {
-        let start = before.bytes.len();
-        before.node(node);
-        start
-    };
-    sheet.nodes.iter().map(place).collect()
-}
-
+/// The first byte of a node: where a sheet without it and those behind it ends.
 pub fn place_of_node(sheet: &Sheet, number: usize) -> usize {
-    places_of_nodes(sheet)[number]
+    let before = Sheet { nodes: sheet.nodes[..number].to_vec(), ..sheet.clone() };
+    encode(&before).bytes.len()
 }
 
 pub type Answer = Result<bool, Refusal>;

@@ -3,6 +3,7 @@
 //! product keeps a slot for each instruction.
 
 use crate::answers::{Answer, Decided};
+use crate::judges::evaluator::place_of_node;
 use crate::judges::reader::{read, Refusal};
 use crate::sheets::syntax::{Instruction, Node, Sheet};
 use std::collections::BTreeMap;
@@ -27,9 +28,12 @@ pub fn due(bytes: &[u8], blocks: &[Answer], nodes: &[Answer], length: usize) -> 
         Ok(accepted) => accepted.sheet,
         Err(refusal) => return Due::Refused(refusal),
     };
-    for answer in nodes {
-        match *answer {
-            Answer::Refused { number, place } => return Due::Refused(Refusal { number, place }),
+    for (number, answer) in nodes.iter().enumerate() {
+        match answer {
+            Answer::Refused(refusal) => {
+                let place = place_of_node(&sheet, number);
+                return Due::Refused(Refusal { number: *refusal, place });
+            }
             Answer::NotRun => return Due::Open,
             Answer::Decided(_) | Answer::Undecided | Answer::NoBranch => {}
         }

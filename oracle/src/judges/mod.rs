@@ -9,6 +9,5 @@ pub mod node_runs;
 pub mod node_verdict;
 pub mod processor;
 pub mod substitution;
-pub mod tree;
 
 pub use lister::sheets::reader;

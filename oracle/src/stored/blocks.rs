@@ -112,7 +112,7 @@ fn answers(line: &str) -> Option<Vec<Answer>> {
     let known = |answer: &Answer| match answer {
         Answer::NoBranch | Answer::Undecided => true,
         Answer::Decided(Decided { reason, .. }) => *reason == FLAGS,
-        Answer::Refused { .. } | Answer::NotRun => false,
+        Answer::Refused(_) | Answer::NotRun => false,
     };
     blocks.iter().all(known).then_some(blocks)
 }

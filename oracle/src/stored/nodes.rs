@@ -6,7 +6,7 @@ use crate::cases::verdict_node;
 use crate::comparisons::frames::{ask_nodes, run};
 use crate::comparisons::nodes::{sheet_of, size};
 use crate::judges::node_verdict;
-use crate::sheets::syntax::{Node, Sheet};
+use crate::sheets::syntax::Node;
 use crate::stored::verdicts::{self, Case};
 use crate::stored::List;
 
@@ -38,8 +38,7 @@ fn generated() -> Vec<Case> {
     let short: Vec<Node> = nodes.filter(|node| size(node) <= MOST_BYTES).take(NODES).collect();
     let case = |(number, nodes): (usize, &[Node])| {
         let sheet = sheet_of(nodes);
-        let expected =
-            node_verdict::verdicts(&Sheet { nodes: nodes.to_vec(), ..Default::default() });
+        let expected = nodes.iter().map(node_verdict::verdict).collect();
         let name = format!("generated nodes, sheet {number}");
         Case { name, sheet, expected, given: None, sentences: None }
     };

@@ -177,7 +177,7 @@ fn stored_cases_have_every_refusal() {
     let numbers: BTreeSet<u8> =
         cases.iter().filter_map(|case| case.expected.err()).map(|refusal| refusal.number).collect();
     let all: Vec<u8> = numbers.into_iter().collect();
-    assert_eq!(all, [1, 2, 3, 4, 5, 6, 7, 8, 9, 13, 14, 15, 16, 18, 19]);
+    assert_eq!(all, [1, 2, 3, 4, 5, 6, 7, 8, 9, 13, 14, 15, 16]);
 }
 
 fn message(text: &str) -> String {

@@ -1,6 +1,5 @@
 mod evaluation;
 mod frames;
-mod limits;
 mod listing;
 mod nodes;
 mod sentences;

@@ -218,15 +218,13 @@ fn cuts_of_generated_sheets_are_refused_at_the_cut_field() {
 
 #[test]
 fn the_comparison_meets_every_number() {
-    let mut seen = [0; 20];
+    let mut seen = [0; 10];
     for index in 0..20_000 {
         let number =
             read(&damaged_sheet::sheet(1, index)).map_or_else(|refusal| refusal.number, |_| 0);
         seen[number as usize] += 1;
     }
-    let by_reading = seen[..10].iter().chain(&seen[18..]);
-    assert!(by_reading.clone().all(|count| *count > 20), "{seen:?}");
-    assert_eq!(by_reading.sum::<i32>(), 20_000, "{seen:?}");
+    assert!(seen.iter().all(|count| *count > 20), "{seen:?}");
     assert!(seen[0] > 8000, "{seen:?}");
 }
 

@@ -1,10 +1,11 @@
 //! Tests of what judges verdicts: generators, comparison, stored answers,
-//! substitution, assembler, processor.
+//! limits, assembler, processor.
 
 use crate::answers::{answers, Line};
 use crate::cases::block_sheet;
 use crate::comparisons::processor;
 use crate::judges::assembler::{encodings, jump};
+use crate::judges::node_limits;
 use crate::judges::processor::{Runner, Start, FIRST_JUMP, JUMPS, MISSING};
 use crate::judges::reader::read;
 use crate::judges::substitution::{substitute, Rule};
@@ -68,18 +69,11 @@ fn lines_are_taken_apart() {
     };
     assert_eq!(Line::parse("blocks a1 u n nodes v6 u"), line(&["a1", "u", "n"], &["v6", "u"]));
     assert_eq!(Line::parse("blocks nodes"), line(&[], &[]));
-    assert_eq!(Line::parse("blocks u nodes r10@6 -"), line(&["u"], &["r10@6", "-"]));
+    assert_eq!(Line::parse("blocks u nodes r10 -"), line(&["u"], &["r10", "-"]));
     assert_eq!(Line::parse("refused 1 at 0"), Line::Refused("refused 1 at 0".to_string()));
-    for unclear in [
-        "",
-        "no line",
-        "block a1",
-        "blocks nodes nodes",
-        "blocks a",
-        "blocks ax",
-        "nodes w1",
-        "nodes r10",
-    ] {
+    for unclear in
+        ["", "no line", "block a1", "blocks nodes nodes", "blocks a", "blocks ax", "nodes w1"]
+    {
         assert_eq!(Line::parse(unclear), Line::Unclear, "{unclear}");
     }
 }
@@ -131,6 +125,69 @@ fn the_first_difference_stops_a_value() {
     assert_eq!(condition_after(lines, Rule::Given), given);
     assert_eq!(substitute(&node(lines), Rule::Ours, 128).unwrap().not_held, [1]);
     assert_eq!(substitute(&node(lines), Rule::Given, 128).unwrap().not_held, [] as [usize; 0]);
+}
+
+#[test]
+fn long_expressions_are_refused_as_10() {
+    let doubled = |times: usize, condition: &str| {
+        let lines = "assign 0 (+ v0 v0)\n".repeat(times);
+        node_limits::refusal(&node(&format!("vars u32\n{lines}cond {condition}")))
+    };
+    // Lengths are 3, 7, 15, 31, 63, 127, 255.
+    assert_eq!(doubled(6, "v0"), None);
+    assert_eq!(doubled(6, "(cast u8 v0)"), None);
+    assert_eq!(doubled(6, "(cast u8 (cast u8 v0))"), Some(10));
+    assert_eq!(doubled(7, "true"), Some(10));
+}
+
+/// The sum of `count` variables from `first` on.
+fn sum(first: usize, count: usize) -> String {
+    let plus = "(+ ".repeat(count - 1);
+    let rest: String = (first + 1..first + count).map(|number| format!(" v{number})")).collect();
+    format!("{plus}v{first}{rest}")
+}
+
+#[test]
+fn large_polynomials_are_refused_as_11() {
+    let types = "u32 ".repeat(32);
+    let judged =
+        |condition: String| node_limits::refusal(&node(&format!("vars {types}\ncond {condition}")));
+    let product = |a: usize, b: usize| format!("(* {} {})", sum(0, a), sum(a, b));
+    assert_eq!(judged(format!("(== {} 2:4)", product(16, 16))), None);
+    assert_eq!(judged(format!("(== {} 1:4)", product(17, 15))), None);
+    // 257 terms, in a part and in the sum of the sides.
+    assert_eq!(judged(format!("(== (+ {} 1:4) 2:4)", product(16, 16))), Some(11));
+    assert_eq!(judged(format!("(!= {} 1:4)", product(16, 16))), Some(11));
+    assert_eq!(judged(format!("(< (+ {} 1:4) 2:4)", product(16, 16))), None);
+    // An or adds its sides to their product.
+    let either = format!("(| {} {})", sum(0, 16), sum(16, 16));
+    assert_eq!(judged(format!("(== {either} 0:4)")), Some(11));
+    // Half by half, and under a cast to bool by the step for exact sides.
+    let large = format!("(+ {} 1:4)", product(16, 16));
+    assert_eq!(judged(format!("(&& v0 (|| true (== {large} 0:4)))")), Some(11));
+    assert_eq!(judged(format!("(== (cast bool {large}) 0:4)")), None);
+    assert_eq!(judged(format!("(== (cast bool (& {large} 1:4)) 0:4)")), Some(11));
+    assert_eq!(judged(format!("(== (% {large} 3:4) 0:4)")), None);
+    assert_eq!(judged(format!("(== (<< {large} 1:4) 0:4)")), None);
+    assert_eq!(judged(format!("(== (<< {large} 0:4) 0:4)")), Some(11));
+}
+
+#[test]
+fn products_multiply_at_most_4096_terms() {
+    // Sixty-four terms: the products of 1 + v for six variables.
+    let factors = |first: usize, count: usize| {
+        let open = "(* ".repeat(count - 1);
+        let factor = |number: usize| format!("(+ 1:4 v{number})");
+        let rest: String = (1..count).map(|i| format!(" {})", factor(first + i))).collect();
+        format!("{open}{}{rest}", factor(first))
+    };
+    let judged = |condition: String| {
+        node_limits::refusal(&node(&format!("vars {}\ncond {condition}", "u32 ".repeat(32))))
+    };
+    let same = factors(0, 6);
+    assert_eq!(judged(format!("(== (* {same} {same}) 0:4)")), None);
+    let one_more = format!("(+ {same} v7)");
+    assert_eq!(judged(format!("(== (* {same} {one_more}) 0:4)")), Some(11));
 }
 
 fn bytes_of(words: &str) -> Vec<Vec<u8>> {

@@ -18,7 +18,7 @@ use Rattle.parity.proofs.Calls.{lent_two, two-length}
 use Rattle.decide.proofs.+decide.Lts-decide as decide-lts
 use Rattle.decide.proofs.+decide.Tie.{close}
 use Rattle.decide.proofs.+decide.{statement}
-use Rattle.decide.proofs.Judged.{decide_true, decide-false, decide-other, left-words, halves-within, decide-logic, decide-equality, decide-relation}
+use Rattle.decide.proofs.Judged.{decide_true, decide-false, decide-other, decide-logic, decide-equality, decide-relation}
 use Rattle.exact.proofs.Steps.{lent-whole}
 use Rattle.decide.proofs.decide.Kinds as decide-kinds
 use Rattle.decide.proofs.decide.Reads as decide
@@ -106,13 +106,10 @@ decide-decide-requires-2 t c κs =
     let two = decide-two t c.before.before.before.before.before in (omega (arith, at-start.requires.0, two.right_shorter), (two.right_wf, omega (arith, at-start.requires.1.1, two.right_shorter)))
 
 decide-halves-requires : (t : ℕ) → decide-lts.Need-halves-requires (K-decide t) (decide-at t) decide.Post
-decide-halves-requires t c κs =
-    let at-start = c.before.before.before.before.before.before.before.before.before.before.before.before.before.before in
-    let two = decide-two t c.before.before.before.before.before.before in
-    omega (arith, at-start.requires.1.1, halves-within at-start.args.rs.now (length at-start.args.rs.now - 2) c.before.before.before.before.before.before.last-start.result (root-place at-start.args.rs.now at-start.requires.1.0) two c.decide2.ensures)
+decide-halves-requires t c κs = search rules
 
 decide-returns-4 : (t : ℕ) → decide-lts.Need-returns-4 (K-decide t) (decide-at t) decide.Post
-decide-returns-4 t c = decide-logic (decide-two t c.before.before.before.before.before.before.before).tree c.before.before.before.before.argument.ensures c.before.before.before.if4.true (left-words c.before.before.before.before.before.before.before.before.before.before.before.before.before.before.before.args.rs.now (length c.before.before.before.before.before.before.before.before.before.before.before.before.before.before.before.args.rs.now - 2) c.before.before.before.before.before.before.before.last-start.result (root-place c.before.before.before.before.before.before.before.before.before.before.before.before.before.before.before.args.rs.now c.before.before.before.before.before.before.before.before.before.before.before.before.before.before.before.requires.1.0) (decide-two t c.before.before.before.before.before.before.before)) c.before.before.decide.ensures c.before.decide2.ensures c.halves.ensures
+decide-returns-4 t c = decide-logic (decide-two t c.before.before.before.before.before.before.before).tree c.before.before.before.before.argument.ensures c.before.before.before.if4.true c.before.before.decide.ensures c.before.decide2.ensures c.halves.ensures
 
 decide-equality-short-requires : (t : ℕ) → decide-lts.Need-equality-short-requires (K-decide t) (decide-at t) decide.Post
 decide-equality-short-requires t c κs =

@@ -4,7 +4,6 @@ use Prim.Native.Nat.{ℕ, ◌-◌, ◌/◌, ◌<◌}
 use mathlib.Core.Path.{refl, sym, ◌∙◌}
 use native.Mathlib.Omega.{arith}
 use lib.ListN.{length, get_or, take, length-take}
-use lib.Seq.{length-take-le}
 use borrow.Author.Rules.{rules}
 use borrow.Fn.Kinds.{In}
 use borrow.Fn.PlainCycle.{Measures, is, falls, and}
@@ -16,11 +15,10 @@ use Rattle.expr.proofs.argument.Reads as argument-reads
 use Rattle.expr.proofs.kind.Reads as kind-reads
 use Rattle.expr.proofs.last_start.Reads as last-start-reads
 use Rattle.expr.specs.Tree.{tree_of}
-use Rattle.parity.proofs.Calls.{two-length}
 use Rattle.exact.proofs.+exact.Lts-exact as exact-lts
 use Rattle.exact.proofs.+exact.Tie.{close}
 use Rattle.exact.proofs.+exact.{statement}
-use Rattle.exact.proofs.Steps.{buffers-lent, right-bit, exact-constant, exact-cast, exact-shape, exact-even, exact-other}
+use Rattle.exact.proofs.Steps.{buffers-lent, exact-constant, exact-cast, exact-shape, exact-even, exact-other}
 use Rattle.exact.proofs.cast_value.Reads as cast-value-reads
 use Rattle.exact.proofs.even_value.Reads as even-value-reads
 use Rattle.exact.proofs.exact.Kinds as exact-kinds
@@ -57,17 +55,17 @@ exact-shared-slice-read-tag t c = omega (arith, wf-two c.before.before.before.be
 exact-kind-requires : (t : ℕ) → exact-lts.Need-kind-requires (K-exact t) (exact-at t) exact.Post
 exact-kind-requires t c κs = search rules
 
-exact-add-t16 : (t : ℕ) → exact-lts.Need-overflow-add-t16 (K-exact t) (exact-at t) exact.Post
-exact-add-t16 t c = search rules
+exact-add-t15 : (t : ℕ) → exact-lts.Need-overflow-add-t15 (K-exact t) (exact-at t) exact.Post
+exact-add-t15 t c = search rules
 
-exact-mul-t17 : (t : ℕ) → exact-lts.Need-overflow-mul-t17 (K-exact t) (exact-at t) exact.Post
-exact-mul-t17 t c = search rules
+exact-mul-t16 : (t : ℕ) → exact-lts.Need-overflow-mul-t16 (K-exact t) (exact-at t) exact.Post
+exact-mul-t16 t c = search rules
 
-exact-shared-slice-read-t19 : (t : ℕ) → exact-lts.Need-shared-slice-read-t19 (K-exact t) (exact-at t) exact.Post
-exact-shared-slice-read-t19 t c = omega (arith, wf-two c.before.before.before.before.before.before.before.before.args.rs.now c.before.before.before.before.before.before.before.before.requires.1.0)
+exact-shared-slice-read-t18 : (t : ℕ) → exact-lts.Need-shared-slice-read-t18 (K-exact t) (exact-at t) exact.Post
+exact-shared-slice-read-t18 t c = omega (arith, wf-two c.before.before.before.before.before.before.before.before.args.rs.now c.before.before.before.before.before.before.before.before.requires.1.0)
 
 exact-returns : (t : ℕ) → exact-lts.Need-returns (K-exact t) (exact-at t) exact.Post
-exact-returns t c = exact-constant c.before.before.before.before.before.before.before.before.args.at (root-kind c.before.before.before.before.before.before.before.before.args.rs.now (length c.before.before.before.before.before.before.before.before.args.rs.now - 2) c.before.before.before.before.before.before.before.before.requires.1.0 (root-place c.before.before.before.before.before.before.before.before.args.rs.now c.before.before.before.before.before.before.before.before.requires.1.0) 1 (sym c.before.before.kind.ensures ∙ c.before.if1.true))
+exact-returns t c = exact-constant (root-kind c.before.before.before.before.before.before.before.before.args.rs.now (length c.before.before.before.before.before.before.before.before.args.rs.now - 2) c.before.before.before.before.before.before.before.before.requires.1.0 (root-place c.before.before.before.before.before.before.before.before.args.rs.now c.before.before.before.before.before.before.before.before.requires.1.0) 1 (sym c.before.before.kind.ensures ∙ c.before.if1.true))
 
 exact-slice-aggregate-exact : (t : ℕ) → exact-lts.Need-slice-aggregate-exact (K-exact t) (exact-at t) exact.Post
 exact-slice-aggregate-exact t c = omega (arith, length-take (length c.before.before.before.before.before.before.before.before.before.args.rs.now - 2) c.before.before.before.before.before.before.before.before.before.args.rs.now)
@@ -88,10 +86,10 @@ exact-same-length-3 : (t : ℕ) → exact-lts.Need-same-length-3 (K-exact t) (ex
 exact-same-length-3 t c = search rules
 
 exact-returns-2 : (t : ℕ) → exact-lts.Need-returns-2 (K-exact t) (exact-at t) exact.Post
-exact-returns-2 t c = exact-cast c.before.before.before.before.before.before.before.before.before.before.before.before.before.before.before.before.before.before.before.before.args.at (cast-child c.before.before.before.before.before.before.before.before.before.before.before.before.before.before.before.before.before.before.before.before.args.rs.now (length c.before.before.before.before.before.before.before.before.before.before.before.before.before.before.before.before.before.before.before.before.args.rs.now - 2) c.before.before.before.before.before.before.before.before.before.before.before.before.before.before.before.before.before.before.before.before.requires.1.0 (root-place c.before.before.before.before.before.before.before.before.before.before.before.before.before.before.before.before.before.before.before.before.args.rs.now c.before.before.before.before.before.before.before.before.before.before.before.before.before.before.before.before.before.before.before.before.requires.1.0) (sym c.before.before.before.before.before.before.before.before.before.before.before.before.before.before.kind.ensures ∙ c.before.before.before.before.before.before.before.before.before.before.before.before.if2.true)).tree c.before.before.before.before.before.before.before.exact.ensures c.cast-value.ensures
+exact-returns-2 t c = exact-cast (cast-child c.before.before.before.before.before.before.before.before.before.before.before.before.before.before.before.before.before.before.before.before.args.rs.now (length c.before.before.before.before.before.before.before.before.before.before.before.before.before.before.before.before.before.before.before.before.args.rs.now - 2) c.before.before.before.before.before.before.before.before.before.before.before.before.before.before.before.before.before.before.before.before.requires.1.0 (root-place c.before.before.before.before.before.before.before.before.before.before.before.before.before.before.before.before.before.before.before.before.args.rs.now c.before.before.before.before.before.before.before.before.before.before.before.before.before.before.before.before.before.before.before.before.requires.1.0) (sym c.before.before.before.before.before.before.before.before.before.before.before.before.before.before.kind.ensures ∙ c.before.before.before.before.before.before.before.before.before.before.before.before.if2.true)).tree c.before.before.before.before.before.before.before.exact.ensures c.cast-value.ensures
 
 exact-returns-3 : (t : ℕ) → exact-lts.Need-returns-3 (K-exact t) (exact-at t) exact.Post
-exact-returns-3 t c = (exact-other c.before.before.before.before.before.before.before.before.before.args.at c.before.before.before.before.before.before.before.before.before.args.rs.now (length c.before.before.before.before.before.before.before.before.before.args.rs.now - 2) c.before.before.before.before.before.before.before.before.before.requires.1.0 (root-place c.before.before.before.before.before.before.before.before.before.args.rs.now c.before.before.before.before.before.before.before.before.before.requires.1.0) (λ k. c.before.before.if1.false (c.before.before.before.kind.ensures ∙ k)) (λ k. c.before.if2.false (c.before.before.before.kind.ensures ∙ k)) (λ k. c.if3.true (c.before.before.before.kind.ensures ∙ k))).0
+exact-returns-3 t c = (exact-other c.before.before.before.before.before.before.before.before.before.args.rs.now (length c.before.before.before.before.before.before.before.before.before.args.rs.now - 2) c.before.before.before.before.before.before.before.before.before.requires.1.0 (root-place c.before.before.before.before.before.before.before.before.before.args.rs.now c.before.before.before.before.before.before.before.before.before.requires.1.0) (λ k. c.before.before.if1.false (c.before.before.before.kind.ensures ∙ k)) (λ k. c.before.if2.false (c.before.before.before.kind.ensures ∙ k)) (λ k. c.if3.true (c.before.before.before.kind.ensures ∙ k))).0
 
 exact-slice-aggregate-last-start : (t : ℕ) → exact-lts.Need-slice-aggregate-last-start (K-exact t) (exact-at t) exact.Post
 exact-slice-aggregate-last-start t c = omega (arith, length-take (length c.before.before.before.before.before.before.before.before.before.before.args.rs.now - 2) c.before.before.before.before.before.before.before.before.before.before.args.rs.now)
@@ -129,11 +127,8 @@ exact-low-bit-requires t c κs = ((exact_two t c.before.before.before.before.bef
 exact-enum-told-2 : (t : ℕ) → exact-lts.Need-enum-told-2 (K-exact t) (exact-at t) exact.Post
 exact-enum-told-2 t c = search rules
 
-exact-add-low-bit : (t : ℕ) → exact-lts.Need-overflow-add-low-bit (K-exact t) (exact-at t) exact.Post
-exact-add-low-bit t c = omega (arith, c.before.before.before.before.before.before.before.before.before.before.before.before.before.before.before.before.before.requires.1.1.0, (exact_two t c.before.before.before.before.before.before).within)
-
 exact-low-bit-requires-2 : (t : ℕ) → exact-lts.Need-low-bit-requires-2 (K-exact t) (exact-at t) exact.Post
-exact-low-bit-requires-2 t c κs = ((exact_two t c.before.before.before.before.before.before.before.before.before).right_wf, (omega (arith, c.before.before.before.before.before.before.before.before.before.before.before.before.before.before.before.before.before.before.before.before.requires.1.1.0, two-length c.before.before.before.before.before.before.before.before.before.before.before.before.before.before.before.before.before.before.before.before.args.rs.now (length c.before.before.before.before.before.before.before.before.before.before.before.before.before.before.before.before.before.before.before.before.args.rs.now - 2) c.before.before.before.before.before.before.before.before.before.last-start.result (root-place c.before.before.before.before.before.before.before.before.before.before.before.before.before.before.before.before.before.before.before.before.args.rs.now c.before.before.before.before.before.before.before.before.before.before.before.before.before.before.before.before.before.before.before.before.requires.1.0) (exact_two t c.before.before.before.before.before.before.before.before.before), length-take-le c.before.before.before.before.before.before.before.before.before.last-start.result c.before.before.before.before.before.before.before.before.before.before.before.before.before.before.before.before.before.before.before.before.args.rs.now (omega (arith, (exact_two t c.before.before.before.before.before.before.before.before.before).within))), buffers-lent c.before.before.before.before.before.before.before.before.before.before.before.before.before.before.before.before.before.before.before.before.requires.1.1.1 (omega (arith, (exact_two t c.before.before.before.before.before.before.before.before.before).right_shorter)) refl refl refl))
+exact-low-bit-requires-2 t c κs = ((exact_two t c.before.before.before.before.before.before.before.before.before).right_wf, (omega (arith, c.before.before.before.before.before.before.before.before.before.before.before.before.before.before.before.before.before.before.before.before.requires.1.1.0, (exact_two t c.before.before.before.before.before.before.before.before.before).right_shorter), buffers-lent c.before.before.before.before.before.before.before.before.before.before.before.before.before.before.before.before.before.before.before.before.requires.1.1.1 (omega (arith, (exact_two t c.before.before.before.before.before.before.before.before.before).right_shorter)) refl refl refl))
 
 exact-enum-told-3 : (t : ℕ) → exact-lts.Need-enum-told-3 (K-exact t) (exact-at t) exact.Post
 exact-enum-told-3 t c = search rules
@@ -160,7 +155,7 @@ exact-same-length-6 : (t : ℕ) → exact-lts.Need-same-length-6 (K-exact t) (ex
 exact-same-length-6 t c = search rules
 
 exact-returns-4 : (t : ℕ) → exact-lts.Need-returns-4 (K-exact t) (exact-at t) exact.Post
-exact-returns-4 t c = c.before.before.before.before.before.before.low_bit.ensures ∙ exact-shape c.before.before.before.before.before.before.before.before.before.before.before.before.before.before.before.before.before.before.before.before.before.before.before.before.before.before.before.args.at (exact_two t c.before.before.before.before.before.before.before.before.before.before.before.before.before.before.before.before).tree c.before.before.before.before.before.before.before.before.before.before.before.before.shape_of.ensures c.before.before.before.before.before.before.before.before.before.before.before.before.before.argument.ensures c.before.before.before.before.before.before.before.before.before.before.enum_told.given.1
+exact-returns-4 t c = c.before.before.before.before.before.before.low_bit.ensures ∙ exact-shape (exact_two t c.before.before.before.before.before.before.before.before.before.before.before.before.before.before.before.before).tree c.before.before.before.before.before.before.before.before.before.before.before.before.shape_of.ensures c.before.before.before.before.before.before.before.before.before.before.before.before.before.argument.ensures c.before.before.before.before.before.before.before.before.before.before.enum_told.given.1
 
 exact-same-length-7 : (t : ℕ) → exact-lts.Need-same-length-7 (K-exact t) (exact-at t) exact.Post
 exact-same-length-7 t c = search rules
@@ -172,7 +167,7 @@ exact-same-length-9 : (t : ℕ) → exact-lts.Need-same-length-9 (K-exact t) (ex
 exact-same-length-9 t c = search rules
 
 exact-returns-5 : (t : ℕ) → exact-lts.Need-returns-5 (K-exact t) (exact-at t) exact.Post
-exact-returns-5 t c = right-bit c.before.before.before.before.before.before.before.before.before.before.before.before.before.before.before.before.before.before.before.before.before.before.before.before.before.before.before.args.at (take c.before.before.before.before.before.before.before.before.before.before.before.before.before.before.before.before.last-start.result c.before.before.before.before.before.before.before.before.before.before.before.before.before.before.before.before.before.before.before.before.before.before.before.before.before.before.before.args.rs.now) _ c.before.before.before.before.before.before.before.before.before.before.before.before.before.before.before.before.last-start.result (exact_two t c.before.before.before.before.before.before.before.before.before.before.before.before.before.before.before.before).left_wf (length-take-le c.before.before.before.before.before.before.before.before.before.before.before.before.before.before.before.before.last-start.result c.before.before.before.before.before.before.before.before.before.before.before.before.before.before.before.before.before.before.before.before.before.before.before.before.before.before.before.args.rs.now (omega (arith, (exact_two t c.before.before.before.before.before.before.before.before.before.before.before.before.before.before.before.before).within))) c.before.before.before.before.before.before.low-bit2.ensures ∙ exact-shape c.before.before.before.before.before.before.before.before.before.before.before.before.before.before.before.before.before.before.before.before.before.before.before.before.before.before.before.args.at (exact_two t c.before.before.before.before.before.before.before.before.before.before.before.before.before.before.before.before).tree c.before.before.before.before.before.before.before.before.before.before.before.before.shape_of.ensures c.before.before.before.before.before.before.before.before.before.before.before.before.before.argument.ensures c.before.before.before.before.before.before.before.before.before.before.enum-told2.given.1
+exact-returns-5 t c = c.before.before.before.before.before.before.low-bit2.ensures ∙ exact-shape (exact_two t c.before.before.before.before.before.before.before.before.before.before.before.before.before.before.before.before).tree c.before.before.before.before.before.before.before.before.before.before.before.before.shape_of.ensures c.before.before.before.before.before.before.before.before.before.before.before.before.before.argument.ensures c.before.before.before.before.before.before.before.before.before.before.enum-told2.given.1
 
 exact-same-length-10 : (t : ℕ) → exact-lts.Need-same-length-10 (K-exact t) (exact-at t) exact.Post
 exact-same-length-10 t c = search rules
@@ -184,13 +179,13 @@ exact-same-length-12 : (t : ℕ) → exact-lts.Need-same-length-12 (K-exact t) (
 exact-same-length-12 t c = search rules
 
 exact-returns-6 : (t : ℕ) → exact-lts.Need-returns-6 (K-exact t) (exact-at t) exact.Post
-exact-returns-6 t c = exact-even c.before.before.before.before.before.before.before.before.before.before.before.before.before.before.before.before.before.before.before.before.before.before.before.before.before.before.before.before.args.at (tree_of (take c.before.before.before.before.before.before.before.before.before.before.before.before.before.before.before.before.before.last-start.result c.before.before.before.before.before.before.before.before.before.before.before.before.before.before.before.before.before.before.before.before.before.before.before.before.before.before.before.before.args.rs.now)) c.before.before.before.before.before.before.before.low-bit3.ensures c.even-value.ensures ∙ exact-shape c.before.before.before.before.before.before.before.before.before.before.before.before.before.before.before.before.before.before.before.before.before.before.before.before.before.before.before.before.args.at (exact_two t c.before.before.before.before.before.before.before.before.before.before.before.before.before.before.before.before.before).tree c.before.before.before.before.before.before.before.before.before.before.before.before.before.shape_of.ensures c.before.before.before.before.before.before.before.before.before.before.before.before.before.before.argument.ensures c.before.before.before.before.before.before.before.before.before.before.before.enum-told3.given.1
+exact-returns-6 t c = exact-even (tree_of (take c.before.before.before.before.before.before.before.before.before.before.before.before.before.before.before.before.before.last-start.result c.before.before.before.before.before.before.before.before.before.before.before.before.before.before.before.before.before.before.before.before.before.before.before.before.before.before.before.before.args.rs.now)) c.before.before.before.before.before.before.before.low-bit3.ensures c.even-value.ensures ∙ exact-shape (exact_two t c.before.before.before.before.before.before.before.before.before.before.before.before.before.before.before.before.before).tree c.before.before.before.before.before.before.before.before.before.before.before.before.before.shape_of.ensures c.before.before.before.before.before.before.before.before.before.before.before.before.before.before.argument.ensures c.before.before.before.before.before.before.before.before.before.before.before.enum-told3.given.1
 
 exact-returns-7 : (t : ℕ) → exact-lts.Need-returns-7 (K-exact t) (exact-at t) exact.Post
-exact-returns-7 t c = exact-shape c.before.before.before.before.before.before.before.before.before.before.before.before.before.before.before.before.before.args.at (exact_two t c.before.before.before.before.before.before).tree c.before.before.shape_of.ensures c.before.before.before.argument.ensures c.enum-told4.given.1
+exact-returns-7 t c = exact-shape (exact_two t c.before.before.before.before.before.before).tree c.before.before.shape_of.ensures c.before.before.before.argument.ensures c.enum-told4.given.1
 
 exact-returns-8 : (t : ℕ) → exact-lts.Need-returns-8 (K-exact t) (exact-at t) exact.Post
-exact-returns-8 t c = exact-shape c.before.before.before.before.before.before.before.before.before.before.before.before.before.before.before.before.before.args.at (exact_two t c.before.before.before.before.before.before).tree c.before.before.shape_of.ensures c.before.before.before.argument.ensures c.enum-told5.given.1
+exact-returns-8 t c = exact-shape (exact_two t c.before.before.before.before.before.before).tree c.before.before.shape_of.ensures c.before.before.before.argument.ensures c.enum-told5.given.1
 
 pub +exact-spec : {M : Type 1} → statement M
 +exact-spec = close μ-exact λ t. exact-lts.spec (K-exact t) (exact-at t) exact.Post
@@ -198,9 +193,9 @@ pub +exact-spec : {M : Type 1} → statement M
     (exact-mul-tag t)
     (exact-shared-slice-read-tag t)
     (exact-kind-requires t)
-    (exact-add-t16 t)
-    (exact-mul-t17 t)
-    (exact-shared-slice-read-t19 t)
+    (exact-add-t15 t)
+    (exact-mul-t16 t)
+    (exact-shared-slice-read-t18 t)
     (exact-returns t)
     (exact-slice-aggregate-exact t)
     (exact-exact-requires t)
@@ -222,7 +217,6 @@ pub +exact-spec : {M : Type 1} → statement M
     (exact-enum-told t)
     (exact-low-bit-requires t)
     (exact-enum-told-2 t)
-    (exact-add-low-bit t)
     (exact-low-bit-requires-2 t)
     (exact-enum-told-3 t)
     (exact-low-bit-requires-3 t)

@@ -64,7 +64,7 @@ written-returns-2 : (t : ℕ) → written-lts.Need-returns-2 (K-written t) (writ
 written-returns-2 t c = c.written.ensures ∙ written-cast (cast-child c.before.before.before.before.before.before.before.args.rs.now (length c.before.before.before.before.before.before.before.args.rs.now - 2) c.before.before.before.before.before.before.before.requires.1.0 (root-place c.before.before.before.before.before.before.before.args.rs.now c.before.before.before.before.before.before.before.requires.1.0) (sym c.before.before.before.before.kind.ensures ∙ c.before.before.if2.true)).tree
 
 written-returns-3 : (t : ℕ) → written-lts.Need-returns-3 (K-written t) (written_at t) written.Post
-written-returns-3 t c = (exact-other 0 c.before.before.before.before.before.before.args.rs.now (length c.before.before.before.before.before.before.args.rs.now - 2) c.before.before.before.before.before.before.requires.1.0 (root-place c.before.before.before.before.before.before.args.rs.now c.before.before.before.before.before.before.requires.1.0) (λ k. c.before.before.if1.false (c.before.before.before.kind.ensures ∙ k)) (λ k. c.before.if2.false (c.before.before.before.kind.ensures ∙ k)) (λ k. c.if3.true (c.before.before.before.kind.ensures ∙ k))).1
+written-returns-3 t c = (exact-other c.before.before.before.before.before.before.args.rs.now (length c.before.before.before.before.before.before.args.rs.now - 2) c.before.before.before.before.before.before.requires.1.0 (root-place c.before.before.before.before.before.before.args.rs.now c.before.before.before.before.before.before.requires.1.0) (λ k. c.before.before.if1.false (c.before.before.before.kind.ensures ∙ k)) (λ k. c.before.if2.false (c.before.before.before.kind.ensures ∙ k)) (λ k. c.if3.true (c.before.before.before.kind.ensures ∙ k))).1
 
 written-slice-aggregate-last-start : (t : ℕ) → written-lts.Need-slice-aggregate-last-start (K-written t) (written_at t) written.Post
 written-slice-aggregate-last-start t c = omega (arith, length-take (length c.before.before.before.before.before.before.before.args.rs.now - 2) c.before.before.before.before.before.before.before.args.rs.now)

@@ -11,8 +11,8 @@ enum-known-v c = search rules
 enum_told : tie.Need-enum-told
 enum_told c = search rules
 
-enum-known-v-2 : tie.Need-enum-known-v-2
-enum-known-v-2 c = search rules
+enum-told-2 : tie.Need-enum-told-2
+enum-told-2 c = search rules
 
 returns : tie.Need-returns
 returns c = search rules
@@ -24,8 +24,8 @@ returns-3 : tie.Need-returns-3
 returns-3 c = search rules
 
 returns-4 : tie.Need-returns-4
-returns-4 c = rw c.before.v2.given.1
+returns-4 c = search rules
 
 pub even-value-spec : {M : Type 1} → statement M
 even-value-spec =
-    tie.close (tie.spec enum-known-v enum_told enum-known-v-2 returns returns-2 returns-3 returns-4)
+    tie.close (tie.spec enum-known-v enum_told enum-told-2 returns returns-2 returns-3 returns-4)

@@ -1,15 +1,13 @@
 -- `exact::low_bit` meets its contract: by the count of terms.
 -- Assumes nothing.
-use native.Mathlib.Omega.{arith}
 use borrow.Author.Rules.{rules}
 use Rattle.expr.specs.Tree.{tree_of}
-use Rattle.parity.proofs.Calls.{words_size}
-use Rattle.exact.proofs.Steps.{lent-whole, low-none, low-one, low-open, low-within, low-past}
+use Rattle.exact.proofs.Steps.{lent-whole, low-none, low-one, low-open, low-past}
 use Rattle.exact.proofs.low_bit.Statement.{statement}
 use Rattle.exact.proofs.low_bit.Tie as tie
 
 parity-requires : tie.Need-parity-requires
-parity-requires c κs = (lent-whole c.before.before.before.before.before.before.before.requires.0 (omega (arith, c.before.before.before.before.before.before.before.requires.1.0)) c.before.before.before.before.before.before.before.requires.1.1.table c.before.before.before.before.before.before.before.requires.1.1.space, c.before.before.before.before.before.before.before.requires.1.1.products)
+parity-requires c κs = (lent-whole c.before.before.before.before.before.before.before.requires.0 c.before.before.before.before.before.before.before.requires.1.0 c.before.before.before.before.before.before.before.requires.1.1.table c.before.before.before.before.before.before.before.requires.1.1.space, c.before.before.before.before.before.before.before.requires.1.1.products)
 
 enum-known-count : tie.Need-enum-known-count
 enum-known-count c = search rules
@@ -24,7 +22,7 @@ same-length-3 : tie.Need-same-length-3
 same-length-3 c = search rules
 
 returns : tie.Need-returns
-returns c = low-none c.before.before.before.before.before.before.before.before.before.before.before.before.before.before.before.before.before.before.args.at (tree_of c.before.before.before.before.before.before.before.before.before.before.before.before.before.before.before.before.before.before.args.part.now) c.before.before.before.before.before.before.before.before.before.before.parity.ensures c.before.before.count.given.1 c.if1.true
+returns c = low-none (tree_of c.before.before.before.before.before.before.before.before.before.before.before.before.before.before.before.before.before.before.args.part.now) c.before.before.before.before.before.before.before.before.before.before.parity.ensures c.before.before.count.given.1 c.if1.true
 
 slice-read-if2 : tie.Need-slice-read-if2
 slice-read-if2 c = search rules
@@ -39,13 +37,10 @@ same-length-6 : tie.Need-same-length-6
 same-length-6 c = search rules
 
 returns-2 : tie.Need-returns-2
-returns-2 c = low-one c.before.before.before.before.before.before.before.before.before.before.before.before.before.before.before.before.before.before.before.before.args.at (tree_of c.before.before.before.before.before.before.before.before.before.before.before.before.before.before.before.before.before.before.before.before.args.part.now) c.before.before.before.before.before.before.before.before.before.before.before.before.parity.ensures c.before.before.before.before.count.given.1 c.before.before.if1.false c.if2.true
+returns-2 c = low-one (tree_of c.before.before.before.before.before.before.before.before.before.before.before.before.before.before.before.before.before.before.before.before.args.part.now) c.before.before.before.before.before.before.before.before.before.before.before.before.parity.ensures c.before.before.before.before.count.given.1 c.before.before.if1.false c.if2.true
 
-enum-known-word : tie.Need-enum-known-word
-enum-known-word c = search rules
-
-add-t21 : tie.Need-overflow-add-t21
-add-t21 c = omega (arith, c.before.before.before.before.before.before.before.before.before.before.before.before.before.before.before.before.before.requires.1.0, words_size c.before.before.before.before.before.before.before.before.before.before.before.before.before.before.before.before.before.args.part.now c.before.before.before.before.before.before.before.before.before.before.before.before.before.before.before.before.before.requires.0, low-within 0 (tree_of c.before.before.before.before.before.before.before.before.before.before.before.before.before.before.before.before.before.args.part.now) c.before.before.before.before.before.before.before.before.before.parity.ensures c.before.word.given.1)
+enum_told : tie.Need-enum-told
+enum_told c = search rules
 
 same-length-7 : tie.Need-same-length-7
 same-length-7 c = search rules
@@ -57,7 +52,7 @@ same-length-9 : tie.Need-same-length-9
 same-length-9 c = search rules
 
 returns-3 : tie.Need-returns-3
-returns-3 c = low-open c.before.before.before.before.before.before.before.before.before.before.before.before.before.before.before.before.before.before.before.before.args.at (tree_of c.before.before.before.before.before.before.before.before.before.before.before.before.before.before.before.before.before.before.before.before.args.part.now) c.before.before.before.before.before.before.before.before.before.before.before.before.parity.ensures c.before.before.before.before.count.given.1 c.before.before.if1.false c.if2.false
+returns-3 c = low-open (tree_of c.before.before.before.before.before.before.before.before.before.before.before.before.before.before.before.before.before.before.before.before.args.part.now) c.before.before.before.before.before.before.before.before.before.before.before.before.parity.ensures c.before.before.before.before.count.given.1 c.before.before.if1.false c.if2.false
 
 same-length-10 : tie.Need-same-length-10
 same-length-10 c = search rules
@@ -69,7 +64,7 @@ same-length-12 : tie.Need-same-length-12
 same-length-12 c = search rules
 
 returns-4 : tie.Need-returns-4
-returns-4 c = low-past c.before.before.before.before.before.before.before.before.before.before.before.before.before.before.before.before.before.args.at (tree_of c.before.before.before.before.before.before.before.before.before.before.before.before.before.before.before.before.before.args.part.now) c.before.before.before.before.before.before.before.before.before.parity.ensures c.before.word.given.1
+returns-4 c = low-past (tree_of c.before.before.before.before.before.before.before.before.before.before.before.before.before.before.before.before.args.part.now) c.before.before.before.before.before.before.before.before.parity.ensures c.enum_told.given.1
 
 pub low-bit-spec : {M : Type 1} → statement M
 low-bit-spec =
@@ -86,8 +81,7 @@ low-bit-spec =
     same-length-5
     same-length-6
     returns-2
-    enum-known-word
-    add-t21
+    enum_told
     same-length-7
     same-length-8
     same-length-9

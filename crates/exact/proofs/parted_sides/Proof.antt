@@ -1,7 +1,6 @@
 -- `exact::parted_sides` meets its contract: the sum of the sides is 1, or not.
 -- Assumes nothing.
-use mathlib.Core.Bool.{Bool}
-use mathlib.Core.Option.{none}
+use mathlib.Core.Bool.{Bool, true}
 use mathlib.Core.Path.{ap, sym, ◌∙◌}
 use borrow.Author.Rules.{rules}
 use Rattle.expr.specs.Tree.{tree_of}
@@ -29,10 +28,10 @@ same-length-3 : tie.Need-same-length-3
 same-length-3 c = search rules
 
 returns : tie.Need-returns
-returns c = ap (λ (b : Bool). parted none b) (sym c.if1.true) ∙ parted-is (tree_of c.before.before.before.before.before.before.before.before.before.before.before.before.before.before.before.before.before.before.before.before.before.args.left.now) (tree_of c.before.before.before.before.before.before.before.before.before.before.before.before.before.before.before.before.before.before.before.before.before.args.right.now) c.before.before.before.before.before.before.before.before.before.before.before.sides.ensures c.before.before.before.count.given.1
+returns c = ap (λ (b : Bool). parted true b) (sym c.if1.true) ∙ parted-is (tree_of c.before.before.before.before.before.before.before.before.before.before.before.before.before.before.before.before.before.before.before.before.before.args.left.now) (tree_of c.before.before.before.before.before.before.before.before.before.before.before.before.before.before.before.before.before.before.before.before.before.args.right.now) c.before.before.before.before.before.before.before.before.before.before.before.sides.ensures c.before.before.before.count.given.1
 
-enum-known-word : tie.Need-enum-known-word
-enum-known-word c = search rules
+enum_told : tie.Need-enum-told
+enum_told c = search rules
 
 same-length-4 : tie.Need-same-length-4
 same-length-4 c = search rules
@@ -44,7 +43,7 @@ same-length-6 : tie.Need-same-length-6
 same-length-6 c = search rules
 
 returns-2 : tie.Need-returns-2
-returns-2 c = ap (λ (b : Bool). parted none b) (sym c.if1.false) ∙ parted-is (tree_of c.before.before.before.before.before.before.before.before.before.before.before.before.before.before.before.before.before.before.before.before.before.args.left.now) (tree_of c.before.before.before.before.before.before.before.before.before.before.before.before.before.before.before.before.before.before.before.before.before.args.right.now) c.before.before.before.before.before.before.before.before.before.before.before.sides.ensures c.before.before.before.count.given.1
+returns-2 c = ap (λ (b : Bool). parted true b) (sym c.if1.false) ∙ parted-is (tree_of c.before.before.before.before.before.before.before.before.before.before.before.before.before.before.before.before.before.before.before.before.before.args.left.now) (tree_of c.before.before.before.before.before.before.before.before.before.before.before.before.before.before.before.before.before.before.before.before.before.args.right.now) c.before.before.before.before.before.before.before.before.before.before.before.sides.ensures c.before.before.before.count.given.1
 
 same-length-7 : tie.Need-same-length-7
 same-length-7 c = search rules
@@ -56,7 +55,7 @@ same-length-9 : tie.Need-same-length-9
 same-length-9 c = search rules
 
 returns-3 : tie.Need-returns-3
-returns-3 c = parted-past (tree_of c.before.before.before.before.before.before.before.before.before.before.before.before.before.before.before.before.before.before.before.args.left.now) (tree_of c.before.before.before.before.before.before.before.before.before.before.before.before.before.before.before.before.before.before.before.args.right.now) c.before.before.before.before.before.before.before.before.before.sides.ensures c.before.word.given.1
+returns-3 c = parted-past (tree_of c.before.before.before.before.before.before.before.before.before.before.before.before.before.before.before.before.before.before.args.left.now) (tree_of c.before.before.before.before.before.before.before.before.before.before.before.before.before.before.before.before.before.before.args.right.now) c.before.before.before.before.before.before.before.before.sides.ensures c.enum_told.given.1
 
 pub parted-sides-spec : {M : Type 1} → statement M
 parted-sides-spec =
@@ -69,7 +68,7 @@ parted-sides-spec =
     same-length-2
     same-length-3
     returns
-    enum-known-word
+    enum_told
     same-length-4
     same-length-5
     same-length-6

@@ -17,7 +17,7 @@ use Rattle.parity.proofs.+parity_sides.Lts-parity as parity-lts
 use Rattle.parity.proofs.+parity_sides.Lts-sides as sides-lts
 use Rattle.parity.proofs.+parity_sides.Tie.{close}
 use Rattle.parity.proofs.+parity_sides.{statement}
-use Rattle.parity.proofs.Calls.{lent-front, lent_two, two-length, given-same, given-as, low-constant, low-bool, low-cast, low-binary, low-pair, low-atom, two-left, left-few, left-within, two-right, right-past, two-sides, two-given, left-past}
+use Rattle.parity.proofs.Calls.{lent-front, lent_two, two-length, given-same, given-as, given-none, low-constant, low-bool, low-cast, low-binary, low-pair, low-atom, two-left, left-few, left-within, two-right, right-none, two-sides, two-given, left-none}
 use Rattle.parity.proofs.Rooms.{products-lent}
 use Rattle.parity.proofs.atom.Reads as atom-reads
 use Rattle.parity.proofs.combined.Reads as combined-reads
@@ -81,7 +81,7 @@ parity-same-length : (t : ℕ) → parity-lts.Need-same-length (K-parity t) (par
 parity-same-length t c = search rules
 
 parity-returns : (t : ℕ) → parity-lts.Need-returns (K-parity t) (parity-at t) parity.Post
-parity-returns t c = given-as (low-constant (atoms_at c.before.before.before.before.before.before.before.before.before.before.before.before.before.args.whole.now (take c.before.before.before.before.before.before.before.before.before.before.before.before.before.args.count c.before.before.before.before.before.before.before.before.before.before.before.before.before.args.atoms.now)) (root-kind c.before.before.before.before.before.before.before.before.before.before.before.before.before.args.part.now (length c.before.before.before.before.before.before.before.before.before.before.before.before.before.args.part.now - 2) c.before.before.before.before.before.before.before.before.before.before.before.before.before.requires.1.0.wf (root-place c.before.before.before.before.before.before.before.before.before.before.before.before.before.args.part.now c.before.before.before.before.before.before.before.before.before.before.before.before.before.requires.1.0.wf) 1 (sym c.before.before.before.before.before.before.kind.ensures ∙ c.before.before.before.before.before.if1.true))) (given-same c.before.before.before.before.before.before.before.before.before.before.before.before.before.requires.1.0 _ refl _ _ c.before.before.constant-poly.ensures)
+parity-returns t c = given-as (low-constant (atoms_at c.before.before.before.before.before.before.before.before.before.before.before.before.before.args.whole.now (take c.before.before.before.before.before.before.before.before.before.before.before.before.before.args.count c.before.before.before.before.before.before.before.before.before.before.before.before.before.args.atoms.now)) (root-kind c.before.before.before.before.before.before.before.before.before.before.before.before.before.args.part.now (length c.before.before.before.before.before.before.before.before.before.before.before.before.before.args.part.now - 2) c.before.before.before.before.before.before.before.before.before.before.before.before.before.requires.1.0.wf (root-place c.before.before.before.before.before.before.before.before.before.before.before.before.before.args.part.now c.before.before.before.before.before.before.before.before.before.before.before.before.before.requires.1.0.wf) 1 (sym c.before.before.before.before.before.before.kind.ensures ∙ c.before.before.before.before.before.if1.true))) (given-same c.before.before.before.before.before.before.before.before.before.before.before.before.before.requires.1.0 _ refl refl _ _ c.before.before.constant-poly.ensures)
 
 parity-argument-requires : (t : ℕ) → parity-lts.Need-argument-requires (K-parity t) (parity-at t) parity.Post
 parity-argument-requires t c κs = search rules
@@ -201,7 +201,7 @@ parity-returns-6 : (t : ℕ) → parity-lts.Need-returns-6 (K-parity t) (parity-
 parity-returns-6 t c = given-as (low-binary (atoms_at c.before.before.before.before.before.before.before.before.before.before.before.before.before.before.before.before.before.before.before.before.before.before.before.before.before.before.before.before.args.whole.now (take c.before.before.before.before.before.before.before.before.before.before.before.before.before.before.before.before.before.before.before.before.before.before.before.before.before.before.before.before.args.count c.before.before.before.before.before.before.before.before.before.before.before.before.before.before.before.before.before.before.before.before.before.before.before.before.before.before.before.before.args.atoms.now)) (binary-children c.before.before.before.before.before.before.before.before.before.before.before.before.before.before.before.before.before.before.before.before.before.before.before.before.before.before.before.before.args.part.now (length c.before.before.before.before.before.before.before.before.before.before.before.before.before.before.before.before.before.before.before.before.before.before.before.before.before.before.before.before.args.part.now - 2) c.before.before.before.before.before.before.before.before.before.before.before.before.before.before.before.before.before.before.before.before.before.before.before.before.before.before.before.before.requires.1.0.wf (root-place c.before.before.before.before.before.before.before.before.before.before.before.before.before.before.before.before.before.before.before.before.before.before.before.before.before.before.before.before.args.part.now c.before.before.before.before.before.before.before.before.before.before.before.before.before.before.before.before.before.before.before.before.before.before.before.before.before.before.before.before.requires.1.0.wf) c.before.before.before.before.before.before.before.before.before.before.before.before.before.before.before.before.last-start.result c.before.before.before.before.before.before.before.before.before.before.before.before.before.before.before.before.last-start.ensures (sym c.before.before.before.before.before.before.before.before.before.before.before.before.before.before.before.before.before.before.before.before.before.kind.ensures ∙ c.before.before.before.before.before.before.before.before.before.before.before.before.before.before.before.before.before.before.if4.false)).tree c.before.before.before.before.before.before.before.before.before.before.before.before.entered.ensures c.before.before.before.before.before.before.before.before.before.before.before.before.before.argument2.ensures c.before.before.before.before.before.before.before.before.before.before.enum_told.given.1) c.before.before.before.before.before.before.parity2.ensures
 
 parity-returns-7 : (t : ℕ) → parity-lts.Need-returns-7 (K-parity t) (parity-at t) parity.Post
-parity-returns-7 t c = given-as (low-binary (atoms_at c.before.before.before.before.before.before.before.before.before.before.before.before.before.before.before.before.before.before.args.whole.now (take c.before.before.before.before.before.before.before.before.before.before.before.before.before.before.before.before.before.before.args.count c.before.before.before.before.before.before.before.before.before.before.before.before.before.before.before.before.before.before.args.atoms.now)) (binary-children c.before.before.before.before.before.before.before.before.before.before.before.before.before.before.before.before.before.before.args.part.now (length c.before.before.before.before.before.before.before.before.before.before.before.before.before.before.before.before.before.before.args.part.now - 2) c.before.before.before.before.before.before.before.before.before.before.before.before.before.before.before.before.before.before.requires.1.0.wf (root-place c.before.before.before.before.before.before.before.before.before.before.before.before.before.before.before.before.before.before.args.part.now c.before.before.before.before.before.before.before.before.before.before.before.before.before.before.before.before.before.before.requires.1.0.wf) c.before.before.before.before.before.before.last-start.result c.before.before.before.before.before.before.last-start.ensures (sym c.before.before.before.before.before.before.before.before.before.before.before.kind.ensures ∙ c.before.before.before.before.before.before.before.before.if4.false)).tree c.before.before.entered.ensures c.before.before.before.argument2.ensures c.enum-told2.given.1) (given-same c.before.before.before.before.before.before.before.before.before.before.before.before.before.before.before.before.before.before.requires.1.0 _ refl _ _ (record { size = refl; stands = λ _. refl }))
+parity-returns-7 t c = given-as (low-binary (atoms_at c.before.before.before.before.before.before.before.before.before.before.before.before.before.before.before.before.before.before.args.whole.now (take c.before.before.before.before.before.before.before.before.before.before.before.before.before.before.before.before.before.before.args.count c.before.before.before.before.before.before.before.before.before.before.before.before.before.before.before.before.before.before.args.atoms.now)) (binary-children c.before.before.before.before.before.before.before.before.before.before.before.before.before.before.before.before.before.before.args.part.now (length c.before.before.before.before.before.before.before.before.before.before.before.before.before.before.before.before.before.before.args.part.now - 2) c.before.before.before.before.before.before.before.before.before.before.before.before.before.before.before.before.before.before.requires.1.0.wf (root-place c.before.before.before.before.before.before.before.before.before.before.before.before.before.before.before.before.before.before.args.part.now c.before.before.before.before.before.before.before.before.before.before.before.before.before.before.before.before.before.before.requires.1.0.wf) c.before.before.before.before.before.before.last-start.result c.before.before.before.before.before.before.last-start.ensures (sym c.before.before.before.before.before.before.before.before.before.before.before.kind.ensures ∙ c.before.before.before.before.before.before.before.before.if4.false)).tree c.before.before.entered.ensures c.before.before.before.argument2.ensures c.enum-told2.given.1) (given-same c.before.before.before.before.before.before.before.before.before.before.before.before.before.before.before.before.before.before.requires.1.0 _ refl refl _ _ (record { size = refl; stands = λ _. refl }))
 
 parity-same-length-15 : (t : ℕ) → parity-lts.Need-same-length-15 (K-parity t) (parity-at t) parity.Post
 parity-same-length-15 t c = search rules
@@ -239,20 +239,14 @@ sides-parity-requires-2 t c κs = (omega (arith, c.before.before.before.before.b
 sides-enum-known-k : (t : ℕ) → sides-lts.Need-enum-known-k (K-sides t) (sides-at t) sides.Post
 sides-enum-known-k t c = search rules
 
-sides-add-combined : (t : ℕ) → sides-lts.Need-overflow-add-combined (K-sides t) (sides-at t) sides.Post
-sides-add-combined t c = omega (arith, c.before.before.before.before.before.before.before.before.before.before.before.before.before.before.before.before.before.before.before.before.before.before.before.before.before.before.before.before.before.before.before.before.before.before.requires.1.0.within, c.before.before.before.before.before.before.before.before.before.before.before.before.before.before.before.before.before.before.before.before.before.before.before.before.before.before.before.before.before.before.before.before.before.before.requires.1.0.small)
-
-sides-add-combined-2 : (t : ℕ) → sides-lts.Need-overflow-add-combined-2 (K-sides t) (sides-at t) sides.Post
-sides-add-combined-2 t c = omega (arith, c.before.before.before.before.before.before.before.before.before.before.before.before.before.before.before.before.before.before.before.before.before.before.before.before.before.before.before.before.before.before.before.before.before.before.requires.1.0.within, c.before.before.before.before.before.before.before.before.before.before.before.before.before.before.before.before.before.before.before.before.before.before.before.before.before.before.before.before.before.before.before.before.before.before.requires.1.0.small)
-
 sides-combined-requires : (t : ℕ) → sides-lts.Need-combined-requires (K-sides t) (sides-at t) sides.Post
 sides-combined-requires t c κs = two-sides c.before.before.before.before.before.before.before.before.before.before.before.before.before.before.before.before.before.before.before.before.before.before.before.before.before.before.before.before.before.before.before.before.before.before.requires.1.0 c.before.before.before.before.before.before.before.before.before.before.before.before.before.before.before.before.before.before.before.before.before.before.before.before.parity.ensures c.before.before.before.before.before.before.before.before.before.before.before.before.before.before.before.before.n.given.1 c.before.before.before.before.before.before.before.before.before.before.before.parity2.ensures c.before.before.before.k.given.1 _ c.before.before.before.before.before.before.before.before.before.before.before.before.before.before.before.before.before.before.before.before.before.before.before.before.parity.auto.1.1.1.1.1.0 c.before.before.before.before.before.before.before.before.before.before.before.parity2.auto.1.1.1.1.1.0 _ (products-lent c.before.before.before.before.before.before.before.before.before.before.before.before.before.before.before.before.before.before.before.before.before.before.before.before.before.before.before.before.before.before.before.before.before.before.requires.1.1 (omega arith) (c.before.before.before.before.before.before.before.before.before.before.before.parity2.auto.1.1.1.1.1.1.0 ∙ c.before.before.before.before.before.before.before.before.before.before.before.before.before.before.before.before.before.before.before.before.before.before.before.before.parity.auto.1.1.1.1.1.1.0))
 
-sides-enum-known-word : (t : ℕ) → sides-lts.Need-enum-known-word (K-sides t) (sides-at t) sides.Post
-sides-enum-known-word t c = search rules
+sides-enum-told : (t : ℕ) → sides-lts.Need-enum-told (K-sides t) (sides-at t) sides.Post
+sides-enum-told t c = search rules
 
-sides-enum-known-word-2 : (t : ℕ) → sides-lts.Need-enum-known-word-2 (K-sides t) (sides-at t) sides.Post
-sides-enum-known-word-2 t c = search rules
+sides-enum-told-2 : (t : ℕ) → sides-lts.Need-enum-told-2 (K-sides t) (sides-at t) sides.Post
+sides-enum-told-2 t c = search rules
 
 sides-same-length : (t : ℕ) → sides-lts.Need-same-length (K-sides t) (sides-at t) sides.Post
 sides-same-length t c = search rules
@@ -264,7 +258,7 @@ sides-same-length-3 : (t : ℕ) → sides-lts.Need-same-length-3 (K-sides t) (si
 sides-same-length-3 t c = search rules
 
 sides-returns : (t : ℕ) → sides-lts.Need-returns (K-sides t) (sides-at t) sides.Post
-sides-returns t c = two-given c.before.before.before.before.before.before.before.before.before.before.before.before.before.before.before.before.before.before.before.before.before.before.before.before.before.before.before.before.before.before.before.before.before.before.before.before.before.before.before.requires.1.0 c.before.before.before.before.before.before.before.before.before.before.before.before.before.before.before.before.before.before.before.before.before.before.before.before.before.before.before.before.before.parity.ensures c.before.before.before.before.before.before.before.before.before.before.before.before.before.before.before.before.before.before.before.before.before.n.given.1 c.before.before.before.before.before.before.before.before.before.before.before.before.before.before.before.before.parity2.ensures c.before.before.before.before.before.before.before.before.k.given.1 _ c.before.before.before.before.before.before.before.before.before.before.before.before.before.before.before.before.before.before.before.before.before.before.before.before.before.before.before.before.before.before.before.before.before.before.before.before.before.before.before.args.pair _ _ _ refl c.before.before.before.before.combined.ensures
+sides-returns t c = two-given c.before.before.before.before.before.before.before.before.before.before.before.before.before.before.before.before.before.before.before.before.before.before.before.before.before.before.before.before.before.before.before.before.before.before.before.before.before.before.before.requires.1.0 c.before.before.before.before.before.before.before.before.before.before.before.before.before.before.before.before.before.before.before.before.before.before.before.before.before.before.before.before.before.parity.ensures c.before.before.before.before.before.before.before.before.before.before.before.before.before.before.before.before.before.before.before.before.before.n.given.1 c.before.before.before.before.before.before.before.before.before.before.before.before.before.before.before.before.parity2.ensures c.before.before.before.before.before.before.before.before.k.given.1 _ c.before.before.before.before.before.before.before.before.before.before.before.before.before.before.before.before.before.before.before.before.before.before.before.before.before.before.before.before.before.before.before.before.before.before.before.before.before.before.before.args.pair _ _ c.before.before.before.before.combined.ensures
 
 sides-same-length-4 : (t : ℕ) → sides-lts.Need-same-length-4 (K-sides t) (sides-at t) sides.Post
 sides-same-length-4 t c = search rules
@@ -276,7 +270,7 @@ sides-same-length-6 : (t : ℕ) → sides-lts.Need-same-length-6 (K-sides t) (si
 sides-same-length-6 t c = search rules
 
 sides-returns-2 : (t : ℕ) → sides-lts.Need-returns-2 (K-sides t) (sides-at t) sides.Post
-sides-returns-2 t c = right-past c.before.before.before.before.before.before.before.before.before.before.before.before.before.before.before.before.before.before.before.before.before.before.before.before.before.before.before.before.before.before.before.before.requires.1.0 c.before.before.before.before.before.before.before.before.before.before.before.before.before.before.before.before.before.before.before.before.before.before.parity.ensures c.before.before.before.before.before.before.before.before.before.before.before.before.before.before.n.given.1 c.before.before.before.before.before.before.before.before.before.parity2.ensures c.before.word.given.1 c.before.before.before.before.before.before.before.before.before.before.before.before.before.before.before.before.before.before.before.before.before.before.before.before.before.before.before.before.before.before.before.before.args.pair _ _ _
+sides-returns-2 t c = given-none _ _ _ (right-none c.before.before.before.before.before.before.before.before.before.before.before.before.before.before.before.before.before.before.before.before.before.before.before.before.before.before.before.before.before.before.before.requires.1.0 c.before.before.before.before.before.before.before.before.before.before.before.before.before.before.before.before.before.before.before.before.before.parity.ensures c.before.before.before.before.before.before.before.before.before.before.before.before.before.n.given.1 c.before.before.before.before.before.before.before.before.parity2.ensures c.enum_told.given.1 c.before.before.before.before.before.before.before.before.before.before.before.before.before.before.before.before.before.before.before.before.before.before.before.before.before.before.before.before.before.before.before.args.pair)
 
 sides-same-length-7 : (t : ℕ) → sides-lts.Need-same-length-7 (K-sides t) (sides-at t) sides.Post
 sides-same-length-7 t c = search rules
@@ -288,7 +282,7 @@ sides-same-length-9 : (t : ℕ) → sides-lts.Need-same-length-9 (K-sides t) (si
 sides-same-length-9 t c = search rules
 
 sides-returns-3 : (t : ℕ) → sides-lts.Need-returns-3 (K-sides t) (sides-at t) sides.Post
-sides-returns-3 t c = left-past c.before.before.before.before.before.before.before.before.before.before.before.before.before.before.before.before.before.before.before.requires.1.0 c.before.before.before.before.before.before.before.before.before.parity.ensures c.before.word2.given.1 c.before.before.before.before.before.before.before.before.before.before.before.before.before.before.before.before.before.before.before.args.pair _ _ _
+sides-returns-3 t c = given-none _ _ _ (left-none c.before.before.before.before.before.before.before.before.before.before.before.before.before.before.before.before.before.before.requires.1.0 c.before.before.before.before.before.before.before.before.parity.ensures c.enum-told2.given.1 c.before.before.before.before.before.before.before.before.before.before.before.before.before.before.before.before.before.before.args.pair)
 
 pub +parity-sides-spec : {M : Type 1} → statement M
 +parity-sides-spec = close μ-parity μ-sides (λ t. parity-lts.spec (K-parity t) (parity-at t) parity.Post
@@ -356,11 +350,9 @@ pub +parity-sides-spec : {M : Type 1} → statement M
     (sides-part-parity-end t)
     (sides-parity-requires-2 t)
     (sides-enum-known-k t)
-    (sides-add-combined t)
-    (sides-add-combined-2 t)
     (sides-combined-requires t)
-    (sides-enum-known-word t)
-    (sides-enum-known-word-2 t)
+    (sides-enum-told t)
+    (sides-enum-told-2 t)
     (sides-same-length t)
     (sides-same-length-2 t)
     (sides-same-length-3 t)

@@ -46,7 +46,7 @@ same-length-2 : tie.Need-same-length-2
 same-length-2 c = search rules
 
 returns : tie.Need-returns
-returns c = sum-made c.before.before.before.before.before.before.before.before.before.before.before.before.before.before.args.terms.now c.before.before.before.before.before.before.before.before.before.before.before.before.before.before.args.n c.before.before.before.before.before.before.before.before.before.before.before.before.before.before.args.k c.before.before.before.before.before.before.before.before.before.before.before.before.before.before.args.scratch.now c.before.before.before.before.before.before.before.before.before.before.before.before.before.before.requires c.before.before.before.before.before.before.before.before.copy-to.new.1.0 c.before.before.before.add.new.0 _ _ _ _ _ c.before.before.before.before.before.before.before.before.copy-to.ensures c.before.before.before.add.ensures c.limited.ensures
+returns c = sum-made c.before.before.before.before.before.before.before.before.before.before.before.before.before.before.args.terms.now c.before.before.before.before.before.before.before.before.before.before.before.before.before.before.args.n c.before.before.before.before.before.before.before.before.before.before.before.before.before.before.args.k c.before.before.before.before.before.before.before.before.before.before.before.before.before.before.args.scratch.now c.before.before.before.before.before.before.before.before.before.before.before.before.before.before.requires c.before.before.before.before.before.before.before.before.copy-to.new.1.0 c.before.before.before.add.new.0 _ _ _ _ c.before.before.before.before.before.before.before.before.copy-to.ensures c.before.before.before.add.ensures c.limited.ensures
 
 pub add-sides-spec : {M : Type 1} → statement M
 add-sides-spec =

@@ -6,7 +6,7 @@ use native.Mathlib.Omega.{arith}
 use lib.ListN.{take, length-take, drop}
 use lib.Seq.{length-take-le}
 use borrow.Author.Rules.{rules}
-use Rattle.parity.proofs.Steps.{sides-few, join-past, told, past, made_none, join-few, join-taken, join-ordered, join-made}
+use Rattle.parity.proofs.Steps.{sides-few, join-past, told, passed, made_none, join-few, join-taken, join-ordered, join-made}
 use Rattle.parity.proofs.join_sides.Statement.{statement}
 use Rattle.parity.proofs.join_sides.Tie as tie
 
@@ -74,7 +74,7 @@ same-length-2 : tie.Need-same-length-2
 same-length-2 c = search rules
 
 returns : tie.Need-returns
-returns c = join-made c.before.before.before.before.before.before.before.before.before.before.before.before.before.before.before.before.before.before.before.before.before.before.before.before.before.before.before.before.args.terms.now c.before.before.before.before.before.before.before.before.before.before.before.before.before.before.before.before.before.before.before.before.before.before.before.before.before.before.before.before.args.n c.before.before.before.before.before.before.before.before.before.before.before.before.before.before.before.before.before.before.before.before.before.before.before.before.before.before.before.before.args.k c.before.before.before.before.before.before.before.before.before.before.before.before.before.before.before.before.before.before.before.before.before.before.before.before.before.before.before.before.args.scratch.now c.before.before.before.before.before.before.before.before.before.before.before.before.before.before.before.before.before.before.before.before.before.before.before.before.before.before.before.before.requires c.before.before.before.before.before.before.before.before.before.before.before.before.before.before.before.before.before.before.before.before.before.before.before.product-sides.new.1.1.1.0 c.before.before.before.before.before.before.before.before.before.before.before.before.before.before.copy-to.new.1.0 c.before.before.before.before.before.before.before.before.add.new.0 _ _ _ _ _ (told c.before.before.before.before.before.before.before.before.before.before.before.before.before.before.before.before.before.before.before.before.before.before.before.product-sides.ensures c.before.before.before.before.before.before.before.before.before.before.before.before.before.before.before.before.before.before.before.count.given.1) c.before.before.before.before.before.before.before.before.before.before.before.before.before.before.before.before.before.before.before.before.before.before.before.product-sides.auto.1.1.1.0 c.before.before.before.before.before.before.before.before.before.before.before.before.before.before.copy-to.ensures c.before.before.before.before.before.before.before.before.add.ensures c.before.before.before.add2.new.0 _ _ _ _ c.before.before.before.add2.ensures c.limited.ensures
+returns c = join-made c.before.before.before.before.before.before.before.before.before.before.before.before.before.before.before.before.before.before.before.before.before.before.before.before.before.before.before.before.args.terms.now c.before.before.before.before.before.before.before.before.before.before.before.before.before.before.before.before.before.before.before.before.before.before.before.before.before.before.before.before.args.n c.before.before.before.before.before.before.before.before.before.before.before.before.before.before.before.before.before.before.before.before.before.before.before.before.before.before.before.before.args.k c.before.before.before.before.before.before.before.before.before.before.before.before.before.before.before.before.before.before.before.before.before.before.before.before.before.before.before.before.args.scratch.now c.before.before.before.before.before.before.before.before.before.before.before.before.before.before.before.before.before.before.before.before.before.before.before.before.before.before.before.before.requires c.before.before.before.before.before.before.before.before.before.before.before.before.before.before.before.before.before.before.before.before.before.before.before.product-sides.new.1.1.1.0 c.before.before.before.before.before.before.before.before.before.before.before.before.before.before.copy-to.new.1.0 c.before.before.before.before.before.before.before.before.add.new.0 _ _ _ _ _ (told c.before.before.before.before.before.before.before.before.before.before.before.before.before.before.before.before.before.before.before.before.before.before.before.product-sides.ensures c.before.before.before.before.before.before.before.before.before.before.before.before.before.before.before.before.before.before.before.count.given.1) c.before.before.before.before.before.before.before.before.before.before.before.before.before.before.before.before.before.before.before.before.before.before.before.product-sides.auto.1.1.1.0 c.before.before.before.before.before.before.before.before.before.before.before.before.before.before.copy-to.ensures c.before.before.before.before.before.before.before.before.add.ensures c.before.before.before.add2.new.0 _ _ _ c.before.before.before.add2.ensures c.limited.ensures
 
 same-length-3 : tie.Need-same-length-3
 same-length-3 c = search rules
@@ -83,7 +83,7 @@ same-length-4 : tie.Need-same-length-4
 same-length-4 c = search rules
 
 returns-2 : tie.Need-returns-2
-returns-2 c = made_none _ _ _ (join-past (take c.before.before.before.before.before.before.before.before.before.args.n c.before.before.before.before.before.before.before.before.before.args.terms.now) (take c.before.before.before.before.before.before.before.before.before.args.k (drop c.before.before.before.before.before.before.before.before.before.args.n c.before.before.before.before.before.before.before.before.before.args.terms.now)) (past c.before.before.before.before.product-sides.ensures c.enum_told.given.1))
+returns-2 c = made_none _ _ _ (join-past (take c.before.before.before.before.before.before.before.before.before.args.n c.before.before.before.before.before.before.before.before.before.args.terms.now) (take c.before.before.before.before.before.before.before.before.before.args.k (drop c.before.before.before.before.before.before.before.before.before.args.n c.before.before.before.before.before.before.before.before.before.args.terms.now)) (passed c.before.before.before.before.product-sides.ensures c.enum_told.given.1))
 
 pub join-sides-spec : {M : Type 1} → statement M
 join-sides-spec =

@@ -4,7 +4,7 @@ use mathlib.Core.Path.{sym}
 use native.Mathlib.Omega.{arith}
 use lib.Seq.{length-take-le}
 use borrow.Author.Rules.{rules}
-use Rattle.parity.proofs.Steps.{sides-few, told-length, told, past, made_none, told-within, moved_made}
+use Rattle.parity.proofs.Steps.{sides-few, told-length, told, passed, made_none, told-within, moved_made}
 use Rattle.parity.proofs.multiply_sides.Statement.{statement}
 use Rattle.parity.proofs.multiply_sides.Tie as tie
 
@@ -42,7 +42,7 @@ same-length-4 : tie.Need-same-length-4
 same-length-4 c = search rules
 
 returns-2 : tie.Need-returns-2
-returns-2 c = made_none _ _ _ (past c.before.before.before.before.product-sides.ensures c.enum_told.given.1)
+returns-2 c = made_none _ _ _ (passed c.before.before.before.before.product-sides.ensures c.enum_told.given.1)
 
 pub multiply-sides-spec : {M : Type 1} → statement M
 multiply-sides-spec =

@@ -44,7 +44,7 @@ same_length : tie.Need-same-length
 same_length c = search rules
 
 returns-2 : tie.Need-returns-2
-returns-2 c = product-made c.before.before.before.before.before.before.before.before.before.before.args.terms.now c.before.before.before.before.before.before.before.before.before.before.args.n c.before.before.before.before.before.before.before.before.before.before.args.k c.before.before.before.before.before.before.before.before.before.before.args.scratch.now c.before.before.before.before.before.before.before.before.before.before.requires c.before.before.before.add-product.new.0 _ _ _ _ _ c.before.before.before.before.before.before.before.if1.false c.before.before.before.add-product.ensures c.limited.ensures
+returns-2 c = product-made c.before.before.before.before.before.before.before.before.before.before.args.terms.now c.before.before.before.before.before.before.before.before.before.before.args.n c.before.before.before.before.before.before.before.before.before.before.args.k c.before.before.before.before.before.before.before.before.before.before.args.scratch.now c.before.before.before.before.before.before.before.before.before.before.requires c.before.before.before.add-product.new.0 _ _ _ _ c.before.before.before.before.before.before.before.if1.false c.before.before.before.add-product.ensures c.limited.ensures
 
 pub product-sides-spec : {M : Type 1} → statement M
 product-sides-spec =

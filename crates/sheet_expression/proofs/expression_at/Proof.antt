@@ -29,7 +29,7 @@ loop-holds : tie.Need-loop-init invariant-loop decreases-loop
 loop-holds c = (omega arith, c.number.ensures, refl, λ variables on. stored-first _ _ _ _)
 
 record-at-requires : tie.Need-record-at-requires invariant-loop decreases-loop
-record-at-requires c κs = let a = c.before.before.before.before.before.args in let p = c.before.before.before.before.before.requires in let l = c.before.loop in let below : l.i + 1 ≤ little a.s.now a.from 2 = omega (arith, l.invariant.1) in record { variables = p.0.variables; depth = (up_to p.0.variables a.s.now a.from l.i).depth; left = little a.s.now a.from 2 - l.i - 1; on = record-there p.0.variables a.s.now a.from p.0.on l.i (omega arith) (l.invariant.3 p.0.variables p.0.on).place }
+record-at-requires c κs = let a = c.before.before.before.before.before.args in let p = c.before.before.before.before.before.requires in let l = c.before.loop in let below : l.i + 1 ≤ little a.s.now a.from 2 = omega (arith, l.invariant.1) in record { variables = p.0.variables; depth = (up_to p.0.variables a.s.now a.from l.i).depth; left = little a.s.now a.from 2 - l.i - 1; on = record-there p.0.variables a.s.now a.from p.0.on l.i (omega arith) (l.invariant.3 p.0.variables p.0.on) }
 
 mul-place : tie.Need-overflow-mul-place invariant-loop decreases-loop
 mul-place c = let a = c.before.before.before.before.before.before.args in let p = c.before.before.before.before.before.before.requires in let l = c.before.before.loop in omega (arith, count-few p.0.variables a.s.now a.from p.0.on, l.invariant.1)
@@ -56,7 +56,7 @@ loop-less : tie.Need-loop-smaller invariant-loop decreases-loop
 loop-less c = omega arith
 
 loop-again : tie.Need-loop-preserved invariant-loop decreases-loop
-loop-again c = let a = c.before.before.before.before.before.before.args in let p = c.before.before.before.before.before.before.requires in let l = c.before.before.loop in (omega arith, l.invariant.1, simp length-set l.invariant.2, λ variables on. let stored = l.invariant.3 variables on in let below : l.i + 1 ≤ little a.s.now a.from 2 = omega (arith, l.invariant.1) in stored-record variables a.s.now a.from on l.i (omega arith) stored (c.record-at.ensures variables _ _ (record-there variables a.s.now a.from on l.i (omega arith) stored.place)) (omega (arith, count-few p.0.variables a.s.now a.from p.0.on, l.invariant.1, p.1)))
+loop-again c = let a = c.before.before.before.before.before.before.args in let p = c.before.before.before.before.before.before.requires in let l = c.before.before.loop in (omega arith, l.invariant.1, simp length-set l.invariant.2, λ variables on. let stored = l.invariant.3 variables on in let below : l.i + 1 ≤ little a.s.now a.from 2 = omega (arith, l.invariant.1) in stored-record variables a.s.now a.from on l.i (omega arith) stored (c.record-at.ensures variables _ _ (record-there variables a.s.now a.from on l.i (omega arith) stored)) (omega (arith, count-few p.0.variables a.s.now a.from p.0.on, l.invariant.1, p.1)))
 
 same_length : tie.Need-same-length invariant-loop decreases-loop
 same_length c = c.before.loop.invariant.2

@@ -1,4 +1,4 @@
-use mathlib.Core.Path.{refl, ◌∙◌}
+use mathlib.Core.Path.{◌∙◌}
 use Rattle.sheet_instruction.proofs.Composed.{head-refused, tail-refused, number-below, instruction-judged}
 use borrow.Author.Rules.{rules}
 use Rattle.sheet_instruction.proofs.check_instruction.Statement.{statement}
@@ -37,18 +37,14 @@ bit-requires c κs = search rules
 is-at-fault-requires : tie.Need-is-at-fault-requires
 is-at-fault-requires c κs = search rules
 
-fault-number-requires : tie.Need-fault-number-requires
-fault-number-requires c κs = search rules
-
 returns-3 : tie.Need-returns-3
 returns-3 c =
-    let at-fault = c.before in
-    let at-enum-told2 = at-fault.before.before.before.before in
+    let at-enum-told2 = c.before.before.before.before in
     let at-check-tail = at-enum-told2.before.before in
     let at-after-head = at-check-tail.before.before in
     let at-check-head = at-after-head.before.before in
     let at-start = at-check-head.before.before in
-    rw at-fault.if1.true at (instruction-judged at-start.args.opens at-start.args.last _ _ at-check-head.check-head.ensures at-after-head.after-head.given.1 at-check-tail.check-tail.ensures at-enum-told2.enum-told2.given.1 at-fault.before.before.before.mnemonic-of.ensures at-fault.before.before.bit.ensures at-fault.before.is-at-fault.ensures c.fault-number.ensures)
+    rw c.if1.true at (instruction-judged at-start.args.opens at-start.args.last _ _ at-check-head.check-head.ensures at-after-head.after-head.given.1 at-check-tail.check-tail.ensures at-enum-told2.enum-told2.given.1 c.before.before.before.mnemonic-of.ensures c.before.before.bit.ensures c.before.is-at-fault.ensures)
 
 returns-4 : tie.Need-returns-4
 returns-4 c =
@@ -57,7 +53,7 @@ returns-4 c =
     let at-after-head = at-check-tail.before.before in
     let at-check-head = at-after-head.before.before in
     let at-start = at-check-head.before.before in
-    at-enum-told2.enum-told2.given.1 ∙ (rw c.if1.false at (instruction-judged at-start.args.opens at-start.args.last _ _ at-check-head.check-head.ensures at-after-head.after-head.given.1 at-check-tail.check-tail.ensures at-enum-told2.enum-told2.given.1 c.before.before.before.mnemonic-of.ensures c.before.before.bit.ensures c.before.is-at-fault.ensures refl))
+    at-enum-told2.enum-told2.given.1 ∙ (rw c.if1.false at (instruction-judged at-start.args.opens at-start.args.last _ _ at-check-head.check-head.ensures at-after-head.after-head.given.1 at-check-tail.check-tail.ensures at-enum-told2.enum-told2.given.1 c.before.before.before.mnemonic-of.ensures c.before.before.bit.ensures c.before.is-at-fault.ensures))
 
 pub check-instruction-spec : {M : Type 1} → statement M
 check-instruction-spec =
@@ -74,6 +70,5 @@ check-instruction-spec =
     mnemonic-of-requires
     bit-requires
     is-at-fault-requires
-    fault-number-requires
     returns-3
     returns-4)

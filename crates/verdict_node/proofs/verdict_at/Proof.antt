@@ -1,29 +1,30 @@
-use Rattle.verdict_node.proofs.Answered.{judged}
+use mathlib.Core.Path.{ap}
+use Rattle.sheet_node.specs.declared.NodeFront.{NodeFront}
 use borrow.Author.Rules.{rules}
 use Rattle.verdict_node.proofs.verdict_at.Statement.{statement}
 use Rattle.verdict_node.proofs.verdict_at.Tie as tie
 
-slice-aggregate-prepare : tie.Need-slice-aggregate-prepare
-slice-aggregate-prepare c = search rules
+front-at-requires : tie.Need-front-at-requires
+front-at-requires c κs = search rules
 
-prepare-requires : tie.Need-prepare-requires
-prepare-requires c κs = search rules
-
-slice-aggregate-answer-for : tie.Need-slice-aggregate-answer-for
-slice-aggregate-answer-for c = search rules
-
-answer-for-requires : tie.Need-answer-for-requires
-answer-for-requires c κs = search rules
+verdict-plain-requires : tie.Need-verdict-plain-requires
+verdict-plain-requires c κs = search rules
 
 returns : tie.Need-returns
-returns c = judged _ _ _ c.before.before.before.prepare.ensures c.answer-for.ensures
+returns c = search rules
+
+verdict-assigned-requires : tie.Need-verdict-assigned-requires
+verdict-assigned-requires c κs = (c.before.before.before.before.requires, ap (λ (f : NodeFront). f.variables) c.before.before.Front-at.ensures)
+
+returns-2 : tie.Need-returns-2
+returns-2 c = search rules
 
 pub verdict-at-spec : {M : Type 1} → statement M
 verdict-at-spec =
     tie.close
     (tie.spec
-    slice-aggregate-prepare
-    prepare-requires
-    slice-aggregate-answer-for
-    answer-for-requires
-    returns)
+    front-at-requires
+    verdict-plain-requires
+    returns
+    verdict-assigned-requires
+    returns-2)

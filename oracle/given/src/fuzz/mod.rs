@@ -13,7 +13,7 @@ use changes::Kept;
 use coverage::Coverage;
 use oracle::answers;
 use oracle::cases::random::Random;
-use oracle::cases::{block_sheet, damaged_sheet, limit_node};
+use oracle::cases::{block_sheet, damaged_sheet};
 use oracle::comparisons::blocks;
 use oracle::judges::evaluator;
 use oracle::judges::listing::{due, Due, LINE};
@@ -34,8 +34,6 @@ const LONGEST: usize = 6_000;
 struct Tally {
     listings: u64,
     refused: u64,
-    /// Those that are refused by a node, as 10 and as 11.
-    by_nodes: [u64; 2],
     /// Records of accepted sheets that are about a branch.
     branches: u64,
     lines: u64,
@@ -48,9 +46,7 @@ struct Tally {
 impl Tally {
     fn print(&self) {
         let Tally { listings, refused, branches, lines, open, evaluations, .. } = self;
-        let [records, terms] = self.by_nodes;
         println!("listings {listings}, of them refused {refused}; not judged {open}");
-        println!("refused by a node as 10: {records}, as 11: {terms}");
         println!("blocks that end in a branch, and nodes: {branches}; lines {lines}");
         println!("evaluations {evaluations}");
         println!("sentences {}, calls {}", self.met.sentences(), self.sentence_calls);
@@ -112,16 +108,11 @@ pub fn listings(sheets: u64, seed: u64) -> io::Result<bool> {
 }
 
 /// Blocks around, across and beside each other, and nodes whose addresses are
-/// those of some instructions, most of them branches, or none at all; at times one
-/// near the limits is among them.
+/// those of some instructions, most of them branches, or none at all.
 fn whole_sheet(random: &mut Random, seed: u64, index: u64) -> Vec<u8> {
     let bytes = blocks::sheet(seed, index, true);
     let Ok(accepted) = read(&bytes) else { return bytes };
     let mut sheet = accepted.sheet;
-    if random.once_in(16) {
-        let at = random.below(sheet.nodes.len() + 1);
-        sheet.nodes.insert(at, limit_node::numbered(seed, index));
-    }
     let branches = sheet.instructions.iter().filter(|insn| insn.target.is_some());
     let branches: Vec<u64> = branches.map(|insn| insn.address).collect();
     let all: Vec<u64> = sheet.instructions.iter().map(|insn| insn.address).collect();
@@ -179,13 +170,7 @@ fn tried(
             tally.branches += nodes.len() as u64;
             match &expected {
                 Due::Lines(lines) => tally.lines += (lines.len() / LINE) as u64,
-                Due::Refused(Refusal { number, .. }) => {
-                    tally.refused += 1;
-                    let as_node =
-                        [refusal::RECORDS, refusal::TERMS].iter().position(|n| n == number);
-                    as_node.into_iter().for_each(|which| tally.by_nodes[which] += 1);
-                }
-                Due::Open => unreachable!("it was just told apart"),
+                _ => tally.refused += 1,
             }
             same_listing(&product.listing(sheet, room), expected, room)?;
         }

@@ -1,9 +1,0 @@
-pub mod Codes
-pub mod Renaming
-pub mod Terms
-pub mod Rows
-pub mod Options
-pub mod Parts
-pub mod Conditions
-pub mod Operators
-pub mod Long

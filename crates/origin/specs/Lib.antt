@@ -1,5 +1,0 @@
-pub mod Origin
-pub mod Trace
-pub mod Standing
-pub mod Examples
-pub mod Search
