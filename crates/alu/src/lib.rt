@@ -1,11 +1,13 @@
 // The arithmetic of 8, 16, 32 and 64 bits: a result wraps at the width, and gives the flags CF, PF, ZF, SF and OF.
 // A flag is known, set or clear, or unknown; what a condition of flags yields is known or not in the same way.
+#![tactic(auto)]
+
 ghost use Rattle.std.specs.Prelude.{◌≡◌, ◌%◌, ◌^◌};
 ghost use Rattle.alu.specs.Width.{bits, width_of};
 ghost use Rattle.alu.specs.Arithmetic.{negative, even_parity, result_of, carry, signs_overflow, overflow, result_flags, performed};
 ghost use Rattle.alu.specs.Flags.{opposite, either, both, differ};
 
-#[derive(Drop)]
+#[derive(Clone, Copy)]
 pub enum Width {
     Byte,
     Word,
@@ -14,7 +16,7 @@ pub enum Width {
 }
 
 // What a size in bits is: that of a width, or of none. The sizes of well-formed registers of class 1 are those of the four widths.
-#[derive(Drop)]
+#[derive(Clone, Copy)]
 pub enum Size {
     Of(Width),
     NoWidth,
@@ -70,13 +72,13 @@ fn has_even_parity(x: u64) -> bool
     u64::count_ones(x % 256) % 2 == 0
 }
 
-#[derive(Drop)]
+#[derive(Clone, Copy)]
 pub enum Flag {
     Known(bool),
     Unknown,
 }
 
-#[derive(Drop)]
+#[derive(Clone, Copy)]
 pub struct Flags {
     pub cf: Flag,
     pub pf: Flag,
@@ -100,7 +102,7 @@ pub fn result_flags(w: Width, r: u64, cf: bool, of: bool) -> Flags
     }
 }
 
-#[derive(Drop)]
+#[derive(Clone, Copy)]
 pub enum Operation {
     Add,
     Sub,
@@ -159,7 +161,7 @@ fn overflow_of(op: Operation, w: Width, a: u64, b: u64, r: u64) -> bool
 }
 
 // What an operation gives.
-#[derive(Drop)]
+#[derive(Clone, Copy)]
 pub struct Performed {
     pub value: u64,
     pub flags: Flags,

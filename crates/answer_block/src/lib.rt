@@ -1,4 +1,6 @@
 // The block verdict: it takes any bytes, refuses what reading refuses, and answers by the rules.
+#![tactic(auto)]
+
 ghost use Rattle.std.specs.Prelude.{◌≡◌};
 ghost use Rattle.verdict.specs.Numbers.{answer_numbers};
 ghost use Rattle.answer_block.specs.Block.{block_answer};

@@ -1,4 +1,6 @@
 // The evaluation: it takes any bytes and values, refuses what reading refuses, and answers by the rules.
+#![tactic(auto)]
+
 ghost use Rattle.std.specs.Prelude.{◌≡◌};
 ghost use Rattle.answer_evaluation.specs.Evaluation.{in_numbers, evaluation_answer};
 

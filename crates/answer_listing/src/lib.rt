@@ -1,4 +1,6 @@
 // The listing: it takes any bytes and a borrowed list, refuses what reading refuses, and writes the lines by the rules.
+#![tactic(auto)]
+
 ghost use Rattle.std.specs.Prelude.{◌≡◌, length, replicate};
 ghost use Rattle.sheet.specs.declared.Reading.TheVariants.{Accepted};
 ghost use Rattle.sheet.specs.Sheet.{sheet_at, reading_of};
@@ -12,7 +14,7 @@ use sheet::{Reading, Sheet};
 use verdict_sheet::Progress;
 
 // What the listing answers: how many lines there are, or a refusal, its number and its offset.
-#[derive(Drop)]
+#[derive(Clone, Copy)]
 pub enum Listed {
     Lines(u64),
     Refused(u64, usize),
@@ -44,7 +46,7 @@ fn write_lines(
 }
 
 // What comes of listing with an index of some length: an answer, or that the sheet has more records than the index can hold.
-#[derive(Drop)]
+#[derive(Clone, Copy)]
 enum Attempt {
     Done(Listed),
     TooShort,

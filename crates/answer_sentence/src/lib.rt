@@ -1,4 +1,6 @@
 // The sentence of a block's verdict: it takes any bytes and a borrowed text, refuses what reading refuses, and writes the sentence by the rules.
+#![tactic(auto)]
+
 ghost use Rattle.std.specs.Prelude.{◌≡◌};
 ghost use Rattle.answer_sentence.specs.Sentence.{told_by, sentence_answer, Gives};
 
@@ -6,7 +8,7 @@ use sentence_text::Fit;
 use sheet::Reading;
 
 // What the operation answers: the sentence's length, or a refusal, its number and its offset.
-#[derive(Drop)]
+#[derive(Clone, Copy)]
 pub enum Told {
     Length(usize),
     Refused(u64, usize),

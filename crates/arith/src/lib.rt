@@ -1,4 +1,6 @@
 // Arithmetic on the bit patterns of a type's values: each operation wraps at the type's width.
+#![tactic(auto)]
+
 ghost use Rattle.std.specs.Prelude.{◌≡◌, ◌-◌, ◌*◌, ◌%◌, ◌^◌, ◌<◌, pos, neg_ℤ, if◌then◌else◌};
 ghost use Rattle.arith.specs.Numbers.{bits, fits as fitsType, negative, number, residue, wrap, convert, sum as sum_of, difference as differenceOf, product as productOf, quotient, remainder, shift_left, shift_right, count as count_of, below as belowOf};
 
@@ -94,7 +96,7 @@ fn with_sign(t: u64, minus: bool, x: u64) -> u64
 }
 
 // A division's quotient and what is left of the dividend.
-#[derive(Drop)]
+#[derive(Clone, Copy)]
 pub struct Division {
     pub quotient: u64,
     pub remainder: u64,

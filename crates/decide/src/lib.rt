@@ -1,4 +1,6 @@
 // The verdict on a substituted condition: equal sides, truth, exact sides, parity, unsigned casts against 0, logic half by half.
+#![tactic(auto)]
+
 ghost use Rattle.std.specs.Prelude.{◌≡◌, ◌+◌, ◌≤◌, eqb, length};
 ghost use Rattle.expr.specs.Codes.{op_equal};
 ghost use Rattle.expr.specs.Tree.{Wf, tree_of};
@@ -11,7 +13,7 @@ use exact::{Known, Parted};
 use verdict::{Reason, Verdict};
 
 // A verdict, or that an equality passes the limits.
-#[derive(Drop)]
+#[derive(Clone, Copy)]
 pub enum Decision {
     Of(Verdict),
     TooMany,

@@ -1,4 +1,6 @@
 // A node of an accepted sheet run on the caller's values: which nodes can be run, which values fit, and the run itself.
+#![tactic(auto)]
+
 ghost use Rattle.std.specs.Prelude.{◌≡◌, ◌≤◌, ◌++◌, length, take, drop};
 ghost use Rattle.sheet_field.specs.Field.{WentOn};
 ghost use Rattle.sheet_node.specs.Node.{statement_at, statements_from, node_of};
@@ -11,7 +13,7 @@ use sheet_node::NodeReading;
 use value::{Truth, Value};
 
 // A node's evaluation: whether its condition holds, or a refusal, its number and its offset.
-#[derive(Drop)]
+#[derive(Clone, Copy)]
 pub enum Evaluation {
     Holds,
     Fails,
@@ -19,14 +21,14 @@ pub enum Evaluation {
 }
 
 // Whether every value fits, or the number of the first variable whose value does not.
-#[derive(Drop)]
+#[derive(Clone, Copy)]
 pub enum Fit {
     AllFit,
     Unfit(usize),
 }
 
 // How far statements went: all were made, or none more after a division by zero, or one is not an assignment of a plain value.
-#[derive(Drop)]
+#[derive(Clone, Copy)]
 pub enum Progress {
     Went,
     Stopped,
@@ -34,7 +36,7 @@ pub enum Progress {
 }
 
 // The progress after a statement, and the offset after it.
-#[derive(Drop)]
+#[derive(Clone, Copy)]
 pub struct Step {
     pub progress: Progress,
     pub next: Place,

@@ -1,5 +1,7 @@
 // What is found of the sides of an equality: the value of an exact side, whether it is a constant as written, and whether the low
 // bits of two sides always differ.
+#![tactic(auto)]
+
 ghost use Rattle.std.specs.Prelude.{◌≡◌, [], ◌+◌, ◌≤◌, length};
 ghost use Rattle.expr.specs.Tree.{Wf, tree_of};
 ghost use Rattle.parity.specs.Parity.{parity as parityOf, difference};
@@ -10,7 +12,7 @@ ghost use Rattle.exact.specs.Answers.{Buffers, shape_of, known, cast_known, even
 use parity::{Constant, Pair, Size};
 
 // A value that a side has, or that none is known, or that a part passes the limits.
-#[derive(Drop)]
+#[derive(Clone, Copy)]
 pub enum Known {
     Value(u64),
     Open,
@@ -18,7 +20,7 @@ pub enum Known {
 }
 
 // Whether two sides' low bits always differ, or that a part passes the limits.
-#[derive(Drop)]
+#[derive(Clone, Copy)]
 pub enum Parted {
     Always,
     Open,
@@ -26,7 +28,7 @@ pub enum Parted {
 }
 
 // How a part with an operator is exact: by its left side's low bit, by its right side's, by being even, or by being 0.
-#[derive(Drop)]
+#[derive(Clone, Copy)]
 pub enum Shape {
     LowLeft,
     LowRight,

@@ -1,4 +1,6 @@
 // Expression records: what the words of a tree say, read off the words themselves.
+#![tactic(auto)]
+
 ghost use Rattle.std.specs.Prelude.{◌≡◌, ◌≤◌, length, get_or};
 ghost use Rattle.expr.specs.Codes.{signed8};
 ghost use Rattle.expr.specs.Tree.{kind_of, argument_of, arity_of, Wf, Trees, tree_of, tree_count, last_start};

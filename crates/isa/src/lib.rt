@@ -1,5 +1,7 @@
 // Instructions as values: registers, operands, mnemonics by name; which instructions are
 // modelled, and which of those are at fault. Nothing here knows how a sheet writes them.
+#![tactic(auto)]
+
 ghost use Rattle.std.specs.Prelude.{◌≡◌, ◌<◌};
 ghost use Rattle.isa.specs.Register.{well_formed};
 ghost use Rattle.isa.specs.Mnemonics.{named};
@@ -8,7 +10,7 @@ ghost use Rattle.isa.specs.Modelled.{is_register, is_absent, takes, modelled, si
 ghost use Rattle.isa.specs.Promises.{is_size, is_unary, fault_of};
 
 // Class 1 are the general registers; index, size in bits and offset in bits name the part.
-#[derive(Drop)]
+#[derive(Clone, Copy)]
 pub struct Register {
     pub class: u8,
     pub index: u8,
@@ -16,7 +18,7 @@ pub struct Register {
     pub offset: u8,
 }
 
-#[derive(Drop)]
+#[derive(Clone, Copy)]
 pub enum Operand {
     Absent,
     Reg(Register),
@@ -25,7 +27,7 @@ pub enum Operand {
 }
 
 // The instructions that change CF alone.
-#[derive(Drop)]
+#[derive(Clone, Copy)]
 pub enum CarryChange {
     Stc,
     Clc,
@@ -33,7 +35,7 @@ pub enum CarryChange {
 }
 
 // The operations on two operands that set flags.
-#[derive(Drop)]
+#[derive(Clone, Copy)]
 pub enum Binary {
     Add,
     Sub,
@@ -45,7 +47,7 @@ pub enum Binary {
 }
 
 // The operations on one operand that set flags.
-#[derive(Drop)]
+#[derive(Clone, Copy)]
 pub enum Unary {
     Inc,
     Dec,
@@ -53,7 +55,7 @@ pub enum Unary {
 }
 
 // The conditions of jumps on flags.
-#[derive(Drop)]
+#[derive(Clone, Copy)]
 pub enum Condition {
     E,
     Ne,
@@ -74,7 +76,7 @@ pub enum Condition {
 }
 
 // The register that a count-register jump tests.
-#[derive(Drop)]
+#[derive(Clone, Copy)]
 pub enum Counter {
     Rcx,
     Ecx,
@@ -82,7 +84,7 @@ pub enum Counter {
 }
 
 // A mnemonic by what the rules make of it; `Other` is any that they do not name.
-#[derive(Drop)]
+#[derive(Clone, Copy)]
 pub enum Mnemonic {
     Other,
     Carry(CarryChange),
@@ -94,7 +96,7 @@ pub enum Mnemonic {
     CountJump(Counter),
 }
 
-#[derive(Drop)]
+#[derive(Clone, Copy)]
 pub struct Instruction {
     pub address: u64,
     pub mnemonic: Mnemonic,

@@ -1,5 +1,7 @@
 // What is known of values, of registers by their parts, and of flags, and what operations leave of it. Which register an
 // instruction means is not known here.
+#![tactic(auto)]
+
 ghost use Rattle.std.specs.Prelude.{◌≡◌};
 ghost use Rattle.known.specs.Values.{extracted, inserted, on_value, onto, merged};
 ghost use Rattle.known.specs.Registers.{unmarked, contents, slot_of, part_of, with_part};
@@ -10,7 +12,7 @@ use alu::{Flag, Flags, Operation, Performed, Size, Width};
 use isa::{Binary, CarryChange, Condition, Unary};
 
 // A value that is read or written: known or not.
-#[derive(Drop)]
+#[derive(Clone, Copy)]
 pub enum Value {
     Known(u64),
     Unknown,
@@ -18,7 +20,7 @@ pub enum Value {
 
 // What is known of a register: its marks, which are all set where it is known and else 0; and its value, which means nothing
 // where it is not known; then it is 0.
-#[derive(Drop)]
+#[derive(Clone, Copy)]
 pub struct Slot {
     pub known: u64,
     pub value: u64,
@@ -188,7 +190,7 @@ fn operation(op: Binary) -> Operation
 }
 
 // What an instruction leaves: a value for its register, and the flags.
-#[derive(Drop)]
+#[derive(Clone, Copy)]
 pub struct Effect {
     pub value: Value,
     pub flags: Flags,

@@ -1,4 +1,6 @@
 // The listing program: a sheet from standard input, its branches or the refusal as text to standard output.
+#![tactic(auto)]
+
 ghost use Rattle.std.specs.Prelude.{◌≡◌, ◌≤◌, length};
 ghost use Rattle.text.specs.Promises.{Written};
 ghost use Rattle.listing.specs.Program.{printed};
@@ -8,14 +10,14 @@ use answer_listing::Listed;
 use libc::{STDERR_FILENO, STDIN_FILENO, STDOUT_FILENO};
 
 // What standard input gave: so many bytes, or no answer from the system.
-#[derive(Drop)]
+#[derive(Clone, Copy)]
 enum Input {
     Bytes(usize),
     Unread,
 }
 
 // How the program ends: the text was written, or the system did not give the input, or did not take the text.
-#[derive(Drop)]
+#[derive(Clone, Copy)]
 enum Ending {
     Written,
     Unread,

@@ -1,4 +1,6 @@
 // The text that the listing program writes, put into a borrowed buffer: the branches of a list, or a refusal.
+#![tactic(auto)]
+
 ghost use Rattle.std.specs.Prelude.{◌≡◌, ◌++◌, ◌+◌, ◌*◌, ◌≤◌, length};
 ghost use Rattle.sheet_field.specs.Field.{little};
 ghost use Rattle.text.specs.Digits.{digits, decimal};

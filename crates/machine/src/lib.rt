@@ -1,5 +1,7 @@
 // What is known of registers and flags; stepping over an instruction; what is known of a jump. The registers are borrowed as the
 // words of a state, the flags go in and come back: a state is not copied from call to call.
+#![tactic(auto)]
+
 ghost use Rattle.std.specs.Prelude.{◌≡◌, cond, List, ℕ, min, ◌≤◌};
 ghost use Rattle.machine.specs.Registers.{nothing_known, slot_at, read_of, written, operand_of, forget_register, forget_registers, forgotten};
 ghost use Rattle.machine.specs.States.{state_of, replaced};
@@ -14,7 +16,7 @@ use known::{Effect, Slot, Value};
 // The values of the registers, then the marks of each.
 pub type Registers = [u64; 2 * State::REGISTERS];
 
-#[derive(Drop)]
+#[derive(Clone, Copy)]
 pub struct State {
     pub registers: Registers,
     pub flags: Flags,

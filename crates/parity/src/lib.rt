@@ -1,6 +1,8 @@
 // The low bit of a part as a polynomial over the low bits of its atoms. Parts are slices of the words of one equality; an atom is
 // kept as its offsets there. Polynomials stand at the start of a borrowed list, which serves as a stack: the left side's is made at its
 // start, the right side's after it, and the two are put together at the start.
+#![tactic(auto)]
+
 ghost use Rattle.std.specs.Prelude.{◌≡◌, true, cond, ◌&&◌, ◌+◌, ◌≤◌, leb, length, take, drop};
 ghost use Rattle.expr.specs.Tree.{Wf, tree_of};
 ghost use Rattle.poly.specs.Terms.{sum as sum_of, product as productOf};
@@ -8,14 +10,14 @@ ghost use Rattle.parity.specs.Parity.{constant_of, on_remainder, on_shift, enter
 ghost use Rattle.parity.specs.Lent.{option_of, entry_of, pair_poly, pair_fits, pair_of, atoms_at, Parts, ProductsRoom, Lent, LentTwo, Sides, Made, Given};
 
 // A constant's value as it is written, or that a part is something else.
-#[derive(Drop)]
+#[derive(Clone, Copy)]
 pub enum Constant {
     Of(u64),
     Other,
 }
 
 // How the low bits of two sides make that of the whole: their exclusive or, their and, or their or.
-#[derive(Drop)]
+#[derive(Clone, Copy)]
 pub enum Pair {
     Sum,
     Product,
@@ -24,7 +26,7 @@ pub enum Pair {
 
 // How a part with an operator is entered: by both sides, by its left side alone, not at all because its low bit is 0, or not at
 // all because it is an atom.
-#[derive(Drop)]
+#[derive(Clone, Copy)]
 pub enum Entry {
     Both(Pair),
     Keeps,
@@ -33,7 +35,7 @@ pub enum Entry {
 }
 
 // How many terms a polynomial has, and how many atoms have a number with it; or that a part passes the limits.
-#[derive(Drop)]
+#[derive(Clone, Copy)]
 pub enum Size {
     Of(usize, usize),
     TooMany,

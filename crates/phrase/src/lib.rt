@@ -1,4 +1,6 @@
 // What a sentence gives as the cause of a flag's value, and its text put into a buffer.
+#![tactic(auto)]
+
 ghost use Rattle.std.specs.Prelude.{◌≡◌, ◌++◌, ◌+◌, ◌≤◌, length};
 ghost use Rattle.text.specs.Promises.{Put};
 ghost use Rattle.wording.specs.Texts.{text_of};
@@ -9,7 +11,7 @@ use isa::{Binary, Register};
 
 // Why a flag has its value: `Nothing` where no instruction has set it. Registers and instructions are given by their names, as numbers of fixed texts
 // (wording); values are those before the instruction.
-#[derive(Drop)]
+#[derive(Clone, Copy)]
 pub enum Cause {
     Nothing,
     Stc,
@@ -65,7 +67,7 @@ pub fn cleared(op: Binary, carry: bool) -> Cause
 }
 
 // Two fixed texts by their numbers: a name, and what is said of it.
-#[derive(Drop)]
+#[derive(Clone, Copy)]
 struct Words {
     name: usize,
     rest: usize,

@@ -1,6 +1,8 @@
 // Polynomials modulo two in borrowed slices: the terms are 64-bit sets of atoms, in ascending order, at the start of the slice.
 // Terms are added in place, one at a time; a term that is there already cancels. The slice needs space for every term
 // that is added. The limits on terms and pairs are the caller's.
+#![tactic(auto)]
+
 ghost use Rattle.std.specs.Prelude.{◌≡◌, ℕ, ◌+◌, ◌*◌, ◌≤◌, ◌<◌, length, take};
 ghost use Rattle.search.specs.Ascending.{Ascending};
 ghost use Rattle.poly.specs.Terms.{Written, toggle, sum, sum_times, sum_product, over};

@@ -1,4 +1,6 @@
 // What C hosts call: each function gives the answer of one operation in numbers.
+#![tactic(auto)]
+
 ghost use Rattle.std.specs.Prelude.{◌≡◌};
 ghost use Rattle.answer_node.specs.Node.{node_answer};
 ghost use Rattle.answer_evaluation.specs.Evaluation.{evaluation_answer};

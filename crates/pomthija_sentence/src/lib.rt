@@ -1,5 +1,7 @@
 // What C hosts call for a sentence. It is a crate beside `pomthija`, and so a module of its own in the library: the functions that reading and judging
 // share with it keep their single caller there, and the listing its speed.
+#![tactic(auto)]
+
 ghost use Rattle.std.specs.Prelude.{◌≡◌};
 ghost use Rattle.answer_sentence.specs.Sentence.{sentence_answer};
 ghost use Rattle.pomthija_sentence.specs.Returned.{ReturnedSentence};

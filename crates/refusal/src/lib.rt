@@ -1,5 +1,7 @@
 // The numbers of refusals, by name. A refusal is one of these numbers and an offset; docs/SHEET.md and docs/OPERATIONS.md
 // describe them, and include/pomthija.h has the same names for C.
+#![tactic(auto)]
+
 
 // The sheet ends inside a field, or bytes are left over after its last record.
 pub const ENDS: u64 = 1;

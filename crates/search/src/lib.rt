@@ -1,10 +1,12 @@
 // Looks numbers up in a list that rises strictly: instruction addresses, or the terms of a polynomial. Searches halve
 // what is left of the list at each step.
+#![tactic(auto)]
+
 ghost use Rattle.std.specs.Prelude.{◌≡◌, true};
 ghost use Rattle.search.specs.Ascending.{Ascending, Below, count_below, place_of};
 
 // Where a number stands in a list: its index, or nowhere.
-#[derive(Drop)]
+#[derive(Clone, Copy)]
 pub enum Found {
     At(usize),
     Nothing,

@@ -1,4 +1,6 @@
 // Why a flag verdict is given: which instructions are the causes of the flags' values, what each of them says, and which of them tell of a jump.
+#![tactic(auto)]
+
 ghost use Rattle.std.specs.Prelude.{◌≡◌, ◌<◌};
 ghost use Rattle.machine.specs.States.{state_of};
 ghost use Rattle.machine.specs.Registers.{read_of};
@@ -17,7 +19,7 @@ use phrase::Cause;
 
 // The numbers of the instructions that are the causes of the flags' values: the last that sets CF, with the number of cmc after it, and the last that
 // sets the other flags. A number means nothing where its flags are unknown.
-#[derive(Drop)]
+#[derive(Clone, Copy)]
 pub struct Setters {
     pub result: usize,
     pub carry: usize,
@@ -203,7 +205,7 @@ pub fn cause_of(
 }
 
 // What tells of a branch: nothing where it is undecided; the cause of CF, or that of the other flags, or the two joined; or a register's value.
-#[derive(Drop)]
+#[derive(Clone, Copy)]
 pub enum Telling {
     Nothing,
     Carry,

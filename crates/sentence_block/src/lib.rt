@@ -1,5 +1,7 @@
 // The sentence of a block of an accepted sheet: its instructions are stepped over up to its branch; where that is decided, the instructions that set
 // its flags last are found and say why.
+#![tactic(auto)]
+
 ghost use Rattle.std.specs.Prelude.{◌≡◌, ◌≤◌, ◌<◌, length};
 ghost use Rattle.std.proofs.Math.Seq.{slice};
 ghost use Rattle.isa.specs.declared.Instruction.{Instruction};

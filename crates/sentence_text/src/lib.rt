@@ -1,4 +1,6 @@
 // A sentence of one or two causes, written into a borrowed text that can hold it. Its length is known before a byte is written.
+#![tactic(auto)]
+
 ghost use Rattle.std.specs.Prelude.{◌≡◌, ◌++◌, cond, ◌&&◌, ◌+◌, ◌*◌, ◌≤◌, eqb, length, take};
 ghost use Rattle.std.proofs.Math.Seq.{slice};
 ghost use Rattle.laws.specs.Words.{same_words};
@@ -10,7 +12,7 @@ ghost use Rattle.sentence_text.specs.Promises.{said_text, turns_of, in_parts, Co
 use phrase::Cause;
 
 // What a sentence says. A number is how many cmc came after the cause before it.
-#[derive(Drop)]
+#[derive(Clone, Copy)]
 pub enum Said {
     Nothing,
     One(Cause, u64),
@@ -19,7 +21,7 @@ pub enum Said {
 }
 
 // A sentence by two parts of a buffer, up to `head` and from there up to `end`, with what so many cmc add between them.
-#[derive(Drop)]
+#[derive(Clone, Copy)]
 struct Composed {
     pub head: usize,
     pub turns: u64,
@@ -27,7 +29,7 @@ struct Composed {
 }
 
 // Whether a text was written, and its length.
-#[derive(Drop)]
+#[derive(Clone, Copy)]
 pub enum Fit {
     Whole(usize),
     Short(usize),

@@ -1,5 +1,7 @@
 // The sheet: read whole, it is accepted, with the counts of its records and where they start, or refused. Reading fills an
 // index on the way, by which a block, an instruction or a node is found by its number.
+#![tactic(auto)]
+
 ghost use Rattle.std.specs.Prelude.{◌≡◌, false, ◌-◌, ◌≤◌, ◌<◌, length, get_or, set};
 ghost use Rattle.isa.specs.declared.Instruction.{Instruction};
 ghost use Rattle.sheet_field.specs.Field.{WentOn};
@@ -12,20 +14,20 @@ use isa::{Instruction, Mnemonic};
 use sheet_field::{Place, Width};
 
 // How many records a section has, and the offset of the first.
-#[derive(Drop)]
+#[derive(Clone, Copy)]
 pub struct Section {
     pub count: u64,
     pub at: usize,
 }
 
-#[derive(Drop)]
+#[derive(Clone, Copy)]
 pub struct Sheet {
     pub instructions: Section,
     pub blocks: Section,
     pub nodes: Section,
 }
 
-#[derive(Drop)]
+#[derive(Clone, Copy)]
 pub enum Reading {
     Accepted(Sheet),
     // the refusal's number and offset
@@ -33,7 +35,7 @@ pub enum Reading {
 }
 
 // A block's range of addresses, from at or above the first to below the second.
-#[derive(Drop)]
+#[derive(Clone, Copy)]
 pub struct Block {
     pub from: u64,
     pub to: u64,

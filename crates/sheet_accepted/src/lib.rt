@@ -1,4 +1,6 @@
 // The instruction record at an offset of an accepted sheet: what it holds, with nothing checked again.
+#![tactic(auto)]
+
 ghost use Rattle.std.specs.Prelude.{◌≡◌, true, ◌+◌, ◌≤◌, length};
 ghost use Rattle.sheet_field.specs.declared.Place.TheVariants.{At};
 ghost use Rattle.sheet_field.specs.Field.{WentOn, bytes_of};
@@ -9,21 +11,21 @@ use isa::{Instruction, Mnemonic, Operand, Register};
 use sheet_field::Width;
 
 // A number, 0 where the record has none, and the offset after it.
-#[derive(Drop)]
+#[derive(Clone, Copy)]
 struct Number {
     value: u64,
     end: usize,
 }
 
 // An operand and the offset after it.
-#[derive(Drop)]
+#[derive(Clone, Copy)]
 struct Part {
     operand: Operand,
     end: usize,
 }
 
 // What stands behind a record's target.
-#[derive(Drop)]
+#[derive(Clone, Copy)]
 struct Content {
     first: Operand,
     second: Operand,

@@ -1,1 +1,3 @@
 // Numbers and lists of a sheet as bytes, and bytes that stand in a sheet. No code.
+#![tactic(auto)]
+

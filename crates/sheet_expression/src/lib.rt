@@ -1,5 +1,7 @@
 // Expression records of a sheet: a check, which gives an expression's type and the offset after it, and a reader of what was
 // read whole, which takes its records as words, two a record (see the crate expr).
+#![tactic(auto)]
+
 ghost use Rattle.std.specs.Prelude.{◌≡◌, true, ℕ, ◌*◌, ◌≤◌, ◌<◌, max, length};
 ghost use Rattle.sheet_field.specs.declared.Place.TheVariants.{At};
 ghost use Rattle.sheet_field.specs.Field.{WentOn};
@@ -11,7 +13,7 @@ ghost use Rattle.sheet_expression.specs.Promises.{Took, Tagged, CheckedRecord, C
 use sheet_field::{Field, Place, Width};
 
 // A record as it is checked: its two words, how many trees are complete after it, and the offset after it.
-#[derive(Drop)]
+#[derive(Clone, Copy)]
 pub struct RecordReading {
     pub tag: u64,
     pub value: u64,
@@ -77,7 +79,7 @@ fn fits_width(kind: u64, width: u64, value: u64) -> bool
 }
 
 // The type of an expression, and the offset after it.
-#[derive(Drop)]
+#[derive(Clone, Copy)]
 pub struct Checked {
     pub typing: u64,
     pub next: Place,
@@ -220,7 +222,7 @@ pub fn check_expression(s: &[u8], from: usize, types: &[u8]) -> Checked
 }
 
 // A record's two words, and the offset after it.
-#[derive(Drop)]
+#[derive(Clone, Copy)]
 struct Record {
     tag: u64,
     value: u64,
@@ -258,7 +260,7 @@ fn record_at(s: &[u8], at: usize) -> Record
 }
 
 // How many records an expression has that was read whole, and the offset after it.
-#[derive(Drop)]
+#[derive(Clone, Copy)]
 pub struct Whole {
     pub records: u64,
     pub end: usize,

@@ -1,17 +1,19 @@
 // Fields of a sheet: little-endian numbers of 1, 2 or 8 bytes, the offset that reading has reached, and the checks
 // made on the way. Once refused, reading stays refused, so the first refusal wins.
+#![tactic(auto)]
+
 ghost use Rattle.std.specs.Prelude.{◌≡◌, ◌+◌, ◌<◌, ◌≤◌, length};
 ghost use Rattle.sheet_field.specs.Field.{little, bytes_of, field_at, start_of, is_refused, judge, keep, check_field, code_at, count_at};
 
 // The state of reading: the next byte's offset, or the first refusal, its number and its offset.
-#[derive(Drop)]
+#[derive(Clone, Copy)]
 pub enum Place {
     At(usize),
     Refused(u64, usize),
 }
 
 // What a field holds, 0 where it was refused, and the offset after it.
-#[derive(Drop)]
+#[derive(Clone, Copy)]
 pub struct Field {
     pub value: u64,
     pub next: Place,
@@ -44,7 +46,7 @@ fn eight(s: &[u8], at: usize) -> u64
     (four(s, at) as u64) + 4294967296 * (four(s, at + 4) as u64)
 }
 
-#[derive(Drop)]
+#[derive(Clone, Copy)]
 pub enum Width {
     One,
     Two,

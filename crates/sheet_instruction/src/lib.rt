@@ -1,5 +1,7 @@
 // Instruction records: what reading one gives, and a reader that checks one and keeps nothing of it. Each of its stages starts
 // where reading has come to, and the first refusal is the record's.
+#![tactic(auto)]
+
 ghost use Rattle.std.specs.Prelude.{◌≡◌, ◌+◌, ◌<◌, ◌≤◌, length};
 ghost use Rattle.sheet_field.specs.declared.Place.TheVariants.{At};
 ghost use Rattle.sheet_field.specs.Field.{WentOn, field_at, code_at};
@@ -9,27 +11,27 @@ ghost use Rattle.sheet_instruction.specs.Promises.{operands_at, HeadSeen, tail_s
 use isa::{Instruction, Mnemonic, Operand, Register};
 use sheet_field::{Field, Place, Width};
 
-#[derive(Drop)]
+#[derive(Clone, Copy)]
 struct RegisterReading {
     register: Register,
     next: Place,
 }
 
-#[derive(Drop)]
+#[derive(Clone, Copy)]
 pub struct OperandReading {
     pub operand: Operand,
     pub next: Place,
 }
 
 // The first count of the list, and the offset after them.
-#[derive(Drop)]
+#[derive(Clone, Copy)]
 pub struct Registers {
     pub list: [Register; 8],
     pub count: u64,
     pub next: Place,
 }
 
-#[derive(Drop)]
+#[derive(Clone, Copy)]
 struct Head {
     map: u64,
     address: u64,
@@ -39,14 +41,14 @@ struct Head {
 }
 
 // Both operands, and the offset after them.
-#[derive(Drop)]
+#[derive(Clone, Copy)]
 struct Operands {
     first: Operand,
     second: Operand,
     next: Place,
 }
 
-#[derive(Drop)]
+#[derive(Clone, Copy)]
 struct Tail {
     first: Operand,
     second: Operand,
@@ -56,14 +58,14 @@ struct Tail {
     next: Place,
 }
 
-#[derive(Drop)]
+#[derive(Clone, Copy)]
 pub struct InstructionReading {
     pub instruction: Instruction,
     pub next: Place,
 }
 
 // What the checks of a record need of its head, and the offset after it.
-#[derive(Drop)]
+#[derive(Clone, Copy)]
 struct HeadCheck {
     map: u64,
     number: u64,
@@ -71,7 +73,7 @@ struct HeadCheck {
 }
 
 // What the checks of a record need of its tail, and the offset after it.
-#[derive(Drop)]
+#[derive(Clone, Copy)]
 struct TailCheck {
     first: Operand,
     second: Operand,

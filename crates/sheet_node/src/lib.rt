@@ -1,5 +1,7 @@
 // Node records of a sheet: a check, and readers of a node that was read whole, which say where its parts stand and take each
 // statement's content.
+#![tactic(auto)]
+
 ghost use Rattle.std.specs.Prelude.{◌≡◌, ℕ, ◌+◌, ◌*◌, ◌<◌, ◌≤◌, List, length};
 ghost use Rattle.sheet_field.specs.Field.{WentOn};
 ghost use Rattle.sheet_field.specs.declared.Place.TheVariants.{At};
@@ -13,7 +15,7 @@ use sheet_field::{Field, Place, Width};
 
 // A statement: whether it is an assignment, to which variable, how many records its value has, and the offset after it.
 // Any other statement has no variable and no records.
-#[derive(Drop)]
+#[derive(Clone, Copy)]
 pub struct StatementReading {
     pub assigned: bool,
     pub variable: u64,
@@ -23,7 +25,7 @@ pub struct StatementReading {
 
 // A node: its counts of variables, statements and addresses, and the offsets at which its types, its statements (body),
 // its condition and its addresses (sites) start; next is the offset after it.
-#[derive(Drop)]
+#[derive(Clone, Copy)]
 pub struct NodeReading {
     pub variables: u64,
     pub types: Place,
@@ -37,7 +39,7 @@ pub struct NodeReading {
 
 // The first part of a node: its counts of variables and statements, and the offsets at which its types and its statements (body)
 // start.
-#[derive(Drop)]
+#[derive(Clone, Copy)]
 pub struct NodeFront {
     pub variables: u64,
     pub types: Place,

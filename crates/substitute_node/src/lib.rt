@@ -1,4 +1,6 @@
 // A node's statements, read where they stand in an accepted sheet, are substituted into its condition. Each statement's bytes are read once.
+#![tactic(auto)]
+
 ghost use Rattle.std.specs.Prelude.{◌≡◌, ℕ, ◌≤◌, length};
 ghost use Rattle.sheet_field.specs.Field.{WentOn};
 ghost use Rattle.sheet_expression.specs.Expression.{expression_at};
@@ -11,7 +13,7 @@ use substitution::Written;
 
 // What one statement leaves: whether its substituted value is within its limit, that nothing is held where `idle`, and the offset after
 // the statement.
-#[derive(Drop)]
+#[derive(Clone, Copy)]
 pub struct Step {
     pub fits: bool,
     pub idle: bool,
@@ -19,7 +21,7 @@ pub struct Step {
 }
 
 // Where the words of a node's substituted condition start, or that they are too many; and the offset after the condition, where they are not.
-#[derive(Drop)]
+#[derive(Clone, Copy)]
 pub struct SubstitutedNode {
     pub written: Written,
     pub next: Place,

@@ -1,5 +1,7 @@
 // Substitution of a node's assignments into its condition, on expression records. What is held stands in borrowed words: a slot of 256 words for each
 // variable, 32 at most, with the length of what is held there, or 0.
+#![tactic(auto)]
+
 ghost use Rattle.std.specs.Prelude.{◌≡◌, ℕ, ◌+◌, ◌*◌, ◌≤◌, ◌<◌, length, replicate};
 ghost use Rattle.expr.specs.Tree.{Wf, tree_of};
 ghost use Rattle.expr.specs.Scan.{any_node};
@@ -7,7 +9,7 @@ ghost use Rattle.substitution.specs.Substitution.{substitute as substituteOf, en
 ghost use Rattle.substitution.specs.Words.{table_of, Slots, Holds, Assigned, Made, held_words, pending_after, ended_tag, kept_length};
 
 // Where the words of a substituted expression start in the borrowed words, which they fill to the end; or there are more than 256.
-#[derive(Drop)]
+#[derive(Clone, Copy)]
 pub enum Written {
     From(usize),
     TooLong,

@@ -4,6 +4,8 @@
 // on all nodes, 4 the sentences of all blocks. A sheet makes up the rest of a frame of 0, 1, 3 and 4. In a frame of 2 stand,
 // in 4 bytes each, the node's number, how many values a set has, how many sets there are, and the sheet's length; then the
 // sheet, and the sets: a value is its number of bytes (0 to 8) and those bytes.
+#![tactic(auto)]
+
 use answer_sentence::Told;
 use evaluate_node::Evaluation;
 use sheet::{Reading, Sheet};
@@ -81,7 +83,7 @@ fn say_sentence(s: &[u8], number: u64, past: bool) -> bool {
 }
 
 // What is said of each record.
-#[derive(Drop)]
+#[derive(Clone, Copy)]
 enum Said {
     Blocks,
     Nodes,
@@ -158,7 +160,7 @@ fn line(written: bool) -> Ending {
 }
 
 // A value and the offset after it, or the end of the bytes.
-#[derive(Drop)]
+#[derive(Clone, Copy)]
 enum Taken {
     Value(u64, usize),
     Cut,
@@ -182,7 +184,7 @@ fn take_value(s: &[u8], at: usize) -> Taken {
 }
 
 // Where a set that was read ends.
-#[derive(Drop)]
+#[derive(Clone, Copy)]
 enum Set {
     To(usize),
     Cut,

@@ -1,12 +1,14 @@
 // For test programs: frames from standard input, the numbers in them, and words and numbers to standard output. A frame is
 // its length in 4 bytes and that many bytes; every number has its lowest byte first.
+#![tactic(auto)]
+
 ghost use Rattle.std.specs.Prelude.{◌≡◌, length};
 ghost use Rattle.test_io.specs.Frame.{Fits, is_early};
 
 use libc::{STDERR_FILENO, STDIN_FILENO, STDOUT_FILENO};
 
 // How a program ends.
-#[derive(Drop)]
+#[derive(Clone, Copy)]
 pub enum Ending {
     // every frame was answered
     Whole,
@@ -23,7 +25,7 @@ pub enum Ending {
 }
 
 // What comes next: a frame of that length at the start of the buffer, or the end.
-#[derive(Drop)]
+#[derive(Clone, Copy)]
 pub enum Next {
     Frame(usize),
     Over(Ending),

@@ -1,4 +1,6 @@
 // Text put into a borrowed buffer: words, and numbers as digits.
+#![tactic(auto)]
+
 ghost use Rattle.std.specs.Prelude.{◌≡◌, ◌+◌, ◌-◌, ◌<◌, ◌≤◌, length};
 ghost use Rattle.std.proofs.Math.Seq.{slice};
 ghost use Rattle.text.specs.Digits.{digit as digitOf, digits, places_of, decimal};

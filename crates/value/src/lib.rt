@@ -1,4 +1,6 @@
 // The value of an expression on given values of its variables.
+#![tactic(auto)]
+
 ghost use Rattle.std.specs.Prelude.{◌≡◌, true, false, cond, ◌-◌, ◌%◌, ◌^◌, ◌≤◌, ◌<◌, length, get_or};
 ghost use Rattle.expr.specs.Codes.{kind_effect, kind_ternary};
 ghost use Rattle.expr.specs.Tree.{kind_of, Wf, tree_of};
@@ -9,14 +11,14 @@ ghost use Rattle.value.specs.Root.{root_tag, logic_root, settles as settlesOf};
 ghost use Rattle.value.specs.Promises.{Ready, Evaluates};
 
 // What an expression yields as an integer: the bit pattern of its type, or nothing after a division by zero.
-#[derive(Drop)]
+#[derive(Clone, Copy)]
 pub enum Value {
     Of(u64),
     NoValue,
 }
 
 // What an expression yields as a condition.
-#[derive(Drop)]
+#[derive(Clone, Copy)]
 pub enum Truth {
     Holds,
     Fails,
@@ -24,7 +26,7 @@ pub enum Truth {
 }
 
 // A value with the static type of its expression.
-#[derive(Drop)]
+#[derive(Clone, Copy)]
 pub struct TypedValue {
     pub value: Value,
     pub typing: u64,

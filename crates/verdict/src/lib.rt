@@ -1,9 +1,11 @@
 // Verdicts on branches and the answers of operations, with the scope document's numbers for them.
+#![tactic(auto)]
+
 ghost use Rattle.std.specs.Prelude.{◌≡◌};
 ghost use Rattle.verdict.specs.Numbers.{reason_number};
 
 // Why a branch is decided. Flags decide the branch of a block, all others that of a node.
-#[derive(Drop)]
+#[derive(Clone, Copy)]
 pub enum Reason {
     Flags,
     EqualSides,
@@ -15,7 +17,7 @@ pub enum Reason {
 }
 
 // What is said of a branch: that it always jumps, or never, and why; that neither is known; or that there is none.
-#[derive(Drop)]
+#[derive(Clone, Copy)]
 pub enum Verdict {
     Always(Reason),
     Never(Reason),
@@ -24,7 +26,7 @@ pub enum Verdict {
 }
 
 // What an operation answers: a verdict, or a refusal, its number and its offset.
-#[derive(Drop)]
+#[derive(Clone, Copy)]
 pub enum Answer {
     Given(Verdict),
     Refused(u64, usize),

@@ -1,5 +1,7 @@
 // The verdict on a block of an accepted sheet: its instructions are found in the index and stepped over once from what is
 // known where it starts; what is known at its end judges its last instruction, where that is a conditional branch.
+#![tactic(auto)]
+
 ghost use Rattle.std.specs.Prelude.{◌≡◌, ◌≤◌, ◌<◌, length, get_or};
 ghost use Rattle.isa.specs.declared.Instruction.{Instruction};
 ghost use Rattle.std.proofs.Math.Seq.{slice};
@@ -19,14 +21,14 @@ use sheet::Sheet;
 use verdict::{Reason, Verdict};
 
 // A block's last instruction, as far as a verdict asks for it: a conditional branch of a mnemonic, or nothing to judge.
-#[derive(Drop)]
+#[derive(Clone, Copy)]
 pub enum Jump {
     Conditional(Mnemonic),
     Nothing,
 }
 
 // The instructions of a sheet from number `first` up to `end`.
-#[derive(Drop)]
+#[derive(Clone, Copy)]
 pub struct Range {
     pub first: usize,
     pub end: usize,

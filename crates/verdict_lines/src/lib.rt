@@ -1,5 +1,7 @@
 // The lines of a listing: one slot for each instruction keeps the first decided verdict on it; from the slots the lines are
 // counted and written.
+#![tactic(auto)]
+
 ghost use Rattle.std.specs.Prelude.{◌≡◌, ◌+◌, ◌*◌, ◌≤◌, ◌<◌, length, replicate};
 ghost use Rattle.sheet.specs.declared.Reading.TheVariants.{Accepted};
 ghost use Rattle.sheet.specs.Sheet.{sheet_at, reading_of};

@@ -1,4 +1,6 @@
 // The answer for a node of an accepted sheet: its statements are substituted into its condition, and that is decided.
+#![tactic(auto)]
+
 ghost use Rattle.std.specs.Prelude.{◌≡◌, ◌≤◌, length};
 ghost use Rattle.sheet_field.specs.declared.Place.TheVariants.{At};
 ghost use Rattle.sheet_field.specs.Field.{WentOn};
@@ -14,7 +16,7 @@ use substitution::Written;
 use verdict::Answer;
 
 // The answer for a node; where it is a verdict, also how many addresses the node has, and the offset of the first.
-#[derive(Drop)]
+#[derive(Clone, Copy)]
 pub struct JudgedNode {
     pub answer: Answer,
     pub addresses: u64,

@@ -1,5 +1,7 @@
 // The verdicts on all records of an accepted sheet: blocks in order, then nodes in order. Each is about one branch at most,
 // and in the slot of each branch the first decided verdict is kept. A node that is refused ends it.
+#![tactic(auto)]
+
 ghost use Rattle.std.specs.Prelude.{◌≡◌, List, [], ◌++◌, ℕ, ◌≤◌, ◌<◌, length};
 ghost use Rattle.std.proofs.Math.Seq.{slice};
 ghost use Rattle.machine.specs.Registers.{nothing_known};
@@ -25,7 +27,7 @@ use verdict_block::Range;
 use verdict_node::JudgedNode;
 
 // How far judging came: through all records, or to a node that is refused, with a number and an offset.
-#[derive(Drop)]
+#[derive(Clone, Copy)]
 pub enum Progress {
     Through,
     Refused(u64, usize),

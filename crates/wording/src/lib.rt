@@ -1,5 +1,7 @@
 // How sentences name registers and instructions and write values. The texts are fixed ones, by their numbers in specs/Texts.antt; the crate
 // above puts them.
+#![tactic(auto)]
+
 ghost use Rattle.std.specs.Prelude.{◌≡◌, ◌++◌};
 ghost use Rattle.alu.specs.Width.{width_of};
 ghost use Rattle.text.specs.Ascii.{ascii};
@@ -11,7 +13,7 @@ use alu::Size;
 use isa::{Binary, Register};
 
 // A fixed text in front of a number, and how many digits that has in base sixteen.
-#[derive(Drop)]
+#[derive(Clone, Copy)]
 pub struct Shown {
     pub front: usize,
     pub number: u64,

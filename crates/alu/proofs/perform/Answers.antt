@@ -1,0 +1,8 @@
+use Rattle.alu.specs.Arithmetic.{performed}
+use Rattle.std.proofs.Common.{rules}
+use Rattle.alu.proofs.perform.Goals as goal
+
+pub returns : goal.returns
+unfolding performed
+returns c =
+    cc

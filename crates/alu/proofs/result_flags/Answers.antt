@@ -1,0 +1,8 @@
+use Rattle.alu.specs.Arithmetic.{result_flags}
+use Rattle.std.proofs.Common.{rules}
+use Rattle.alu.proofs.result_flags.Goals as goal
+
+pub returns : goal.returns
+unfolding result_flags
+returns c =
+    cc

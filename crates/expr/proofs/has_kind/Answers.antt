@@ -1,0 +1,24 @@
+use mathlib.Core.Path.{◌≡◌, refl, ◌∙◌, sym}
+use Prim.Native.Nat.{◌-◌}
+use native.Mathlib.Omega.{arith}
+use Rattle.std.proofs.Common.{rules}
+use borrow.Author.Tests.{eq-eqb, ne_eqb}
+use lib.ListN.{length, drop}
+use Rattle.expr.specs.Scan.{any_tag, of_kind}
+use Rattle.expr.proofs.Scans.{any_here, any-on, any-end}
+use Rattle.expr.proofs.has_kind.Goals as goal
+
+pub returns-then-kind-k : goal.returns-then-kind-k
+returns-then-kind-k c =
+    let a = c.args in
+    sym (c.loop-i.invariant ∙ any_here (of_kind a.k) a.rs.now c.loop-i.i c.loop-i-test.true (eq-eqb _ _ (sym c.kind.ensures ∙ c.if-kind-k.true)))
+
+pub loop-i-preserved : goal.loop-i-preserved
+loop-i-preserved c =
+    let a = c.args in
+    c.loop-i.invariant ∙ any-on (of_kind a.k) a.rs.now c.loop-i.i c.loop-i-test.true (rw (← c.kind.ensures) (ne_eqb _ _ c.if-kind-k.false))
+
+pub returns : goal.returns
+returns c =
+    let a = c.args in
+    sym (c.loop-i.invariant ∙ any-end (of_kind a.k) a.rs.now c.loop-i.i c.loop-i-test.false)

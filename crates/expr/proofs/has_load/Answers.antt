@@ -1,0 +1,9 @@
+use mathlib.Core.Path.{◌∙◌}
+use Rattle.std.proofs.Common.{rules}
+use Rattle.expr.specs.Scan.{is_load, of_kind}
+use Rattle.expr.proofs.Scans.{any-tree, load-tag}
+use Rattle.expr.proofs.has_load.Goals as goal
+
+pub returns : goal.returns
+returns c =
+    c.has_kind.ensures ∙ any-tree (of_kind 5) is_load load-tag c.args.rs.now c.requires

@@ -1,0 +1,9 @@
+use mathlib.Core.Path.{◌∙◌}
+use Rattle.std.proofs.Common.{rules}
+use Rattle.expr.specs.Scan.{is_effect, of_kind}
+use Rattle.expr.proofs.Scans.{any-tree, effect-tag}
+use Rattle.expr.proofs.has_own_value.Goals as goal
+
+pub returns : goal.returns
+returns c =
+    c.has_kind.ensures ∙ any-tree (of_kind 4) is_effect effect-tag c.args.rs.now c.requires

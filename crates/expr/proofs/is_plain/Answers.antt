@@ -1,0 +1,6 @@
+use Rattle.std.proofs.Common.{rules}
+use Rattle.expr.proofs.is_plain.Goals as goal
+
+pub returns : goal.returns
+returns c =
+    rw (c.has_own_value.ensures, c.has_load.ensures)

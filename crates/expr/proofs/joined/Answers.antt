@@ -1,0 +1,8 @@
+use mathlib.Core.Path.{◌∙◌, ap₂}
+use Rattle.expr.specs.Types.{common}
+use Rattle.std.proofs.Common.{rules}
+use Rattle.expr.proofs.joined.Goals as goal
+
+pub returns : goal.returns
+returns c =
+    c.common.ensures ∙ ap₂ common c.promoted.ensures c.promoted-2.ensures

@@ -1,0 +1,8 @@
+use Rattle.std.proofs.Common.{rules}
+use Rattle.expr.specs.Types.{same_type}
+use Rattle.expr.proofs.same_type.Goals as goal
+
+pub returns : goal.returns
+unfolding same_type
+returns c =
+    rw (c.plain.ensures, c.plain-2.ensures)

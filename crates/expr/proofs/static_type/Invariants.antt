@@ -1,0 +1,13 @@
+use mathlib.Core.Path.{refl}
+use Prim.Native.Nat.{◌-◌}
+use native.Mathlib.Omega.{arith}
+use Rattle.std.proofs.Common.{rules}
+use lib.ListN.{length}
+use Rattle.expr.proofs.Stack.{Typed, typed-start, typed-enough, typed-push, typed-end}
+use Rattle.expr.proofs.static_type.Given as goal
+
+abbrev pub invariant-loop-i : goal.invariant-loop-i
+invariant-loop-i l = Typed l.rs l.types l.stack l.top l.i
+
+abbrev pub decreases-loop-i : goal.decreases-loop-i
+decreases-loop-i l = length l.rs - l.i

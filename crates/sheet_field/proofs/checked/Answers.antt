@@ -1,0 +1,8 @@
+use Rattle.sheet_field.specs.Field.{check_field}
+use Rattle.std.proofs.Common.{rules}
+use Rattle.sheet_field.proofs.checked.Goals as goal
+
+pub returns : goal.returns
+unfolding check_field
+returns c =
+    cc

@@ -1,0 +1,7 @@
+use Rattle.sheet_field.proofs.Fields.{little-add}
+use Rattle.std.proofs.Common.{rules}
+use Rattle.sheet_field.proofs.four.Goals as goal
+
+pub returns : goal.returns
+returns c =
+    rw (little-add c.args.s.now c.args.at 2 2) (cc)

@@ -1,0 +1,7 @@
+use Rattle.sheet_field.proofs.Fields.{little-two}
+use Rattle.std.proofs.Common.{rules}
+use Rattle.sheet_field.proofs.two.Goals as goal
+
+pub returns : goal.returns
+returns c =
+    rw (little-two) (cc)
