@@ -25,5 +25,5 @@ returns-in-8 c =
 pub returns-in_default : goal.returns-in_default
 unfolding constant_type
 returns-in_default c =
-    let r = c.in_default-own.rest in
+    let r = c.in_default.in_default-own.rest in
     simp (ne_eqb _ _ r.0.0.0.1, ne_eqb _ _ r.0.0.1, ne_eqb _ _ r.0.1, ne_eqb _ _ r.1)

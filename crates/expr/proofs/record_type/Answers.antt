@@ -59,9 +59,9 @@ pub returns-in-2 : goal.returns-in-2
 unfolding record_type
 returns-in-2 c =
     let s = c.args in
-    let r = c.in_default-own.rest in
+    let r = c.in-2.in_default-own.rest in
     let k = c.kind.ensures in
-    signed s.types.now s.tag s.a s.b (omega (arith, k, r.0.0.0.1, r.0.0.1)) (omega (arith, k, c.if-this-lt4.true))
+    signed s.types.now s.tag s.a s.b (omega (arith, k, r.0.0.0.1, r.0.0.1)) (omega (arith, k, c.in-2.if-this-lt4-own.true))
 
 pub returns-in-4 : goal.returns-in-4
 unfolding record_type
@@ -69,12 +69,12 @@ returns-in-4 c =
     let s = c.args in
     let k = c.kind.ensures in
     c.argument-n.ensures
-    ∙ typed s.types.now s.tag s.a s.b (omega (arith, k, c.if-this-lt4.false)) (omega (arith, k, c.if-this-lt7.true))
+    ∙ typed s.types.now s.tag s.a s.b (omega (arith, k, c.in-4.if-this-lt4-own.false)) (omega (arith, k, c.in-4.if-this-lt7-own.true))
 
 pub returns-in_default : goal.returns-in_default
 unfolding record_type
 returns-in_default c =
     let s = c.args in
-    let r = c.in_default-own.rest in
+    let r = c.in_default.in_default-own.rest in
     let k = c.kind.ensures in
-    past s.types.now s.tag s.a s.b (omega (arith, k, c.if-this-lt7.false)) (λ e. r.0.1 (k ∙ e)) (λ e. r.1 (k ∙ e))
+    past s.types.now s.tag s.a s.b (omega (arith, k, c.in_default.if-this-lt7-own.false)) (λ e. r.0.1 (k ∙ e)) (λ e. r.1 (k ∙ e))

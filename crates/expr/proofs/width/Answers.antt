@@ -45,4 +45,4 @@ returns-in-9 c =
 
 pub returns-in_default : goal.returns-in_default
 returns-in_default c =
-    others c.args.t c.in_default-own.rest
+    others c.args.t c.in_default.in_default-own.rest
