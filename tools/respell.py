@@ -3,7 +3,7 @@
 
 usage: python3 tools/respell.py [FOLDER]     at the top of a checkout (or of FOLDER) on which port.py of the kit has run
 
-It was run once, right after port.py. What it does:
+It was run right after port.py. What it does:
 - each word of a name that was written as evenParity becomes even_parity, in definitions, lemmas, clauses, comments, documents and must-fail edits;
 - a lemma that would then have its definition's name gets _lem behind it;
 - specs/Contracts.antt of a crate becomes specs/Promises.antt, since Rattle makes a module specs.contracts of its own;
@@ -54,6 +54,9 @@ def camel_words(root):
     words = set()
     for path in files(os.path.join(root, "crates"), ".antt"):
         words |= {w for w in WORD.findall(without_comments(read(path))) if CAMEL.match(w)}
+    # the names under which a source file brings definitions in
+    for path in files(os.path.join(root, "crates"), ".rt"):
+        words |= {w for line in re.findall(r"ghost use [^;]*;", read(path)) for w in WORD.findall(line) if CAMEL.match(w)}
     return words - KEPT
 
 

@@ -2,7 +2,7 @@
 #![tactic(auto)]
 
 ghost use Rattle.std.specs.Prelude.{◌≡◌, ◌-◌, ◌*◌, ◌%◌, ◌^◌, ◌<◌, pos, neg_ℤ, if◌then◌else◌};
-ghost use Rattle.arith.specs.Numbers.{bits, fits as fitsType, negative, number, residue, wrap, convert, sum as sum_of, difference as differenceOf, product as productOf, quotient, remainder, shift_left, shift_right, count as count_of, below as belowOf};
+ghost use Rattle.arith.specs.Numbers.{bits, fits as fits_type, negative, number, residue, wrap, convert, sum as sum_of, difference as difference_of, product as product_of, quotient, remainder, shift_left, shift_right, count as count_of, below as below_of};
 
 // The largest pattern of the type: all its bits set.
 fn mask(t: u64) -> u64
@@ -20,7 +20,7 @@ pub fn cut(t: u64, x: u64) -> u64
 
 // Whether x is a pattern of the type: no bit above its width.
 pub fn fits(t: u64, x: u64) -> bool
-    ensures { result ≡ fitsType t x }
+    ensures { result ≡ fits_type t x }
 {
     x <= mask(t)
 }
@@ -64,7 +64,7 @@ pub fn sum(t: u64, a: u64, b: u64) -> u64
 
 pub fn difference(t: u64, a: u64, b: u64) -> u64
     requires { b < 2 ^ bits t }
-    ensures { result ≡ differenceOf t a b }
+    ensures { result ≡ difference_of t a b }
 {
     cut(t, std::num::wrapping_sub_u64(a, b))
 }
@@ -82,7 +82,7 @@ fn product64(a: u64, b: u64) -> u64
 }
 
 pub fn product(t: u64, a: u64, b: u64) -> u64
-    ensures { result ≡ productOf t a b }
+    ensures { result ≡ product_of t a b }
 {
     cut(t, product64(a, b))
 }
@@ -155,7 +155,7 @@ pub fn count(t: u64, s: u64, x: u64) -> u64
 pub fn below(t: u64, a: u64, b: u64) -> bool
     requires a_bound { a < 2 ^ bits t }
     requires b_bound { b < 2 ^ bits t }
-    ensures { result ≡ belowOf t a b }
+    ensures { result ≡ below_of t a b }
 {
     let na = is_negative(t, a);
     let nb = is_negative(t, b);

@@ -6,7 +6,7 @@ ghost use Rattle.expr.specs.Codes.{op_equal};
 ghost use Rattle.expr.specs.Tree.{Wf, tree_of};
 ghost use Rattle.parity.specs.Lent.{LentTwo};
 ghost use Rattle.exact.specs.Answers.{Buffers};
-ghost use Rattle.decide.specs.Decide.{said as said_of, asked as asked_of, or_else, equal_sides, equality as equalityOf, unsigned_cast, above_zero, mirrored as mirroredOf, unsigned_zero, both as bothOf, negated as negatedOf, either as either_of, decide as decideOf, equality_fits, fits};
+ghost use Rattle.decide.specs.Decide.{said as said_of, asked as asked_of, or_else, equal_sides, equality as equality_of, unsigned_cast, above_zero, mirrored as mirrored_of, unsigned_zero, both as both_of, negated as negated_of, either as either_of, decide as decide_of, equality_fits, fits};
 ghost use Rattle.decide.specs.Answers.{answered, exact_verdict, parity_verdict, known_fits, parted_fits, first_step, halves_of, SidesOf};
 
 use exact::{Known, Parted};
@@ -114,7 +114,7 @@ fn above_zero(operator: u64) -> Verdict
 
 // The relation with its sides exchanged.
 fn mirrored(operator: u64) -> u64
-    ensures { result ≡ mirroredOf operator }
+    ensures { result ≡ mirrored_of operator }
 {
     if operator == expr::LESS {
         return expr::GREATER;
@@ -133,7 +133,7 @@ fn mirrored(operator: u64) -> u64
 
 // Both halves of && hold, or one fails; the left one's reason before the right one's.
 fn both(left: Verdict, right: Verdict) -> Verdict
-    ensures { result ≡ bothOf left right }
+    ensures { result ≡ both_of left right }
 {
     match left {
         Verdict::Never(reason) => Verdict::Never(reason),
@@ -155,7 +155,7 @@ fn both(left: Verdict, right: Verdict) -> Verdict
 
 // Always and never exchanged.
 fn negated(v: Verdict) -> Verdict
-    ensures { result ≡ negatedOf v }
+    ensures { result ≡ negated_of v }
 {
     match v {
         Verdict::Always(reason) => Verdict::Never(reason),
@@ -243,7 +243,7 @@ fn equality(
 ) -> Decision
     requires lent_two { LentTwo whole.now 0 left.now right.now atoms.old 0 terms.old }
     requires buffers { Buffers (length left.now + length right.now + 2) atoms.old terms.old scratch.old }
-    ensures { result ≡ answered (equality_fits (tree_of left.now) (tree_of right.now)) (or_else (equal_sides operator (tree_of left.now) (tree_of right.now)) (equalityOf (eqb operator op_equal) (tree_of left.now) (tree_of right.now))) }
+    ensures { result ≡ answered (equality_fits (tree_of left.now) (tree_of right.now)) (or_else (equal_sides operator (tree_of left.now) (tree_of right.now)) (equality_of (eqb operator op_equal) (tree_of left.now) (tree_of right.now))) }
 {
     let same = equal_sides(operator, left, right);
     let as_written = exact::written(left) & exact::written(right);
@@ -271,7 +271,7 @@ fn products_room() -> [u64; 4096]
 fn equality_short(operator: u64, whole: &[u64], left: &[u64], right: &[u64]) -> Decision
     requires sides_of { SidesOf whole.now left.now right.now }
     requires whole_len_bound { length whole.now ≤ 36 }
-    ensures { result ≡ answered (equality_fits (tree_of left.now) (tree_of right.now)) (or_else (equal_sides operator (tree_of left.now) (tree_of right.now)) (equalityOf (eqb operator op_equal) (tree_of left.now) (tree_of right.now))) }
+    ensures { result ≡ answered (equality_fits (tree_of left.now) (tree_of right.now)) (or_else (equal_sides operator (tree_of left.now) (tree_of right.now)) (equality_of (eqb operator op_equal) (tree_of left.now) (tree_of right.now))) }
 {
     let mut atoms = [0u64; 64];
     let mut terms = [0u64; 560];
@@ -291,7 +291,7 @@ fn equality_short(operator: u64, whole: &[u64], left: &[u64], right: &[u64]) -> 
 fn equality_long(operator: u64, whole: &[u64], left: &[u64], right: &[u64]) -> Decision
     requires sides_of { SidesOf whole.now left.now right.now }
     requires whole_len_bound { length whole.now ≤ 256 }
-    ensures { result ≡ answered (equality_fits (tree_of left.now) (tree_of right.now)) (or_else (equal_sides operator (tree_of left.now) (tree_of right.now)) (equalityOf (eqb operator op_equal) (tree_of left.now) (tree_of right.now))) }
+    ensures { result ≡ answered (equality_fits (tree_of left.now) (tree_of right.now)) (or_else (equal_sides operator (tree_of left.now) (tree_of right.now)) (equality_of (eqb operator op_equal) (tree_of left.now) (tree_of right.now))) }
 {
     let mut atoms = [0u64; 64];
     let mut terms = terms_room();
@@ -355,7 +355,7 @@ fn relation(operator: u64, left: &[u64], right: &[u64]) -> Verdict
 pub fn decide(rs: &[u64]) -> Decision
     requires wf { Wf rs.now }
     requires rs_len_bound { length rs.now ≤ 256 }
-    ensures { result ≡ answered (fits (tree_of rs.now)) (decideOf (tree_of rs.now)) }
+    ensures { result ≡ answered (fits (tree_of rs.now)) (decide_of (tree_of rs.now)) }
 {
     let n = rs.len() - 2;
     let tag = rs[n];

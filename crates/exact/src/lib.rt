@@ -4,9 +4,9 @@
 
 ghost use Rattle.std.specs.Prelude.{◌≡◌, [], ◌+◌, ◌≤◌, length};
 ghost use Rattle.expr.specs.Tree.{Wf, tree_of};
-ghost use Rattle.parity.specs.Parity.{parity as parityOf, difference};
+ghost use Rattle.parity.specs.Parity.{parity as parity_of, difference};
 ghost use Rattle.parity.specs.Lent.{LentTwo};
-ghost use Rattle.exact.specs.Exact.{is_constant, same_sides, is_one, low, shape, exact as exactOf, written as written_of, exact_fits};
+ghost use Rattle.exact.specs.Exact.{is_constant, same_sides, is_one, low, shape, exact as exact_of, written as written_of, exact_fits};
 ghost use Rattle.exact.specs.Answers.{Buffers, shape_of, known, cast_known, even_known, sum_fits, parted};
 
 use parity::{Constant, Pair, Size};
@@ -88,7 +88,7 @@ fn low_bit(part: &[u64], atoms: &mut [u64], terms: &mut [u64], scratch: &mut [u6
     requires wf { Wf part.now }
     requires part_len_bound { length part.now ≤ 256 }
     requires buffers { Buffers (length part.now) atoms.old terms.old scratch.old }
-    ensures { result ≡ known (parityOf [] (tree_of part.now)).fits (low (tree_of part.now)) }
+    ensures { result ≡ known (parity_of [] (tree_of part.now)).fits (low (tree_of part.now)) }
 {
     match parity::parity(part, 0, part, atoms, 0, terms, scratch) {
         Size::Of(count, _) => {
@@ -155,7 +155,7 @@ pub fn exact(rs: &[u64], atoms: &mut [u64], terms: &mut [u64], scratch: &mut [u6
     requires wf { Wf rs.now }
     requires rs_len_bound { length rs.now ≤ 256 }
     requires buffers { Buffers (length rs.now) atoms.old terms.old scratch.old }
-    ensures { result ≡ known (exact_fits (tree_of rs.now)) (exactOf (tree_of rs.now)) }
+    ensures { result ≡ known (exact_fits (tree_of rs.now)) (exact_of (tree_of rs.now)) }
 {
     let n = rs.len() - 2;
     let tag = rs[n];

@@ -5,7 +5,7 @@ ghost use Rattle.std.specs.Prelude.{◌≡◌, ◌≤◌, length, get_or};
 ghost use Rattle.expr.specs.Codes.{signed8};
 ghost use Rattle.expr.specs.Tree.{kind_of, argument_of, arity_of, Wf, Trees, tree_of, tree_count, last_start};
 ghost use Rattle.expr.specs.Scan.{has_own_value, has_load, plain_expr, reads as reads_of, any_tag, of_kind, same_tree};
-ghost use Rattle.expr.specs.Types.{bits, promoted as promotedOf, common as commonOf, plain_type, same_type, together, constant_type, binary_type, record_type, type_of};
+ghost use Rattle.expr.specs.Types.{bits, promoted as promoted_of, common as common_of, plain_type, same_type, together, constant_type, binary_type, record_type, type_of};
 
 // Kinds of records, and how many there are.
 pub const VARIABLE: u64 = 0;
@@ -193,7 +193,7 @@ fn plain(t: u64) -> u64
 
 // The type that an operand of type t is promoted to.
 pub fn promoted(t: u64) -> u64
-    ensures { result ≡ promotedOf t }
+    ensures { result ≡ promoted_of t }
 {
     if width(t) < 32 {
         return SIGNED_32;
@@ -203,7 +203,7 @@ pub fn promoted(t: u64) -> u64
 
 // Of two promoted types the wider one, and at one width the unsigned one.
 fn common(a: u64, b: u64) -> u64
-    ensures { result ≡ commonOf a b }
+    ensures { result ≡ common_of a b }
 {
     let wa = width(a);
     let wb = width(b);

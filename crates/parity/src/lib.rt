@@ -5,8 +5,8 @@
 
 ghost use Rattle.std.specs.Prelude.{◌≡◌, true, cond, ◌&&◌, ◌+◌, ◌≤◌, leb, length, take, drop};
 ghost use Rattle.expr.specs.Tree.{Wf, tree_of};
-ghost use Rattle.poly.specs.Terms.{sum as sum_of, product as productOf};
-ghost use Rattle.parity.specs.Parity.{constant_of, on_remainder, on_shift, entered as entered_of, place as place_in, number_in, parity as parityOf, few, few_pairs, constant_poly, joined as joinedOf, atom_low};
+ghost use Rattle.poly.specs.Terms.{sum as sum_of, product as product_of};
+ghost use Rattle.parity.specs.Parity.{constant_of, on_remainder, on_shift, entered as entered_of, place as place_in, number_in, parity as parity_of, few, few_pairs, constant_poly, joined as joined_of, atom_low};
 ghost use Rattle.parity.specs.Lent.{option_of, entry_of, pair_poly, pair_fits, pair_of, atoms_at, Parts, ProductsRoom, Lent, LentTwo, Sides, Made, Given};
 
 // A constant's value as it is written, or that a part is something else.
@@ -188,7 +188,7 @@ fn add_sides(terms: &mut [u64], n: usize, k: usize, scratch: &mut [u64], atoms: 
 // The product of the sides, at the start of the scratch.
 fn product_sides(terms: &[u64], n: usize, k: usize, scratch: &mut [u64], atoms: usize) -> Size
     requires { Sides terms.now n k scratch.old }
-    ensures { Made (few_pairs (take n terms.now) (take k (drop n terms.now)) && few (productOf (take n terms.now) (take k (drop n terms.now)))) (productOf (take n terms.now) (take k (drop n terms.now))) atoms scratch.new result }
+    ensures { Made (few_pairs (take n terms.now) (take k (drop n terms.now)) && few (product_of (take n terms.now) (take k (drop n terms.now)))) (product_of (take n terms.now) (take k (drop n terms.now))) atoms scratch.new result }
 {
     if 4096 < n * k {
         return Size::TooMany;
@@ -201,7 +201,7 @@ fn product_sides(terms: &[u64], n: usize, k: usize, scratch: &mut [u64], atoms: 
 // The product of the sides, at the start.
 fn multiply_sides(terms: &mut [u64], n: usize, k: usize, scratch: &mut [u64], atoms: usize) -> Size
     requires { Sides terms.old n k scratch.old }
-    ensures { Made (few_pairs (take n terms.old) (take k (drop n terms.old)) && few (productOf (take n terms.old) (take k (drop n terms.old)))) (productOf (take n terms.old) (take k (drop n terms.old))) atoms terms.new result }
+    ensures { Made (few_pairs (take n terms.old) (take k (drop n terms.old)) && few (product_of (take n terms.old) (take k (drop n terms.old)))) (product_of (take n terms.old) (take k (drop n terms.old))) atoms terms.new result }
 {
     match product_sides(terms, n, k, scratch, atoms) {
         Size::Of(count, all) => {
@@ -215,7 +215,7 @@ fn multiply_sides(terms: &mut [u64], n: usize, k: usize, scratch: &mut [u64], at
 // The or of the sides, at the start: their sum, with their product added to it.
 fn join_sides(terms: &mut [u64], n: usize, k: usize, scratch: &mut [u64], atoms: usize) -> Size
     requires { Sides terms.old n k scratch.old }
-    ensures { Made (pair_fits Pair.Or (take n terms.old) (take k (drop n terms.old))) (joinedOf (take n terms.old) (take k (drop n terms.old))) atoms terms.new result }
+    ensures { Made (pair_fits Pair.Or (take n terms.old) (take k (drop n terms.old))) (joined_of (take n terms.old) (take k (drop n terms.old))) atoms terms.new result }
 {
     match product_sides(terms, n, k, scratch, atoms) {
         Size::Of(count, all) => {
@@ -299,7 +299,7 @@ pub fn parity(
 ) -> Size
     requires lent { Lent whole.now at part.now atoms.old count terms.old }
     requires products_room { ProductsRoom (length part.now) scratch.old }
-    ensures { Given (parityOf (atoms_at whole.now (take count atoms.old)) (tree_of part.now)) whole.now atoms.new terms.new result }
+    ensures { Given (parity_of (atoms_at whole.now (take count atoms.old)) (tree_of part.now)) whole.now atoms.new terms.new result }
 {
     let n = part.len() - 2;
     let tag = part[n];

@@ -6,7 +6,7 @@ ghost use Rattle.std.specs.Prelude.{◌≡◌, true, ℕ, ◌*◌, ◌≤◌, �
 ghost use Rattle.sheet_field.specs.declared.Place.TheVariants.{At};
 ghost use Rattle.sheet_field.specs.Field.{WentOn};
 ghost use Rattle.expr.specs.Admission.{InTable};
-ghost use Rattle.expr.specs.Types.{together as togetherOf, binary_type, record_type};
+ghost use Rattle.expr.specs.Types.{together as together_of, binary_type, record_type};
 ghost use Rattle.sheet_expression.specs.Expression.{has_argument, argument_ok, argument_at, constant_at, fits_width, depth_after, record_at, taken_from, expression_at};
 ghost use Rattle.sheet_expression.specs.Promises.{Took, Tagged, CheckedRecord, CheckedIs, WholeRecord, RecordIs, WholeExpression};
 
@@ -100,7 +100,7 @@ fn higher(x: u64, y: u64) -> u64
 // The type of two operands together: the higher of what they are promoted to.
 fn together(a: u64, b: u64) -> u64
     requires { (a < 10) × (b < 10) }
-    ensures { result ≡ togetherOf a b }
+    ensures { result ≡ together_of a b }
 {
     let rank = higher((RANKS >> (2 * a)) % 4, (RANKS >> (2 * b)) % 4);
     (RANKED >> (4 * rank)) % 16

@@ -5,7 +5,7 @@
 ghost use Rattle.std.specs.Prelude.{◌≡◌, ℕ, ◌+◌, ◌*◌, ◌≤◌, ◌<◌, length, replicate};
 ghost use Rattle.expr.specs.Tree.{Wf, tree_of};
 ghost use Rattle.expr.specs.Scan.{any_node};
-ghost use Rattle.substitution.specs.Substitution.{substitute as substituteOf, entry_reads, ended, holdable, kept, assigned};
+ghost use Rattle.substitution.specs.Substitution.{substitute as substitute_of, entry_reads, ended, holdable, kept, assigned};
 ghost use Rattle.substitution.specs.Words.{table_of, Slots, Holds, Assigned, Made, held_words, pending_after, ended_tag, kept_length};
 
 // Where the words of a substituted expression start in the borrowed words, which they fill to the end; or there are more than 256.
@@ -46,7 +46,7 @@ fn pending(left: u64, tag: u64) -> u64
 // first, so that each load is seen before what stands under it.
 pub fn substitute(rs: &[u64], table: &[u64], lengths: &[usize], out: &mut [u64]) -> Written
     requires { Wf rs.now × (length rs.now ≤ 256) × Slots table.now lengths.now × (length out.old ≡ 256) }
-    ensures { Made result out.new (substituteOf (table_of table.now lengths.now) (tree_of rs.now)) }
+    ensures { Made result out.new (substitute_of (table_of table.now lengths.now) (tree_of rs.now)) }
 {
     let mut from = rs.len();
     let mut at = out.len();

@@ -3,7 +3,7 @@
 
 ghost use Rattle.std.specs.Prelude.{◌≡◌, ◌+◌, ◌-◌, ◌<◌, ◌≤◌, length};
 ghost use Rattle.std.proofs.Math.Seq.{slice};
-ghost use Rattle.text.specs.Digits.{digit as digitOf, digits, places_of, decimal};
+ghost use Rattle.text.specs.Digits.{digit as digit_of, digits, places_of, decimal};
 ghost use Rattle.text.specs.Promises.{Put};
 
 pub fn put_word(word: &[u8], out: &mut [u8], at: usize) -> usize
@@ -31,7 +31,7 @@ pub fn put_part(word: &[u8], from: usize, to: usize, out: &mut [u8], at: usize) 
 // The digit's code.
 fn digit(d: u64) -> u8
     requires { d < 16 }
-    ensures { result ≡ digitOf d }
+    ensures { result ≡ digit_of d }
 {
     if d < 10 { 48 + d as u8 } else { 87 + d as u8 }
 }

@@ -7,7 +7,7 @@ ghost use Rattle.expr.specs.Tree.{kind_of, Wf, tree_of};
 ghost use Rattle.arith.specs.Numbers.{bits, quotient, remainder};
 ghost use Rattle.value.specs.Operators.{Typed, integer_of, truth_of, flag, taken, divides, arithmetics, shifts, comparisons, no_operation, operators, no_operator, strict};
 ghost use Rattle.value.specs.Evaluation.{evaluated, settled};
-ghost use Rattle.value.specs.Root.{root_tag, logic_root, settles as settlesOf};
+ghost use Rattle.value.specs.Root.{root_tag, logic_root, settles as settles_of};
 ghost use Rattle.value.specs.Promises.{Ready, Evaluates};
 
 // What an expression yields as an integer: the bit pattern of its type, or nothing after a division by zero.
@@ -179,7 +179,7 @@ fn retyped(s: u64, t: u64, v: Value) -> Value
 
 // Whether the left side of && or || settles the whole.
 fn settles(operator: u64, left: Truth) -> bool
-    ensures { result ≡ settlesOf operator left }
+    ensures { result ≡ settles_of operator left }
 {
     match left {
         Truth::Holds => operator != expr::LOGICAL_AND,

@@ -1,0 +1,8 @@
+use lib.Bits.{and_mask}
+use Rattle.std.proofs.Common.{rules}
+use Rattle.arith.specs.Numbers.{bits}
+use Rattle.arith.proofs.cut.Goals as goal
+
+pub returns : goal.returns
+returns c =
+    rw c.mask.ensures (and_mask c.args.x (bits c.args.t))

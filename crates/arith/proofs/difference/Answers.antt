@@ -1,0 +1,7 @@
+use Rattle.std.proofs.Common.{◌∙◌, rules}
+use Rattle.arith.proofs.Laws.{difference-wraps}
+use Rattle.arith.proofs.difference.Goals as goal
+
+pub returns : goal.returns
+returns c =
+    c.cut.ensures ∙ difference-wraps c.args.t c.args.a c.args.b c.wrapping_sub_u64.result c.requires c.wrapping_sub_u64.ensures.value

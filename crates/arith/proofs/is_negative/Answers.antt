@@ -1,0 +1,9 @@
+use Rattle.std.proofs.Common.{◌^◌, rules}
+use Rattle.arith.proofs.Laws.{half-test, some}
+use Rattle.arith.specs.Numbers.{bits, negative}
+use Rattle.arith.proofs.is_negative.Goals as goal
+
+pub returns : goal.returns
+unfolding negative
+returns c =
+    rw (c.mask.ensures, half-test (2 ^ bits c.args.t) c.args.x (some c.args.t))

@@ -1,0 +1,7 @@
+use Rattle.std.proofs.Common.{◌*◌, ◌^◌, ◌∙◌, rules}
+use Rattle.arith.proofs.Laws.{low_bits}
+use Rattle.arith.proofs.shift_left.Goals as goal
+
+pub returns : goal.returns
+returns c =
+    c.cut.ensures ∙ low_bits c.args.t (c.args.a * 2 ^ c.args.k)

@@ -1,0 +1,8 @@
+use Rattle.std.proofs.Common.{ℕ, ◌+◌, ◌%◌, ◌^◌, ap, ◌∙◌, rules}
+use Rattle.arith.proofs.Laws.{low_bits}
+use Rattle.arith.specs.Numbers.{bits}
+use Rattle.arith.proofs.sum.Goals as goal
+
+pub returns : goal.returns
+returns c =
+    c.cut.ensures ∙ ap (λ (k : ℕ). k % 2 ^ bits c.args.t) c.wrapping_add_u64.ensures.value ∙ low_bits c.args.t (c.args.a + c.args.b)
