@@ -9,8 +9,7 @@ loop-i-init c =
     products-none _ _ _ _ c.requires.1
 
 pub add_times-n-requires : goal.add_times-n-requires
-add_times-n-requires c =
-    (
+add_times-n-requires c = (
   omega (arith, row_room c.loop-i.i (length c.args.a.now) (length c.args.b.now) (omega arith)),
   c.loop-i.invariant.run.ordered,
 )

@@ -5,6 +5,7 @@ use mathlib.Core.Logic.{⊎_elim}
 use mathlib.Core.Path.{sym}
 use Rattle.std.proofs.Common.{rules}
 use Rattle.poly.proofs.toggle.Goals as goal
+use Rattle.poly.proofs.toggle.Goals.{then-at-count+else-list-at, else-at-count}
 
 pub slice_bounds-first_at_or_above-end-2 : goal.slice_bounds-first_at_or_above-end-2
 slice_bounds-first_at_or_above-end-2 c =
@@ -20,4 +21,4 @@ put_in-requires c =
 
 pub returns : goal.returns
 returns c =
-    put-in-toggles _ _ (found c.args.list.now c.args.count _ _ c.requires.1 c.first_at_or_above-at.ensures) (omega arith) (λ h e. ⊎_elim (λ w. omega arith) (λ w. omega arith) c.if-at-count.branch) ((search rules)) c.put_in.ensures
+    put-in-toggles _ _ (found c.args.list.now c.args.count _ _ c.requires.1 c.first_at_or_above-at.ensures) (omega arith) (λ h e. elim c.if-at-count.branch [ then-at-count+else-list-at w ↦ absurd (w.if-list-at.false e) | else-at-count w ↦ absurd (omega arith) ]) ((search rules)) c.put_in.ensures
