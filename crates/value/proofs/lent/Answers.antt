@@ -1,0 +1,7 @@
+use mathlib.Core.Path.{sym}
+use lib.ListN.{get_or-eq_default}
+use Rattle.value.proofs.lent.Goals as goal
+
+pub returns : goal.returns
+returns c =
+    sym (get_or-eq_default c.args.values.now 0 c.if-i-values.false)
