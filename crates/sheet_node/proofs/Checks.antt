@@ -131,13 +131,13 @@ addresses-cut s at n inside short =
 
 addresses-keep-end : (s : List ℕ) (k at : ℕ) → addresses_end s (Refused k at) ≡ Refused k at
 unfolding addresses_end addresses_from
-addresses-keep-end s k at = rw (addresses_end, count-keep 0 16 s k at)
+addresses-keep-end s k at = ap (λ (n : Field). (addresses_from s n.next n.value).next) (count-keep 0 16 s k at)
 
 -- what stands behind a node's types, stage by stage
 module _ (s : List ℕ) (p : Place) {n : Field} (n-is : n ≡ count_at 0 16 s p) where
   pub addresses-count-ends : {k at : ℕ} → n.next ≡ Refused k at → n.next ≡ addresses_end s p
   unfolding addresses_end addresses_from
-  addresses-count-ends gone = gone ∙ rw (addresses_end, count-refused 0 16 s p n-is gone)
+  addresses-count-ends gone = gone ∙ sym (ap (λ (n : Field). (addresses_from s n.next n.value).next) (count-refused 0 16 s p n-is gone))
 
   module _ {a : ℕ} (n-on : n.next ≡ At a) where
     pub addresses-room : (a ≤ length s) × (n.value ≤ 16)
