@@ -2,7 +2,6 @@
 // describe them, and include/pomthija.h has the same names for C.
 #![tactic(auto)]
 
-
 // The sheet ends inside a field, or bytes are left over after its last record.
 pub const ENDS: u64 = 1;
 

@@ -1,6 +1,6 @@
 -- A count, then that many records: laws that hold whatever the records are. `place k` is where reading stands after the
 -- first k records, `list k` what they gave; a record that is read where reading was refused leaves the refusal.
-use Prim.Native.Nat.{ℕ, zero, suc, ◌+◌, ◌≤◌, ◌<◌}
+use Prim.Native.Nat.{ℕ, zero, suc, ◌≤◌, ◌<◌}
 use mathlib.Core.Path.{◌≡◌, refl, sym, ◌∙◌}
 use mathlib.Core.List.{List, [], ◌∷◌, ◌++◌}
 use mathlib.Core.Bool.{true, false≢true}

@@ -1,5 +1,4 @@
 use Rattle.alu.specs.Arithmetic.{carry}
-use Rattle.std.proofs.Common.{rules}
 use Rattle.alu.proofs.carry_of.Goals as goal
 
 pub returns-in-Add : goal.returns-in-Add

@@ -1,4 +1,4 @@
-use Rattle.std.proofs.Common.{arith, rules}
+use Rattle.std.proofs.Common.{arith}
 use Rattle.alu.proofs.cut.Goals as goal
 
 pub returns-in-Byte : goal.returns-in-Byte

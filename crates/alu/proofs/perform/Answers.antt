@@ -1,5 +1,4 @@
 use Rattle.alu.specs.Arithmetic.{performed}
-use Rattle.std.proofs.Common.{rules}
 use Rattle.alu.proofs.perform.Goals as goal
 
 pub returns : goal.returns

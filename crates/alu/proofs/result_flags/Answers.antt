@@ -1,5 +1,4 @@
 use Rattle.alu.specs.Arithmetic.{result_flags}
-use Rattle.std.proofs.Common.{rules}
 use Rattle.alu.proofs.result_flags.Goals as goal
 
 pub returns : goal.returns

@@ -1,4 +1,3 @@
-use Rattle.std.proofs.Common.{rules}
 use Rattle.arith.proofs.Laws.{below-is}
 use Rattle.arith.proofs.below.Goals as goal
 

@@ -1,4 +1,4 @@
-use Rattle.std.proofs.Common.{ℕ, ◌%◌, ◌^◌, ap, ◌∙◌, rules, eq-eqb, ne_eqb}
+use Rattle.std.proofs.Common.{ℕ, ◌%◌, ◌^◌, ap, ◌∙◌, eq-eqb, ne_eqb}
 use Rattle.arith.proofs.Laws.{residue-cut}
 use Rattle.arith.specs.Numbers.{bits, number, convert}
 use Rattle.arith.proofs.converted.Goals as goal

@@ -1,4 +1,4 @@
-use Rattle.std.proofs.Common.{arith, rules}
+use Rattle.std.proofs.Common.{arith}
 use Rattle.arith.proofs.Laws.{bits_pos, count-is}
 use Rattle.arith.proofs.count.Goals as goal
 

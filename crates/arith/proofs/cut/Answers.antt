@@ -1,5 +1,4 @@
 use lib.Bits.{and_mask}
-use Rattle.std.proofs.Common.{rules}
 use Rattle.arith.specs.Numbers.{bits}
 use Rattle.arith.proofs.cut.Goals as goal
 

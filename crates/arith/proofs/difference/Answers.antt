@@ -1,4 +1,4 @@
-use Rattle.std.proofs.Common.{◌∙◌, rules}
+use Rattle.std.proofs.Common.{◌∙◌}
 use Rattle.arith.proofs.Laws.{difference-wraps}
 use Rattle.arith.proofs.difference.Goals as goal
 

@@ -1,4 +1,4 @@
-use Rattle.std.proofs.Common.{◌^◌, rules}
+use Rattle.std.proofs.Common.{◌^◌}
 use Rattle.arith.proofs.Laws.{below-full, some}
 use Rattle.arith.specs.Numbers.{bits}
 use Rattle.arith.proofs.fits.Goals as goal

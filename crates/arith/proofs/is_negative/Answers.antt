@@ -1,4 +1,4 @@
-use Rattle.std.proofs.Common.{◌^◌, rules}
+use Rattle.std.proofs.Common.{◌^◌}
 use Rattle.arith.proofs.Laws.{half-test, some}
 use Rattle.arith.specs.Numbers.{bits, negative}
 use Rattle.arith.proofs.is_negative.Goals as goal

@@ -1,4 +1,4 @@
-use Rattle.std.proofs.Common.{arith, rules}
+use Rattle.std.proofs.Common.{arith}
 use Rattle.arith.proofs.Laws.{bits-le, bits_pos, mask-of}
 use Rattle.arith.proofs.mask.Goals as goal
 

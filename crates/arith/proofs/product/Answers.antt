@@ -1,4 +1,4 @@
-use Rattle.std.proofs.Common.{ℕ, ◌*◌, ◌%◌, ◌^◌, ap, ◌∙◌, rules}
+use Rattle.std.proofs.Common.{ℕ, ◌*◌, ◌%◌, ◌^◌, ap, ◌∙◌}
 use Rattle.arith.proofs.Laws.{low_bits}
 use Rattle.arith.specs.Numbers.{bits}
 use Rattle.arith.proofs.product.Goals as goal

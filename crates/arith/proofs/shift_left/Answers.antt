@@ -1,4 +1,4 @@
-use Rattle.std.proofs.Common.{◌*◌, ◌^◌, ◌∙◌, rules}
+use Rattle.std.proofs.Common.{◌*◌, ◌^◌, ◌∙◌}
 use Rattle.arith.proofs.Laws.{low_bits}
 use Rattle.arith.proofs.shift_left.Goals as goal
 

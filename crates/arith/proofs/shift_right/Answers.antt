@@ -1,4 +1,4 @@
-use Rattle.std.proofs.Common.{◌-◌, ◌^◌, sym, ◌∙◌, div-le_self, arith, rules}
+use Rattle.std.proofs.Common.{◌-◌, ◌^◌, sym, ◌∙◌, div-le_self, arith}
 use Rattle.arith.proofs.Laws.{shift-negative, shift-plain}
 use Rattle.arith.proofs.shift_right.Goals as goal
 

@@ -1,4 +1,4 @@
-use Rattle.std.proofs.Common.{sym, ◌∙◌, rules}
+use Rattle.std.proofs.Common.{sym, ◌∙◌}
 use Rattle.arith.proofs.Laws.{widened-negative, widened-plain}
 use Rattle.arith.proofs.widened.Goals as goal
 

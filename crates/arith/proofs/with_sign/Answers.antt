@@ -1,4 +1,4 @@
-use Rattle.std.proofs.Common.{◌^◌, sym, ◌∙◌, mod-eq_of_lt, rules}
+use Rattle.std.proofs.Common.{◌^◌, sym, ◌∙◌, mod-eq_of_lt}
 use Rattle.arith.proofs.Laws.{negation}
 use Rattle.arith.specs.Numbers.{bits, residue}
 use Rattle.arith.proofs.with_sign.Goals as goal

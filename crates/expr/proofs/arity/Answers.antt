@@ -4,7 +4,6 @@ use Prim.Native.Nat.{ℕ, ◌+◌, ◌*◌, ◌/◌, ◌%◌, ◌^◌, ◌-◌, 
 use native.Mathlib.Omega.{arith}
 use borrow.Author.Tests.{ltb-true, ltb-false}
 use lib.Dec.{ltb}
-use Rattle.std.proofs.Common.{rules}
 use lib.ListN.{get_or}
 use mathlib.Core.List.{[], ◌∷◌}
 use Rattle.expr.specs.Tree.{arity_of}

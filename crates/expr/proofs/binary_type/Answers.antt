@@ -1,6 +1,5 @@
 use borrow.Author.Tests.{lt-ltb, le-ltb}
 use Rattle.expr.specs.Types.{binary_type}
-use Rattle.std.proofs.Common.{rules}
 use Rattle.expr.proofs.binary_type.Goals as goal
 
 pub returns-then-operator-lt-SHL : goal.returns-then-operator-lt-SHL

@@ -1,5 +1,4 @@
 use borrow.Author.Tests.{lt-ltb, le-ltb}
-use Rattle.std.proofs.Common.{rules}
 use Rattle.expr.specs.Types.{common}
 use Rattle.expr.proofs.common.Goals as goal
 

@@ -1,10 +1,6 @@
-use mathlib.Core.Path.{◌≡◌, refl, ◌∙◌, sym}
-use Prim.Native.Nat.{◌-◌}
-use native.Mathlib.Omega.{arith}
-use Rattle.std.proofs.Common.{rules}
+use mathlib.Core.Path.{◌∙◌, sym}
 use borrow.Author.Tests.{eq-eqb, ne_eqb}
-use lib.ListN.{length, drop}
-use Rattle.expr.specs.Scan.{any_tag, of_kind}
+use Rattle.expr.specs.Scan.{of_kind}
 use Rattle.expr.proofs.Scans.{any_here, any-on, any-end}
 use Rattle.expr.proofs.has_kind.Goals as goal
 

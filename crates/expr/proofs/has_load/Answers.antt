@@ -1,5 +1,4 @@
 use mathlib.Core.Path.{◌∙◌}
-use Rattle.std.proofs.Common.{rules}
 use Rattle.expr.specs.Scan.{is_load, of_kind}
 use Rattle.expr.proofs.Scans.{any-tree, load-tag}
 use Rattle.expr.proofs.has_load.Goals as goal

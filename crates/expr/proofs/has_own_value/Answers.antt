@@ -1,5 +1,4 @@
 use mathlib.Core.Path.{◌∙◌}
-use Rattle.std.proofs.Common.{rules}
 use Rattle.expr.specs.Scan.{is_effect, of_kind}
 use Rattle.expr.proofs.Scans.{any-tree, effect-tag}
 use Rattle.expr.proofs.has_own_value.Goals as goal

@@ -1,4 +1,3 @@
-use Rattle.std.proofs.Common.{rules}
 use Rattle.expr.proofs.is_plain.Goals as goal
 
 pub returns : goal.returns

@@ -1,6 +1,5 @@
 use mathlib.Core.Path.{◌∙◌, ap₂}
 use Rattle.expr.specs.Types.{common}
-use Rattle.std.proofs.Common.{rules}
 use Rattle.expr.proofs.joined.Goals as goal
 
 pub returns : goal.returns

@@ -1,9 +1,5 @@
-use Prim.Native.Nat.{◌-◌, ◌+◌, ◌≤◌}
 use native.Mathlib.Omega.{arith}
-use Rattle.std.proofs.Common.{rules}
-use lib.ListN.{get_or}
-use Rattle.expr.specs.Tree.{arity_of}
-use Rattle.expr.proofs.Parts.{Back, back_start, back_step, back-few, back_end}
+use Rattle.expr.proofs.Parts.{back_start, back_step, back-few, back_end}
 use Rattle.expr.proofs.last_start.Goals as goal
 
 pub loop-left-init : goal.loop-left-init

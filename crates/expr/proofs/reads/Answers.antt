@@ -1,9 +1,5 @@
-use mathlib.Core.Path.{◌≡◌, refl, ◌∙◌, sym}
-use Prim.Native.Nat.{◌-◌}
-use native.Mathlib.Omega.{arith}
-use Rattle.std.proofs.Common.{rules}
-use lib.ListN.{length, drop}
-use Rattle.expr.specs.Scan.{any_tag, is_variable, of_variable}
+use mathlib.Core.Path.{◌∙◌, sym}
+use Rattle.expr.specs.Scan.{is_variable, of_variable}
 use Rattle.expr.proofs.Scans.{any_here, any-on, any-end, any-tree, variable-tag}
 use Rattle.expr.proofs.reads.Goals as goal
 

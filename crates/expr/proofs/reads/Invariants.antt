@@ -1,10 +1,7 @@
-use mathlib.Core.Path.{◌≡◌, refl, ◌∙◌, sym}
+use mathlib.Core.Path.{◌≡◌}
 use Prim.Native.Nat.{◌-◌}
-use native.Mathlib.Omega.{arith}
-use Rattle.std.proofs.Common.{rules}
 use lib.ListN.{length, drop}
-use Rattle.expr.specs.Scan.{any_tag, is_variable, of_variable}
-use Rattle.expr.proofs.Scans.{any_here, any-on, any-end, any-tree, variable-tag}
+use Rattle.expr.specs.Scan.{any_tag, of_variable}
 use Rattle.expr.proofs.reads.Given as goal
 
 abbrev pub invariant-loop-i : goal.invariant-loop-i

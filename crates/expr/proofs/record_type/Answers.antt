@@ -6,7 +6,6 @@ use lib.ListN.{get_or-eq_default}
 use Rattle.expr.specs.Codes.{no_type}
 use Rattle.expr.specs.Types.{record_types, record_type}
 use Rattle.expr.proofs.Laws.{nine}
-use Rattle.std.proofs.Common.{rules}
 use Rattle.expr.proofs.record_type.Goals as goal
 
 module _ (types : List ℕ) (tag a b : ℕ) where

@@ -1,8 +1,5 @@
-use mathlib.Core.Path.{◌≡◌, refl, sym, ◌∙◌}
-use Prim.Native.Nat.{◌-◌}
+use mathlib.Core.Path.{sym, ◌∙◌}
 use native.Mathlib.Omega.{arith}
-use lib.ListN.{length, drop}
-use Rattle.laws.specs.Words.{same_words}
 use Rattle.laws.proofs.SameWords.{words-unlike, words-on, words-stop, words-end}
 use Rattle.expr.proofs.Sameness.{same-words}
 use Rattle.expr.proofs.same.Goals as goal

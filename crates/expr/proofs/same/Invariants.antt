@@ -1,10 +1,7 @@
-use mathlib.Core.Path.{◌≡◌, refl, sym, ◌∙◌}
+use mathlib.Core.Path.{◌≡◌}
 use Prim.Native.Nat.{◌-◌}
-use native.Mathlib.Omega.{arith}
 use lib.ListN.{length, drop}
 use Rattle.laws.specs.Words.{same_words}
-use Rattle.laws.proofs.SameWords.{words-unlike, words-on, words-stop, words-end}
-use Rattle.expr.proofs.Sameness.{same-words}
 use Rattle.expr.proofs.same.Given as goal
 
 abbrev pub invariant-loop-i : goal.invariant-loop-i

@@ -1,4 +1,3 @@
-use Rattle.std.proofs.Common.{rules}
 use Rattle.expr.specs.Types.{same_type}
 use Rattle.expr.proofs.same_type.Goals as goal
 

@@ -1,9 +1,6 @@
-use mathlib.Core.Path.{refl}
 use Prim.Native.Nat.{◌-◌}
-use native.Mathlib.Omega.{arith}
-use Rattle.std.proofs.Common.{rules}
 use lib.ListN.{length}
-use Rattle.expr.proofs.Stack.{Typed, typed-start, typed-enough, typed-push, typed-end}
+use Rattle.expr.proofs.Stack.{Typed}
 use Rattle.expr.proofs.static_type.Given as goal
 
 abbrev pub invariant-loop-i : goal.invariant-loop-i

@@ -1,7 +1,6 @@
 use mathlib.Core.Path.{sym}
 use native.Mathlib.Omega.{arith}
 use lib.ListN.{get_or-eq_default}
-use Rattle.std.proofs.Common.{rules}
 use Rattle.expr.specs.Codes.{signed8}
 use Rattle.expr.proofs.variable_type.Goals as goal
 

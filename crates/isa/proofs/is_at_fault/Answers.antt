@@ -1,5 +1,4 @@
 use Rattle.isa.proofs.Faults.{no-operands, all_alike}
-use Rattle.std.proofs.Common.{rules}
 use Rattle.isa.proofs.is_at_fault.Goals as goal
 
 pub returns-then-is_absent-alone : goal.returns-then-is_absent-alone

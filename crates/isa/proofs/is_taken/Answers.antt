@@ -1,4 +1,3 @@
-use Rattle.std.proofs.Common.{rules}
 use Rattle.isa.proofs.is_taken.Goals as goal
 
 pub returns-in-Mov : goal.returns-in-Mov

@@ -1,6 +1,5 @@
 use borrow.Author.Tests.{ne_eqb}
 use Rattle.isa.proofs.Faults.{low_part, second-byte}
-use Rattle.std.proofs.Common.{rules}
 use Rattle.isa.proofs.well_formed.Goals as goal
 
 pub returns-then-r-ne1 : goal.returns-then-r-ne1

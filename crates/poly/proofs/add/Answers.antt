@@ -1,5 +1,4 @@
 use Rattle.poly.proofs.Running.{times-one}
-use Rattle.std.proofs.Common.{rules}
 use Rattle.poly.proofs.add.Goals as goal
 
 pub returns : goal.returns

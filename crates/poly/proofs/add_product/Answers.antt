@@ -1,7 +1,6 @@
-use Prim.Native.Nat.{◌-◌}
 use native.Mathlib.Omega.{arith}
 use lib.ListN.{length}
-use Rattle.poly.proofs.Running.{Products, products-none, products-more, products-done, row_room}
+use Rattle.poly.proofs.Running.{products-none, products-more, products-done, row_room}
 use Rattle.poly.proofs.add_product.Goals as goal
 
 pub loop-i-init : goal.loop-i-init

@@ -1,7 +1,6 @@
 use Prim.Native.Nat.{◌-◌}
-use native.Mathlib.Omega.{arith}
 use lib.ListN.{length}
-use Rattle.poly.proofs.Running.{Products, products-none, products-more, products-done, row_room}
+use Rattle.poly.proofs.Running.{Products}
 use Rattle.poly.proofs.add_product.Given as goal
 
 abbrev pub invariant-loop-i : goal.invariant-loop-i

@@ -1,7 +1,5 @@
-use Prim.Native.Nat.{◌-◌}
 use native.Mathlib.Omega.{arith}
-use lib.ListN.{length}
-use Rattle.poly.proofs.Running.{Times, times_none, times_more, times-done}
+use Rattle.poly.proofs.Running.{times_none, times_more, times-done}
 use Rattle.poly.proofs.add_times.Goals as goal
 
 pub loop-i-init : goal.loop-i-init

@@ -1,7 +1,6 @@
 use Prim.Native.Nat.{◌-◌}
-use native.Mathlib.Omega.{arith}
 use lib.ListN.{length}
-use Rattle.poly.proofs.Running.{Times, times_none, times_more, times-done}
+use Rattle.poly.proofs.Running.{Times}
 use Rattle.poly.proofs.add_times.Given as goal
 
 abbrev pub invariant-loop-i : goal.invariant-loop-i

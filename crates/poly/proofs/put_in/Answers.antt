@@ -1,7 +1,6 @@
 use lib.ListN.{length-set}
-use Prim.Native.Nat.{◌-◌}
 use native.Mathlib.Omega.{arith}
-use Rattle.poly.proofs.Moves.{MovingUp, up_none, up_more, up_done}
+use Rattle.poly.proofs.Moves.{up_none, up_more, up_done}
 use Rattle.poly.proofs.put_in.Goals as goal
 
 pub loop-i-init : goal.loop-i-init

@@ -1,7 +1,5 @@
-use lib.ListN.{length-set}
 use Prim.Native.Nat.{◌-◌}
-use native.Mathlib.Omega.{arith}
-use Rattle.poly.proofs.Moves.{MovingUp, up_none, up_more, up_done}
+use Rattle.poly.proofs.Moves.{MovingUp}
 use Rattle.poly.proofs.put_in.Given as goal
 
 abbrev pub invariant-loop-i : goal.invariant-loop-i

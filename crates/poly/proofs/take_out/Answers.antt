@@ -1,6 +1,5 @@
-use Prim.Native.Nat.{◌-◌}
 use native.Mathlib.Omega.{arith}
-use Rattle.poly.proofs.Moves.{MovingDown, down-none, down-more, down-done}
+use Rattle.poly.proofs.Moves.{down-none, down-more, down-done}
 use Rattle.poly.proofs.take_out.Goals as goal
 
 pub loop-i-init : goal.loop-i-init

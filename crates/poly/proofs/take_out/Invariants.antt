@@ -1,6 +1,5 @@
 use Prim.Native.Nat.{◌-◌}
-use native.Mathlib.Omega.{arith}
-use Rattle.poly.proofs.Moves.{MovingDown, down-none, down-more, down-done}
+use Rattle.poly.proofs.Moves.{MovingDown}
 use Rattle.poly.proofs.take_out.Given as goal
 
 abbrev pub invariant-loop-i : goal.invariant-loop-i

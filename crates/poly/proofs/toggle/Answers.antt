@@ -1,7 +1,6 @@
 use Rattle.poly.proofs.Toggled.{found, found_within, take-out-toggles, put-in-toggles}
 use lib.Seq.{length-take-le}
 use native.Mathlib.Omega.{arith}
-use mathlib.Core.Logic.{⊎_elim}
 use mathlib.Core.Path.{sym}
 use Rattle.std.proofs.Common.{rules}
 use Rattle.poly.proofs.toggle.Goals as goal

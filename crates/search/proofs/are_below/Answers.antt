@@ -3,7 +3,6 @@ use borrow.Author.Tests.{ltb-true}
 use native.Mathlib.Omega.{arith}
 use Prim.Native.Nat.{ℕ, ◌-◌}
 use mathlib.Core.Path.{◌≡◌}
-use Rattle.std.proofs.Common.{rules}
 use Rattle.search.proofs.are_below.Goals as goal
 
 pub returns-then-list-at : goal.returns-then-list-at

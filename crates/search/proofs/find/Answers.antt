@@ -1,6 +1,5 @@
 use native.Mathlib.Omega.{arith}
 use Rattle.search.proofs.Laws.{place_here, place-past}
-use Rattle.std.proofs.Common.{rules}
 use Rattle.search.proofs.find.Goals as goal
 
 pub returns-then-list-at : goal.returns-then-list-at

@@ -1,6 +1,6 @@
 use Prim.Native.Nat.{ℕ, ◌+◌, ◌-◌, ◌/◌}
 use native.Mathlib.Omega.{arith}
-use Rattle.search.proofs.Laws.{Bracket, bracket-whole, bracket-up, bracket-down, count-is}
+use Rattle.search.proofs.Laws.{bracket-whole, bracket-up, bracket-down, count-is}
 use Rattle.search.proofs.first_at_or_above.Goals as goal
 
 -- the middle of what is left

@@ -1,6 +1,5 @@
-use Prim.Native.Nat.{ℕ, ◌+◌, ◌-◌, ◌/◌}
-use native.Mathlib.Omega.{arith}
-use Rattle.search.proofs.Laws.{Bracket, bracket-whole, bracket-up, bracket-down, count-is}
+use Prim.Native.Nat.{◌-◌}
+use Rattle.search.proofs.Laws.{Bracket}
 use Rattle.search.proofs.first_at_or_above.Given as goal
 
 abbrev pub invariant-loop-lo : goal.invariant-loop-lo

@@ -1,8 +1,4 @@
-use borrow.Author.Tests.{not-false}
-use Prim.Native.Nat.{◌-◌}
 use native.Mathlib.Omega.{arith}
-use lib.ListN.{length}
-use Rattle.search.specs.Ascending.{Below}
 use Rattle.search.proofs.Laws.{below-upto, below_all}
 use Rattle.search.proofs.first_from.Goals as goal
 

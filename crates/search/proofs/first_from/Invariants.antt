@@ -1,9 +1,6 @@
-use borrow.Author.Tests.{not-false}
 use Prim.Native.Nat.{◌-◌}
-use native.Mathlib.Omega.{arith}
 use lib.ListN.{length}
 use Rattle.search.specs.Ascending.{Below}
-use Rattle.search.proofs.Laws.{below-upto, below_all}
 use Rattle.search.proofs.first_from.Given as goal
 
 abbrev pub invariant-loop-at : goal.invariant-loop-at

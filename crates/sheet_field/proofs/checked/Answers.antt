@@ -1,5 +1,4 @@
 use Rattle.sheet_field.specs.Field.{check_field}
-use Rattle.std.proofs.Common.{rules}
 use Rattle.sheet_field.proofs.checked.Goals as goal
 
 pub returns : goal.returns

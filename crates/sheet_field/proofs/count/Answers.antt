@@ -1,5 +1,4 @@
 use Rattle.sheet_field.specs.Field.{count_at}
-use Rattle.std.proofs.Common.{rules}
 use Rattle.sheet_field.proofs.count.Goals as goal
 
 pub returns : goal.returns

@@ -1,5 +1,4 @@
 use Rattle.sheet_field.proofs.Fields.{little-add}
-use Rattle.std.proofs.Common.{rules}
 use Rattle.sheet_field.proofs.four.Goals as goal
 
 pub returns : goal.returns

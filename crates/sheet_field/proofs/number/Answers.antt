@@ -1,6 +1,5 @@
 use Rattle.sheet_field.proofs.Fields.{little-one}
 use native.Mathlib.Omega.{arith}
-use Rattle.std.proofs.Common.{rules}
 use Rattle.sheet_field.proofs.number.Goals as goal
 
 pub bounds-s-at : goal.bounds-s-at

@@ -1,6 +1,5 @@
 use Rattle.sheet_field.proofs.Fields.{field-whole, field_cut, field-refused}
 use native.Mathlib.Omega.{arith}
-use Rattle.std.proofs.Common.{rules}
 use Rattle.sheet_field.proofs.take_field.Goals as goal
 
 pub returns-then-n-s : goal.returns-then-n-s

@@ -1,5 +1,4 @@
 use Rattle.sheet_field.proofs.Fields.{little-two}
-use Rattle.std.proofs.Common.{rules}
 use Rattle.sheet_field.proofs.two.Goals as goal
 
 pub returns : goal.returns

@@ -1,7 +1,5 @@
-use Prim.Native.Nat.{◌-◌}
 use native.Mathlib.Omega.{arith}
-use lib.ListN.{length}
-use Rattle.slice.proofs.Copied.{Copied, copied_none, copied_more, copied_all}
+use Rattle.slice.proofs.Copied.{copied_none, copied_more, copied_all}
 use Rattle.slice.proofs.copy_to.Goals as goal
 
 pub loop-i-init : goal.loop-i-init

@@ -1,7 +1,6 @@
 use Prim.Native.Nat.{◌-◌}
-use native.Mathlib.Omega.{arith}
 use lib.ListN.{length}
-use Rattle.slice.proofs.Copied.{Copied, copied_none, copied_more, copied_all}
+use Rattle.slice.proofs.Copied.{Copied}
 use Rattle.slice.proofs.copy_to.Given as goal
 
 abbrev pub invariant-loop-i : goal.invariant-loop-i

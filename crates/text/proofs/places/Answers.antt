@@ -1,7 +1,5 @@
-use Prim.Native.Nat.{◌+◌, ◌≤◌}
-use mathlib.Core.Path.{◌≡◌, refl}
+use mathlib.Core.Path.{refl}
 use native.Mathlib.Omega.{arith}
-use Rattle.text.specs.Digits.{places_of}
 use Rattle.text.proofs.Lengths.{falls, places-few, places-more}
 use Rattle.text.proofs.places.Goals as goal
 

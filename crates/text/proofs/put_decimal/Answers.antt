@@ -1,7 +1,6 @@
 use native.Mathlib.Omega.{arith}
 use Rattle.text.proofs.Lengths.{places-long}
 use Rattle.text.proofs.Puts.{put-places}
-use Rattle.std.proofs.Common.{rules}
 use Rattle.text.proofs.put_decimal.Goals as goal
 
 pub put_digits-requires : goal.put_digits-requires

@@ -1,6 +1,6 @@
 use native.Mathlib.Nat.{mod-lt}
 use native.Mathlib.Omega.{arith}
-use Rattle.text.proofs.Puts.{DigitsLeft, digits-start, digits-next, digits-done}
+use Rattle.text.proofs.Puts.{digits-start, digits-next, digits-done}
 use Rattle.text.proofs.put_digits.Goals as goal
 
 pub loop-i-init : goal.loop-i-init

@@ -1,6 +1,4 @@
-use native.Mathlib.Nat.{mod-lt}
-use native.Mathlib.Omega.{arith}
-use Rattle.text.proofs.Puts.{DigitsLeft, digits-start, digits-next, digits-done}
+use Rattle.text.proofs.Puts.{DigitsLeft}
 use Rattle.text.proofs.put_digits.Given as goal
 
 abbrev pub invariant-loop-i : goal.invariant-loop-i

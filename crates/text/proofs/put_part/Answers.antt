@@ -1,5 +1,4 @@
 use Rattle.text.proofs.Puts.{part-is}
-use Rattle.std.proofs.Common.{rules}
 use Rattle.text.proofs.put_part.Goals as goal
 
 pub returns : goal.returns

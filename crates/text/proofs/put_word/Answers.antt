@@ -1,7 +1,4 @@
-use Prim.Native.Nat.{◌-◌}
-use native.Mathlib.Omega.{arith}
-use lib.ListN.{length}
-use Rattle.text.proofs.Puts.{WordLeft, word-start, word_next, word-done}
+use Rattle.text.proofs.Puts.{word-start, word_next, word-done}
 use Rattle.text.proofs.put_word.Goals as goal
 
 pub loop-i-init : goal.loop-i-init

@@ -1,7 +1,6 @@
 use Prim.Native.Nat.{◌-◌}
-use native.Mathlib.Omega.{arith}
 use lib.ListN.{length}
-use Rattle.text.proofs.Puts.{WordLeft, word-start, word_next, word-done}
+use Rattle.text.proofs.Puts.{WordLeft}
 use Rattle.text.proofs.put_word.Given as goal
 
 abbrev pub invariant-loop-i : goal.invariant-loop-i
