@@ -13,7 +13,7 @@
 --  8 | a constant fits its width | its value's last byte | its value's first byte | record_at
 --  9 | an assigned value has its variable's type | the statement's last byte | its map byte | typed_at
 -- The first check that fails gives the refusal; of two at one byte, the one with the lower number (R2, R3, R4).
-use Rattle.std.specs.Prelude.{ℕ, zero, suc, ◌+◌, List, [], ◌∷◌, ◌++◌, eqb, leb, length, get_or}
+use Rattle.std.specs.Prelude.{ℕ, zero, suc, List, [], ◌∷◌, ◌++◌, eqb, leb, length, get_or}
 use Rattle.refusal.specs.Numbers.{ENDS}
 use Rattle.expr.specs.Tree.Expr.{condition_true}
 use Rattle.sheet_field.specs.declared.Place.{Place}
