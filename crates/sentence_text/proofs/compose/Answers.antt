@@ -1,0 +1,17 @@
+use Rattle.sentence_text.specs.Promises.{said_text}
+use Rattle.sentence_text.proofs.Sentences.{composes-nothing, composes-one, said-both}
+use Rattle.sentence_text.proofs.compose.Goals as goal
+
+pub returns-in-Nothing : goal.returns-in-Nothing
+unfolding said_text
+returns-in-Nothing c =
+    rw c.in-Nothing.is (composes-nothing _)
+
+pub returns-in-One : goal.returns-in-One
+unfolding said_text
+returns-in-One c =
+    rw c.in-One.is (composes-one _ c.put_cause-end.ensures.put)
+
+pub returns-in-Joined : goal.returns-in-Joined
+returns-in-Joined c =
+    said-both c.in-Joined.is c.put_both.ensures
