@@ -1,5 +1,5 @@
 -- Atoms by number: the list grows at its end, and a number stays the number of its atom.
-use Prim.Native.Nat.{suc, ◌+◌, ◌<◌, ◌≤◌}
+use Prim.Native.Nat.{suc, ◌<◌, ◌≤◌}
 use mathlib.Core.Path.{◌≡◌, refl, sym, ap, ◌∙◌}
 use mathlib.Core.Bool.{Bool, true, false, cond}
 use mathlib.Core.List.{List, [], ◌∷◌, ◌++◌, append_assoc}

@@ -1,7 +1,7 @@
 -- Polynomials and choices of atom bits. Bits by number fit a choice where each atom's number has the bit that the choice gives
 -- the atom; then a part's polynomial at those bits is its low bit for that choice. Every choice has bits by number that fit it,
 -- and all bits by number fit some choice.
-use Prim.Native.Nat.{ℕ, zero, suc, ◌+◌, ◌/◌, ◌%◌, ◌^◌, ◌<◌}
+use Prim.Native.Nat.{ℕ, zero, suc, ◌/◌, ◌%◌, ◌^◌, ◌<◌}
 use mathlib.Core.Path.{◌≡◌, refl, sym, ap, ◌∙◌}
 use mathlib.Core.Bool.{Bool, true, false, cond, xor, ◌&&◌, ◌||◌}
 use mathlib.Core.List.{List, [], ◌∷◌, ◌++◌, append_assoc}

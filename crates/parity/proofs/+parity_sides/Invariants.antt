@@ -1,0 +1,10 @@
+-- The measures of the cycle of calls {parity, sides}. `sides` is called on the two sides of a part and calls `parity` on each: the measures
+-- are twice the words, and one more for `parity`.
+use Rattle.std.proofs.Common.{◌+◌, length}
+use Rattle.parity.proofs.+parity_sides.Given as goal
+
+abbrev pub decreases-parity : goal.decreases-parity
+decreases-parity l = length l.part.now + length l.part.now + 1
+
+abbrev pub decreases-sides : goal.decreases-sides
+decreases-sides l = (length l.left.now + length l.right.now + 2) + (length l.left.now + length l.right.now + 2)
