@@ -12,7 +12,7 @@ use Rattle.sheet_node.proofs.Variables.{ReadsDeclared}
 use Rattle.value.specs.declared.Truth.{Truth}
 use Rattle.value.specs.declared.Truth.TheVariants as truth
 use Rattle.value.specs.Run.{Choices, run}
-use Rattle.evaluate_node.specs.declared.Evaluation.TheVariants.{Holds, Fails, Refused}
+use Rattle.evaluate_node.specs.declared.Evaluation.TheVariants.{Refused}
 use Rattle.evaluate_node.specs.declared.Fit.{Fit}
 use Rattle.evaluate_node.specs.declared.Fit.TheVariants.{AllFit, Unfit}
 use Rattle.evaluate_node.specs.Evaluate.{plain_all, unfit_from, on_values, on_fit, on_truth, evaluation_of, StartsFrom, Gives, FromRun}
