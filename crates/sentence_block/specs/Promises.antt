@@ -10,16 +10,16 @@ use Rattle.sentence.specs.Why.{no_why, why_stepped_all}
 use Rattle.sentence.specs.Promises.{own_text, Share}
 
 -- what the instruction of that number says of CF, or, without `carry`, of the other flags, where the block starts at number `first`
-abbrev pub field_own : List Instruction → (first : ℕ) (carry : Bool) (number : ℕ) → Instruction → List ℕ
-field_own l first carry number none =
+abbrev pub own_at : List Instruction → (first : ℕ) (carry : Bool) (number : ℕ) → Instruction → List ℕ
+own_at l first carry number none =
     own_text (stepped_all nothing_known (slice first number l)) (get_or l number none).mnemonic (get_or l number none).first (get_or l number none).second carry
 
 -- what the causes say: that of CF, with what cmc adds, and that of the other flags
 abbrev pub carry_at : List Instruction → (first : ℕ) → Setters → Instruction → List ℕ
-carry_at l first t none = field_own l first true t.carry none ++ turned_times t.turns
+carry_at l first t none = own_at l first true t.carry none ++ turned_times t.turns
 
 abbrev pub result_at : List Instruction → (first : ℕ) → Setters → Instruction → List ℕ
-result_at l first t none = field_own l first false t.result none
+result_at l first t none = own_at l first false t.result none
 
 -- the causes of the flags that are known after the instructions from number `first` up to `end`
 pub record Traced (l : List Instruction) (first end : ℕ) (t : Setters) : Type 0 where
