@@ -98,7 +98,7 @@ right-logical op r f op-is is same lt self clear =
     }
 
 pub right : (op : Binary) → Right op
-unfolding rules.result rules.carry rules.overflow
+unfolding rules.result_of rules.carry rules.overflow
 right Add = right-add
 right Sub = right-sub Sub refl (λ n a b. refl) refl
 right Cmp = right-sub Cmp refl (λ n a b. refl) refl

@@ -50,9 +50,9 @@ pub record Matches (n : ℕ) (o : Performed) (r : Result) : Type 0 where
   pub flags : FlagsAgree o.flags (status_of n r)
 
 pub matches : (op : Operation) (w : Width) (a b : ℕ) (r : Result)
-    → rules.result op w a b ≡ r.value
-    → rules.carry op a b (rules.result op w a b) ≡ r.carry
-    → rules.overflow op w a b (rules.result op w a b) ≡ r.overflow
+    → rules.result_of op w a b ≡ r.value
+    → rules.carry op a b (rules.result_of op w a b) ≡ r.carry
+    → rules.overflow op w a b (rules.result_of op w a b) ≡ r.overflow
     → Matches (bits w) (rules.performed op w a b) r
 unfolding rules.performed rules.result_flags status_of
 matches op w a b r value-is carry-is overflow-is =
@@ -98,14 +98,14 @@ module _ (w : Width) (a b : ℕ) (ha : a < 2 ^ bits w) (hb : b < 2 ^ bits w) whe
   hb' = rw (halves w) at hb
 
   pub add-matches : Matches (bits w) (rules.performed Add w a b) (sum (bits w) a b)
-  unfolding rules.result rules.carry rules.overflow sum
+  unfolding rules.result_of rules.carry rules.overflow sum
   add-matches =
       matches Add w a b (sum (bits w) a b) refl
       (carry-law (2 ^ bits w) a b ha hb)
       (rw (halves w) (sum-overflow-law (half w) a b ha' hb'))
 
   pub sub-matches : Matches (bits w) (rules.performed Sub w a b) (difference (bits w) a b)
-  unfolding rules.result rules.carry rules.overflow difference
+  unfolding rules.result_of rules.carry rules.overflow difference
   sub-matches =
       matches Sub w a b (difference (bits w) a b) (within w a b hb) refl
       (rw (within w a b hb, halves w) (difference-overflow-law (half w) a b ha' hb'))
@@ -114,9 +114,9 @@ module _ (w : Width) (a b : ℕ) (ha : a < 2 ^ bits w) (hb : b < 2 ^ bits w) whe
 pub neg-matches : (w : Width) (a : ℕ) → a < 2 ^ bits w
     → Matches (bits w) (rules.performed Sub w 0 a)
     (record { value = (2 ^ bits w - a) % 2 ^ bits w; carry = not (eqb a 0); overflow = eqb a (2 ^ (bits w - 1)) })
-unfolding rules.result rules.carry rules.overflow
+unfolding rules.result_of rules.carry rules.overflow
 neg-matches w a ha =
     let ha' : a < half w + half w = rw (halves w) at ha in
-    let out : rules.overflow Sub w 0 a (rules.result Sub w 0 a) ≡ eqb a (half w) =
+    let out : rules.overflow Sub w 0 a (rules.result_of Sub w 0 a) ≡ eqb a (half w) =
     rw (within w 0 a ha, halves w) (difference-overflow-law (half w) 0 a (omega (arith, half_pos w)) ha' ∙ negation-overflow (half w) a (half_pos w) ha') in
     matches Sub w 0 a _ (within w 0 a ha ∙ rw zero-add) (zero_test a) out
