@@ -1,0 +1,6 @@
+-- `exact` calls itself below a cast, so the measure is the words.
+use Rattle.std.proofs.Common.{length}
+use Rattle.exact.proofs.+exact.Given as goal
+
+abbrev pub decreases-exact : goal.decreases-exact
+decreases-exact l = length l.rs.now

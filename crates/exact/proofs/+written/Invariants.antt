@@ -1,0 +1,6 @@
+-- `written` calls itself on shorter parts, so the measure is the words.
+use Rattle.std.proofs.Common.{length}
+use Rattle.exact.proofs.+written.Given as goal
+
+abbrev pub decreases-written : goal.decreases-written
+decreases-written l = length l.rs.now
