@@ -131,6 +131,7 @@ def results(root):
             text = re.sub(r"ensures\* \{ λ (\w+)\. ⌜ \1 ≡ (.*) ⌝ \}", lambda m: "ensures { result ≡ " + word.sub("result_of", m[2]) + " }", text)
         elif path.endswith(".edit") and in_alu:
             text = "\n".join(word.sub("result_of", l) if re.match(r"(old|new): .*result (Add|Sub|And|Or|Xor) ", l) else l for l in text.split("\n"))
+        text = re.sub(r"Rattle\.alu\.specs\.Arithmetic\.result(?![A-Za-z0-9_'.-])", "Rattle.alu.specs.Arithmetic.result_of", text)
         if text != old:
             write(path, text)
 

@@ -119,5 +119,5 @@ rows =
 
 -- The marked rows hold (T1, T2, T3, T4, T5, T6, T7, T8, T9, T10, T11, T12, T13, T14).
 pub marked : Yields rows
-unfolding rows end_from Rattle.verdict_block.specs.Verdict.apart Rattle.machine.specs.Rules.stepped_all Rattle.machine.specs.Conditions.condition_of Rattle.machine.specs.Finish.finished Rattle.machine.specs.Rules.arith_step Rattle.machine.specs.Rules.unary_unknown Rattle.machine.specs.Rules.unary_step Rattle.machine.specs.Rules.register_step Rattle.machine.specs.Rules.modelled_step Rattle.machine.specs.Rules.stepped Rattle.machine.specs.Registers.nothing_known Rattle.machine.specs.Registers.slot_at Rattle.machine.specs.Registers.forget_register Rattle.machine.specs.Rules.carry_step Rattle.known.specs.Registers.part_of Rattle.known.specs.Registers.with_part Rattle.machine.specs.States.replaced Rattle.machine.specs.Registers.read_of Rattle.machine.specs.Registers.written Rattle.machine.specs.Registers.operand_of Rattle.machine.specs.Registers.forget_registers Rattle.machine.specs.Registers.forgotten Rattle.known.specs.Operations.of_itself Rattle.known.specs.Operations.of_known Rattle.known.specs.Operations.arith_effect Rattle.known.specs.Operations.unary_effect Rattle.known.specs.Operations.forget_flags Rattle.known.specs.Conditions.flag_condition Rattle.known.specs.Values.extracted Rattle.known.specs.Values.inserted Rattle.known.specs.Values.merged Rattle.alu.specs.Arithmetic.result Rattle.alu.specs.Arithmetic.carry Rattle.alu.specs.Arithmetic.overflow Rattle.alu.specs.Arithmetic.result_flags Rattle.alu.specs.Arithmetic.performed Rattle.verdict_node.specs.NodeVerdict.node_verdict Rattle.substitution.specs.Substitution.substituted Rattle.substitution.specs.Substitution.substitute Rattle.expr.specs.Tree.size Rattle.substitution.specs.Substitution.assigned Rattle.substitution.specs.Substitution.kept Rattle.substitution.specs.Substitution.holdable Rattle.substitution.specs.Substitution.ended Rattle.decide.specs.Decide.decide Rattle.decide.specs.Decide.fits Rattle.exact.specs.Exact.exact Rattle.exact.specs.Exact.written Rattle.exact.specs.Exact.exact_fits Rattle.exact.specs.Exact.shape Rattle.parity.specs.Parity.parity Rattle.parity.specs.Parity.atom_low Rattle.parity.specs.Parity.entered Rattle.parity.specs.Parity.place Rattle.poly.specs.Terms.toggle Rattle.poly.specs.Terms.sum Rattle.poly.specs.Terms.sum_times Rattle.poly.specs.Terms.sum_product Rattle.expr.specs.Scan.same_tree Rattle.laws.specs.Words.same_words Rattle.expr.specs.Scan.any_node Rattle.expr.specs.Scan.is_effect Rattle.expr.specs.Scan.is_load Rattle.expr.specs.Scan.is_variable Rattle.expr.specs.Tree.flat Rattle.expr.specs.Tree.tag_of Rattle.expr.specs.Tree.value_of
+unfolding rows end_from Rattle.verdict_block.specs.Verdict.apart Rattle.machine.specs.Rules.stepped_all Rattle.machine.specs.Conditions.condition_of Rattle.machine.specs.Finish.finished Rattle.machine.specs.Rules.arith_step Rattle.machine.specs.Rules.unary_unknown Rattle.machine.specs.Rules.unary_step Rattle.machine.specs.Rules.register_step Rattle.machine.specs.Rules.modelled_step Rattle.machine.specs.Rules.stepped Rattle.machine.specs.Registers.nothing_known Rattle.machine.specs.Registers.slot_at Rattle.machine.specs.Registers.forget_register Rattle.machine.specs.Rules.carry_step Rattle.known.specs.Registers.part_of Rattle.known.specs.Registers.with_part Rattle.machine.specs.States.replaced Rattle.machine.specs.Registers.read_of Rattle.machine.specs.Registers.written Rattle.machine.specs.Registers.operand_of Rattle.machine.specs.Registers.forget_registers Rattle.machine.specs.Registers.forgotten Rattle.known.specs.Operations.of_itself Rattle.known.specs.Operations.of_known Rattle.known.specs.Operations.arith_effect Rattle.known.specs.Operations.unary_effect Rattle.known.specs.Operations.forget_flags Rattle.known.specs.Conditions.flag_condition Rattle.known.specs.Values.extracted Rattle.known.specs.Values.inserted Rattle.known.specs.Values.merged Rattle.alu.specs.Arithmetic.result_of Rattle.alu.specs.Arithmetic.carry Rattle.alu.specs.Arithmetic.overflow Rattle.alu.specs.Arithmetic.result_flags Rattle.alu.specs.Arithmetic.performed Rattle.verdict_node.specs.NodeVerdict.node_verdict Rattle.substitution.specs.Substitution.substituted Rattle.substitution.specs.Substitution.substitute Rattle.expr.specs.Tree.size Rattle.substitution.specs.Substitution.assigned Rattle.substitution.specs.Substitution.kept Rattle.substitution.specs.Substitution.holdable Rattle.substitution.specs.Substitution.ended Rattle.decide.specs.Decide.decide Rattle.decide.specs.Decide.fits Rattle.exact.specs.Exact.exact Rattle.exact.specs.Exact.written Rattle.exact.specs.Exact.exact_fits Rattle.exact.specs.Exact.shape Rattle.parity.specs.Parity.parity Rattle.parity.specs.Parity.atom_low Rattle.parity.specs.Parity.entered Rattle.parity.specs.Parity.place Rattle.poly.specs.Terms.toggle Rattle.poly.specs.Terms.sum Rattle.poly.specs.Terms.sum_times Rattle.poly.specs.Terms.sum_product Rattle.expr.specs.Scan.same_tree Rattle.laws.specs.Words.same_words Rattle.expr.specs.Scan.any_node Rattle.expr.specs.Scan.is_effect Rattle.expr.specs.Scan.is_load Rattle.expr.specs.Scan.is_variable Rattle.expr.specs.Tree.flat Rattle.expr.specs.Tree.tag_of Rattle.expr.specs.Tree.value_of
 marked = (refl, (refl, (refl, (refl, (refl, (refl, (refl, (refl, (refl, (refl, (refl, (refl, (refl, (refl, tt))))))))))))))
