@@ -1,0 +1,6 @@
+-- `decide` calls itself on the halves of && and ||, so the measure is the words.
+use Rattle.std.proofs.Common.{length}
+use Rattle.decide.proofs.+decide.Given as goal
+
+abbrev pub decreases-decide : goal.decreases-decide
+decreases-decide l = length l.rs.now

@@ -1,0 +1,10 @@
+use Rattle.decide.proofs.Rooms.{short-room}
+use Rattle.std.proofs.Common.{rules}
+use Rattle.decide.proofs.equality_short.Goals as goal
+
+pub equality-requires : goal.equality-requires
+equality-requires c =
+    record {
+      lent_two = c.requires.sides_of.lent _ _ (search rules) (search rules);
+      buffers = (short-room c.requires.sides_of (search rules) c.requires.whole_len_bound (search rules) (search rules)).1;
+    }

@@ -1,0 +1,22 @@
+use borrow.Author.Tests.{eq-eqb, ne_eqb}
+use Rattle.decide.proofs.mirrored.Goals as goal
+
+pub returns-then-operator-eq-LESS : goal.returns-then-operator-eq-LESS
+returns-then-operator-eq-LESS c =
+    rw (eq-eqb _ _ c.if-operator-eq-LESS.true)
+
+pub returns-then-operator-eq-GREATER : goal.returns-then-operator-eq-GREATER
+returns-then-operator-eq-GREATER c =
+    rw (ne_eqb _ _ c.if-operator-eq-LESS.false, eq-eqb _ _ c.if-operator-eq-GREATER.true)
+
+pub returns-then-operator-eq-LESS_EQUAL : goal.returns-then-operator-eq-LESS_EQUAL
+returns-then-operator-eq-LESS_EQUAL c =
+    rw (ne_eqb _ _ c.if-operator-eq-LESS.false, ne_eqb _ _ c.if-operator-eq-GREATER.false, eq-eqb _ _ c.if-operator-eq-LESS_EQUAL.true)
+
+pub returns-then-operator-eq-GREATER_EQUAL : goal.returns-then-operator-eq-GREATER_EQUAL
+returns-then-operator-eq-GREATER_EQUAL c =
+    rw (ne_eqb _ _ c.if-operator-eq-LESS.false, ne_eqb _ _ c.if-operator-eq-GREATER.false, ne_eqb _ _ c.if-operator-eq-LESS_EQUAL.false, eq-eqb _ _ c.if-operator-eq-GREATER_EQUAL.true)
+
+pub returns : goal.returns
+returns c =
+    rw (ne_eqb _ _ c.if-operator-eq-LESS.false, ne_eqb _ _ c.if-operator-eq-GREATER.false, ne_eqb _ _ c.if-operator-eq-LESS_EQUAL.false, ne_eqb _ _ c.if-operator-eq-GREATER_EQUAL.false)

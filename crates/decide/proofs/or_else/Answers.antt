@@ -1,0 +1,9 @@
+use Rattle.decide.proofs.or_else.Goals as goal
+
+pub returns-in-Always : goal.returns-in-Always
+returns-in-Always c =
+    rw c.in-Always.is
+
+pub returns-in-Never : goal.returns-in-Never
+returns-in-Never c =
+    rw c.in-Never.is
