@@ -1,6 +1,6 @@
 -- A node's statements are passed one after the other: what is still due of them, from the table that stands in the borrowed words, is what the node's
 -- statements make of any condition. A statement that was read whole is one of the list, and its words are one tree.
-use Prim.Native.Nat.{ℕ, suc, ◌+◌, ◌*◌, ◌-◌, ◌≤◌, ◌<◌}
+use Prim.Native.Nat.{ℕ, suc, ◌+◌, ◌*◌, ◌≤◌, ◌<◌}
 use mathlib.Core.Path.{◌≡◌, refl, sym, ap, subst, ◌∙◌}
 use mathlib.Core.Bool.{Bool, true, false, cond, false≢true}
 use mathlib.Core.List.{List, [], ◌∷◌}

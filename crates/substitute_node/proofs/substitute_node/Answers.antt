@@ -8,7 +8,6 @@ use Rattle.sheet_field.specs.declared.Place.TheVariants.{At}
 use Rattle.sheet_expression.specs.Expression.{expression_at}
 use Rattle.sheet_expression.proofs.Accepted.{took-tree}
 use Rattle.substitute_node.proofs.Passing.{passed-long, passed_start, passed-made}
-use Rattle.std.proofs.Common.{rules}
 use Rattle.substitute_node.proofs.substitute_node.Goals as goal
 
 pub returns-then-not-passed : goal.returns-then-not-passed

@@ -6,7 +6,6 @@ use lib.Seq.{length-take-le}
 use native.Mathlib.Omega.{arith}
 use mathlib.Core.Path.{sym, ◌∙◌}
 use mathlib.Core.Bool.{false≢true}
-use Rattle.std.proofs.Common.{rules}
 use Rattle.substitute_node.proofs.take_statement.Goals as goal
 
 pub statement_at-r-requires : goal.statement_at-r-requires

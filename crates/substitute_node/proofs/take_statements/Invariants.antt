@@ -1,10 +1,7 @@
-use Rattle.substitute_node.proofs.Passing.{Passing, passing-start, passing-lent, passing-whole, passing-stop, passing-more, passing-end}
-use borrow.Author.Tests.{not-true, not-false}
-use Rattle.std.proofs.Common.{rules}
-use native.Mathlib.Omega.{arith}
+use Rattle.substitute_node.proofs.Passing.{Passing}
 use Prim.Native.Nat.{◌-◌}
 use lib.ListN.{length}
-use mathlib.Core.Path.{◌≡◌, refl}
+use mathlib.Core.Path.{◌≡◌}
 use Rattle.substitute_node.proofs.take_statements.Given as goal
 
 abbrev pub invariant-loop-i : goal.invariant-loop-i

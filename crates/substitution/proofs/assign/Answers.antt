@@ -1,7 +1,6 @@
 use Rattle.substitution.specs.Words.{table_of}
 use Rattle.substitution.proofs.Entries.{assigned-held, assigned-free}
 use native.Mathlib.Omega.{arith}
-use Rattle.std.proofs.Common.{rules}
 use Rattle.substitution.proofs.assign.Goals as goal
 
 pub returns-then-hold : goal.returns-then-hold

@@ -1,7 +1,5 @@
-use Rattle.substitution.proofs.Entries.{Clearing, clear_none, clear-more, clear-end}
-use lib.ListN.{length}
+use Rattle.substitution.proofs.Entries.{clear_none, clear-more, clear-end}
 use native.Mathlib.Omega.{arith}
-use Prim.Native.Nat.{◌-◌}
 use Rattle.substitution.proofs.clear.Goals as goal
 
 pub loop-i-init : goal.loop-i-init

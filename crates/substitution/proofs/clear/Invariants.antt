@@ -1,6 +1,5 @@
-use Rattle.substitution.proofs.Entries.{Clearing, clear_none, clear-more, clear-end}
+use Rattle.substitution.proofs.Entries.{Clearing}
 use lib.ListN.{length}
-use native.Mathlib.Omega.{arith}
 use Prim.Native.Nat.{◌-◌}
 use Rattle.substitution.proofs.clear.Given as goal
 

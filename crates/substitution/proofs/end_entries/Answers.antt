@@ -1,7 +1,5 @@
-use Rattle.substitution.proofs.Entries.{Stopping, stop-none, stop-more, stopping-slots, stopping-end}
-use lib.ListN.{length}
+use Rattle.substitution.proofs.Entries.{stop-none, stop-more, stopping-slots, stopping-end}
 use native.Mathlib.Omega.{arith}
-use Prim.Native.Nat.{◌-◌}
 use Rattle.substitution.proofs.end_entries.Goals as goal
 
 pub loop-w-init : goal.loop-w-init

@@ -1,6 +1,5 @@
-use Rattle.substitution.proofs.Entries.{Stopping, stop-none, stop-more, stopping-slots, stopping-end}
+use Rattle.substitution.proofs.Entries.{Stopping}
 use lib.ListN.{length}
-use native.Mathlib.Omega.{arith}
 use Prim.Native.Nat.{◌-◌}
 use Rattle.substitution.proofs.end_entries.Given as goal
 

@@ -1,6 +1,5 @@
 use Rattle.substitution.proofs.Entries.{slot-within, entry-tree, held_reads, free-reads, beyond-reads}
 use native.Mathlib.Omega.{arith}
-use Rattle.std.proofs.Common.{rules}
 use Rattle.substitution.proofs.entry_reads.Goals as goal
 
 pub overflow_add-start : goal.overflow_add-start

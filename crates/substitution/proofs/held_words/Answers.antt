@@ -1,6 +1,5 @@
 use Rattle.substitution.proofs.Backward.{words-there, words-beyond, words-other, words-under}
 use native.Mathlib.Omega.{arith}
-use Rattle.std.proofs.Common.{rules}
 use Rattle.substitution.proofs.held_words.Goals as goal
 
 pub returns-then-number-lengths : goal.returns-then-number-lengths

@@ -1,6 +1,5 @@
 use Rattle.substitution.proofs.Entries.{ended-other, ended-own, ended-none}
 use native.Mathlib.Omega.{arith}
-use Rattle.std.proofs.Common.{rules}
 use Rattle.substitution.proofs.is_ended.Goals as goal
 
 pub returns-then-w-v : goal.returns-then-w-v

@@ -1,5 +1,4 @@
 use Rattle.substitution.proofs.Entries.{holdable-by}
-use Rattle.std.proofs.Common.{rules}
 use Rattle.substitution.proofs.is_holdable.Goals as goal
 
 pub returns : goal.returns

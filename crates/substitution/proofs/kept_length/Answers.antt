@@ -1,5 +1,4 @@
 use Rattle.substitution.proofs.Entries.{kept-none, kept_same}
-use Rattle.std.proofs.Common.{rules}
 use Rattle.substitution.proofs.kept_length.Goals as goal
 
 pub returns-then-w-v : goal.returns-then-w-v

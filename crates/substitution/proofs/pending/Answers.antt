@@ -1,6 +1,5 @@
 use Rattle.substitution.proofs.Backward.{pending-load, pending-other, pending-under, pending-fits}
 use native.Mathlib.Omega.{arith}
-use Rattle.std.proofs.Common.{rules}
 use Rattle.substitution.proofs.pending.Goals as goal
 
 pub overflow_add-result : goal.overflow_add-result

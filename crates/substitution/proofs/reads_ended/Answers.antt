@@ -1,10 +1,5 @@
 use Rattle.substitution.proofs.Entries.{scan-found, scan-on, scan-end}
-use Rattle.substitution.specs.Words.{table_of, ended_tag}
-use Rattle.expr.specs.Scan.{any_tag}
-use lib.ListN.{length, drop}
 use native.Mathlib.Omega.{arith}
-use mathlib.Core.Path.{◌≡◌, refl}
-use Prim.Native.Nat.{◌-◌}
 use Rattle.substitution.proofs.reads_ended.Goals as goal
 
 pub is_ended-requires : goal.is_ended-requires

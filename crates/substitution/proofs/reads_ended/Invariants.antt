@@ -1,9 +1,7 @@
-use Rattle.substitution.proofs.Entries.{scan-found, scan-on, scan-end}
 use Rattle.substitution.specs.Words.{table_of, ended_tag}
 use Rattle.expr.specs.Scan.{any_tag}
 use lib.ListN.{length, drop}
-use native.Mathlib.Omega.{arith}
-use mathlib.Core.Path.{◌≡◌, refl}
+use mathlib.Core.Path.{◌≡◌}
 use Prim.Native.Nat.{◌-◌}
 use Rattle.substitution.proofs.reads_ended.Given as goal
 

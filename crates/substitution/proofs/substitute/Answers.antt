@@ -1,7 +1,6 @@
 use lib.ListN.{get_or}
 use Rattle.expr.specs.Tree.{argument_of}
-use Rattle.substitution.proofs.Backward.{Writing, writing_start, two-left, own-cut, held_cut, part_length, writing-full, pending-few, held_place, writing_more, writing-end}
-use Rattle.std.proofs.Common.{rules}
+use Rattle.substitution.proofs.Backward.{writing_start, two-left, own-cut, held_cut, part_length, writing-full, pending-few, held_place, writing_more, writing-end}
 use mathlib.Core.Path.{sym, refl, ◌∙◌}
 use native.Mathlib.Omega.{arith}
 use Prim.Native.Nat.{◌-◌, ◌*◌}

@@ -1,6 +1,5 @@
 use Rattle.substitution.proofs.Taken.{as_it_was, made-long, made-place, made-short, made-tree, made-few, made-assigned}
 use native.Mathlib.Omega.{arith}
-use Rattle.std.proofs.Common.{rules}
 use Rattle.substitution.proofs.take_assignment.Goals as goal
 
 pub offset_bounds-out-at : goal.offset_bounds-out-at
