@@ -1,11 +1,11 @@
-// For test programs: frames from standard input, the numbers in them, and words and numbers to standard output. A frame is
-// its length in 4 bytes and that many bytes; every number has its lowest byte first.
+// For test programs: frames from an input, the numbers in them, and words and numbers to an output. A frame is its length in 4
+// bytes and that many bytes; every number has its lowest byte first.
 #![tactic(auto)]
 
-ghost use Rattle.std.specs.Prelude.{◌≡◌, length};
+ghost use Rattle.std.specs.Prelude.{◌≡◌, ◌≤◌, length};
 ghost use Rattle.test_io.specs.Frame.{Fits, is_early};
 
-use libc::{STDERR_FILENO, STDIN_FILENO, STDOUT_FILENO};
+use std::io::Read;
 
 // How a program ends.
 #[derive(Clone, Copy)]
@@ -32,59 +32,59 @@ pub enum Next {
 }
 
 // Whether all of it was written.
-pub fn word(text: &[u8]) -> bool {
-    io::write_all(STDOUT_FILENO, text)
+pub fn word(output: &impl Print, text: &[u8]) -> bool {
+    output.write_all(text).is_ok()
 }
 
 // The first n bytes of the text, if it has as many.
-pub fn start(text: &[u8], n: usize) -> bool {
+pub fn start(output: &impl Print, text: &[u8], n: usize) -> bool {
     if text.len() < n {
         return false;
     }
-    word(&text[..n])
+    word(output, &text[..n])
 }
 
-pub fn digits(n: u64) -> bool {
-    io::print_decimal(STDOUT_FILENO, n)
+pub fn digits(output: &impl Print, n: u64) -> bool {
+    output.print(n).is_ok()
 }
 
 // A space and the number.
-pub fn number(n: u64) -> bool {
-    word(b" ") & digits(n)
+pub fn number(output: &impl Print, n: u64) -> bool {
+    word(output, b" ") & digits(output, n)
 }
 
-fn complain(text: &[u8]) {
-    io::write_all(STDERR_FILENO, text);
+fn complain(errors: &impl Print, text: &[u8]) {
+    let _ = errors.write_all(text);
 }
 
-// Whether a program ends too early; if it does, says on standard error why.
-pub fn is_early(e: Ending) -> bool
+// Whether a program ends too early; if it does, says why.
+pub fn is_early(errors: &impl Print, e: Ending) -> bool
     ensures { result ≡ is_early e }
 {
     match e {
         Ending::Whole => false,
         Ending::Cut => {
-            complain(b"the input is cut\n");
+            complain(errors, b"the input is cut\n");
             true
         }
         Ending::TooLong => {
-            complain(b"a frame is too long\n");
+            complain(errors, b"a frame is too long\n");
             true
         }
         Ending::TooManyValues => {
-            complain(b"a frame has too many values\n");
+            complain(errors, b"a frame has too many values\n");
             true
         }
         Ending::NoOperation => {
-            complain(b"a frame names no operation\n");
+            complain(errors, b"a frame names no operation\n");
             true
         }
         Ending::Unread => {
-            complain(b"the input cannot be read\n");
+            complain(errors, b"the input cannot be read\n");
             true
         }
         Ending::Unwritten => {
-            complain(b"the output cannot be written\n");
+            complain(errors, b"the output cannot be written\n");
             true
         }
     }
@@ -127,14 +127,33 @@ pub fn eight(s: &[u8]) -> u64 {
     low + 4294967296 * (four(&s[4..]) as u64)
 }
 
+// Reads until the buffer is full, the input ends or a read fails, and gives how many bytes it put at the buffer's start.
+fn read_full<R: Read>(input: &mut R, buf: &mut [u8]) -> usize
+    ensures { result ≤ length buf.new }
+{
+    let mut had: usize = 0;
+    while had < buf.len() {
+        match input.read(&mut buf[had..]) {
+            Err(_) => return had,
+            Ok(n) => {
+                if n == 0 {
+                    return had;
+                }
+                had += n;
+            }
+        }
+    }
+    had
+}
+
 // The frame of that length, at the start of the buffer.
-fn body(buf: &mut [u8], n: usize) -> Next
+fn body<R: Read>(input: &mut R, buf: &mut [u8], n: usize) -> Next
     ensures { Fits result (length buf.new) }
 {
     if buf.len() < n {
         return Next::Over(Ending::TooLong);
     }
-    let had = io::read_full(STDIN_FILENO, &mut buf[..n]);
+    let had = read_full(input, &mut buf[..n]);
     if had < n {
         return Next::Over(Ending::Cut);
     }
@@ -142,28 +161,28 @@ fn body(buf: &mut [u8], n: usize) -> Next
 }
 
 // Fills the head, as a frame whose length is known. The input may end before its first byte, and not after.
-fn fill(head: &mut [u8]) -> Next {
-    let got = libc::read(STDIN_FILENO, head);
-    if got < 0 {
-        return Next::Over(Ending::Unread);
+fn fill<R: Read>(input: &mut R, head: &mut [u8]) -> Next {
+    match input.read(head) {
+        Err(_) => Next::Over(Ending::Unread),
+        Ok(n) => {
+            if n == 0 {
+                return Next::Over(Ending::Whole);
+            }
+            if read_full(input, &mut head[n..]) < head.len() - n {
+                return Next::Over(Ending::Cut);
+            }
+            Next::Frame(head.len())
+        }
     }
-    if got == 0 {
-        return Next::Over(Ending::Whole);
-    }
-    let n = io::count(got, head);
-    if io::read_full(STDIN_FILENO, &mut head[n..]) < head.len() - n {
-        return Next::Over(Ending::Cut);
-    }
-    Next::Frame(head.len())
 }
 
-pub fn next_frame(buf: &mut [u8]) -> Next
+pub fn next_frame<R: Read>(input: &mut R, buf: &mut [u8]) -> Next
     ensures { Fits result (length buf.new) }
 {
     let mut head = [0u8; 4];
-    let filled = fill(&mut head);
+    let filled = fill(input, &mut head);
     match filled {
         Next::Over(e) => Next::Over(e),
-        Next::Frame(_) => body(buf, four(&head) as usize),
+        Next::Frame(_) => body(input, buf, four(&head) as usize),
     }
 }

@@ -1,0 +1,8 @@
+use mathlib.Core.Path.{sym}
+use Prim.Native.Nat.{ℕ}
+use lib.ListN.{length-replicate}
+use Rattle.test_io.proofs.text.Goals as goal
+
+pub returns : goal.returns
+returns c =
+    sym {0} {A = ℕ} (length-replicate {0} {A = ℕ} 49182 0)
