@@ -1,4 +1,5 @@
-// The listing program: a sheet from standard input, its branches or the refusal as text to standard output.
+// The listing program: a sheet from its input, its branches or the refusal as text to its output. Input and output are readers and writers; the crate
+// `listing_program` hands in those of the system.
 #![tactic(auto)]
 
 ghost use Rattle.std.specs.Prelude.{◌≡◌, ◌≤◌, length};
@@ -7,16 +8,16 @@ ghost use Rattle.listing.specs.Program.{printed};
 ghost use Rattle.listing.specs.Promises.{Within, Ended, status_of};
 
 use answer_listing::Listed;
-use libc::{STDERR_FILENO, STDIN_FILENO, STDOUT_FILENO};
+use std::io::{Read, Write};
 
-// What standard input gave: so many bytes, or no answer from the system.
+// What the input gave: so many bytes, or an error.
 #[derive(Clone, Copy)]
 enum Input {
     Bytes(usize),
     Unread,
 }
 
-// How the program ends: the text was written, or the system did not give the input, or did not take the text.
+// How the program ends: the text was written, or the input could not be read, or the text not be written.
 #[derive(Clone, Copy)]
 enum Ending {
     Written,
@@ -45,24 +46,23 @@ fn text_room() -> [u8; 92190]
     [0; 92190]
 }
 
-// One read of standard input. Zero bytes mean the end of input.
-fn read_more(room: &mut [u8]) -> Input
+// One read of the input. Zero bytes mean its end.
+fn read_more<R: Read>(input: &mut R, room: &mut [u8]) -> Input
     ensures { Within result (length room.new) }
 {
-    let got = libc::read(STDIN_FILENO, room);
-    if got < 0 {
-        return Input::Unread;
+    match input.read(room) {
+        Ok(n) => Input::Bytes(n),
+        Err(_) => Input::Unread,
     }
-    Input::Bytes(io::count(got, room))
 }
 
-// Reads standard input to its end, or until the buffer is full.
-fn read_input(room: &mut [u8]) -> Input
+// Reads the input to its end, or until the buffer is full.
+fn read_input<R: Read>(input: &mut R, room: &mut [u8]) -> Input
     ensures { Within result (length room.new) }
 {
     let mut had: usize = 0;
     while had < room.len() {
-        let more = read_more(&mut room[had..]);
+        let more = read_more(input, &mut room[had..]);
         match more {
             Input::Unread => return Input::Unread,
             Input::Bytes(n) => {
@@ -76,35 +76,35 @@ fn read_input(room: &mut [u8]) -> Input
     Input::Bytes(had)
 }
 
-fn complain(text: &[u8]) {
-    io::write_all(STDERR_FILENO, text);
+// What went wrong is said where it can be; the status says it too.
+fn complain<E: Write>(errors: &mut E, text: &[u8]) {
+    let _ = errors.write_all(text);
 }
 
-// Says on standard error what went wrong, and gives the exit status.
-fn status(e: Ending) -> u32
+// Says what went wrong, and gives the exit status.
+fn status<E: Write>(e: Ending, errors: &mut E) -> u8
     ensures { result ≡ status_of e }
 {
     match e {
         Ending::Written => 0,
         Ending::Unread => {
-            complain(b"listing: standard input cannot be read\n");
+            complain(errors, b"listing: standard input cannot be read\n");
             1
         }
         Ending::Unwritten => {
-            complain(b"listing: standard output cannot be written\n");
+            complain(errors, b"listing: standard output cannot be written\n");
             2
         }
     }
 }
 
 // Writes the text, which is the one for the bytes that were read.
-fn write_output(_read: &[u8], text: &[u8]) -> Ending
+fn write_output<W: Write>(output: &mut W, _read: &[u8], text: &[u8]) -> Ending
     requires { text.now ≡ printed _read.now }
 {
-    if io::write_all(STDOUT_FILENO, text) {
-        Ending::Written
-    } else {
-        Ending::Unwritten
+    match output.write_all(text) {
+        Ok(()) => Ending::Written,
+        Err(_) => Ending::Unwritten,
     }
 }
 
@@ -124,27 +124,35 @@ fn text_of(s: &[u8], list: &mut [u8], text: &mut [u8]) -> usize
     }
 }
 
-// From standard input to standard output.
-fn answer(room: &mut [u8], list: &mut [u8], text: &mut [u8]) -> Ending
+// From the input to the output.
+fn answer<R: Read, W: Write>(
+    input: &mut R,
+    output: &mut W,
+    room: &mut [u8],
+    list: &mut [u8],
+    text: &mut [u8],
+) -> Ending
     requires list_len { length list.old ≡ 36864 }
     requires in_bounds { 92190 ≤ length text.old }
     ensures { Ended result room.new text.old text.new }
 {
-    let input = read_input(room);
-    match input {
+    let read = read_input(input, room);
+    match read {
         Input::Unread => Ending::Unread,
         Input::Bytes(n) => {
             let length = text_of(&room[..n], list, text);
-            write_output(&room[..n], &text[..length])
+            write_output(output, &room[..n], &text[..length])
         }
     }
 }
 
-// The program; a host's `main` returns the number as its exit status.
-#[unsafe(no_mangle)]
-pub extern "C" fn pomthija_listing_program() -> u32 {
+// The program; its `main` returns the number as its exit status.
+pub fn program<R: Read, W: Write, E: Write>(input: &mut R, output: &mut W, errors: &mut E) -> u8 {
     let mut room = input_room();
     let mut list = list_room();
     let mut text = text_room();
-    status(answer(&mut room, &mut list, &mut text))
+    status(
+        answer(input, output, &mut room, &mut list, &mut text),
+        errors,
+    )
 }

@@ -1,4 +1,4 @@
-// What C hosts call: each function gives the answer of one operation in numbers.
+// What C hosts call, by the exports of `pomthija_c`: each function gives the answer of one operation in numbers.
 #![tactic(auto)]
 
 ghost use Rattle.std.specs.Prelude.{◌≡◌};
@@ -12,8 +12,7 @@ use evaluate_node::Evaluation;
 use verdict::{Answer, Verdict};
 
 // The number of the interface, POMTHIJA_VERSION of the header that belongs to it.
-#[unsafe(no_mangle)]
-pub extern "C" fn pomthija_version() -> u64
+pub fn pomthija_version() -> u64
     ensures { result ≡ version }
 {
     1
@@ -21,13 +20,7 @@ pub extern "C" fn pomthija_version() -> u64
 
 // The node verdict: 0, with 1 (always), 0 (never) or 2 (undecided) in `out` and the reason's number in `reason`, 0 where
 // undecided; or the refusal's number, with its offset in `out` and 0 in `reason`.
-#[unsafe(no_mangle)]
-pub extern "C" fn pomthija_node_verdict(
-    s: &[u8],
-    number: u64,
-    out: &mut u64,
-    reason: &mut u64,
-) -> u64
+pub fn pomthija_node_verdict(s: &[u8], number: u64, out: &mut u64, reason: &mut u64) -> u64
     ensures { ReturnedVerdict result out.new reason.new (node_answer s.now number) }
 {
     let a = answer_node::node_verdict(s, number);
@@ -60,8 +53,7 @@ pub extern "C" fn pomthija_node_verdict(
 }
 
 // The listing: 0, with the number of lines in `out`; or the refusal's number, with its offset in `out`.
-#[unsafe(no_mangle)]
-pub extern "C" fn pomthija_listing(s: &[u8], list: &mut [u8], out: &mut u64) -> u64
+pub fn pomthija_listing(s: &[u8], list: &mut [u8], out: &mut u64) -> u64
     ensures { ReturnedListing result out.new (listing_of s.now list.old).answer × (list.new ≡ (listing_of s.now list.old).list) }
 {
     let r = answer_listing::listing(s, list);
@@ -79,8 +71,7 @@ pub extern "C" fn pomthija_listing(s: &[u8], list: &mut [u8], out: &mut u64) -> 
 
 // The evaluation: 0, with 1 or 0 in `out` where the condition holds or not; or the refusal's number, with its offset
 // in `out`.
-#[unsafe(no_mangle)]
-pub extern "C" fn pomthija_evaluation(s: &[u8], number: u64, values: &[u64], out: &mut u64) -> u64
+pub fn pomthija_evaluation(s: &[u8], number: u64, values: &[u64], out: &mut u64) -> u64
     ensures { Returned result out.new (evaluation_answer s.now number values.now) }
 {
     let e = answer_evaluation::evaluation(s, number, values);

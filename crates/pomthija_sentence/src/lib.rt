@@ -1,5 +1,4 @@
-// What C hosts call for a sentence. It is a crate beside `pomthija`, and so a module of its own in the library: the functions that reading and judging
-// share with it keep their single caller there, and the listing its speed.
+// What C hosts call for a sentence, by the export of `pomthija_sentence_c`.
 #![tactic(auto)]
 
 ghost use Rattle.std.specs.Prelude.{◌≡◌};
@@ -9,8 +8,7 @@ ghost use Rattle.pomthija_sentence.specs.Returned.{ReturnedSentence};
 use answer_sentence::Told;
 
 // The sentence of a block's verdict: 0, with its length in `out`; or the refusal's number, with its offset in `out`.
-#[unsafe(no_mangle)]
-pub extern "C" fn pomthija_sentence(s: &[u8], block: u64, text: &mut [u8], out: &mut u64) -> u64
+pub fn pomthija_sentence(s: &[u8], block: u64, text: &mut [u8], out: &mut u64) -> u64
     ensures { ReturnedSentence result out.new (sentence_answer s.now block text.old).answer × (text.new ≡ (sentence_answer s.now block text.old).text) }
 {
     let told = answer_sentence::block_sentence(s, block, text);

@@ -9,76 +9,77 @@
 use answer_sentence::Told;
 use evaluate_node::Evaluation;
 use sheet::{Reading, Sheet};
+use std::io::Read;
 use test_io::{Ending, Next};
 use verdict::{Answer, Reason, Verdict};
 
-fn refused(k: u64, at: usize) -> bool {
-    test_io::word(b"refused")
-        & test_io::number(k)
-        & test_io::word(b" at")
-        & test_io::number(at as u64)
+fn refused(output: &impl Print, k: u64, at: usize) -> bool {
+    test_io::word(output, b"refused")
+        & test_io::number(output, k)
+        & test_io::word(output, b" at")
+        & test_io::number(output, at as u64)
 }
 
 // The three counts, and where the records start.
-fn accepted(sheet: Sheet) -> bool {
+fn accepted(output: &impl Print, sheet: Sheet) -> bool {
     let i = sheet.instructions;
     let b = sheet.blocks;
     let n = sheet.nodes;
-    test_io::word(b"accepted")
-        & test_io::number(i.count)
-        & test_io::number(b.count)
-        & test_io::number(n.count)
-        & test_io::word(b" at")
-        & test_io::number(i.at as u64)
-        & test_io::number(b.at as u64)
-        & test_io::number(n.at as u64)
+    test_io::word(output, b"accepted")
+        & test_io::number(output, i.count)
+        & test_io::number(output, b.count)
+        & test_io::number(output, n.count)
+        & test_io::word(output, b" at")
+        & test_io::number(output, i.at as u64)
+        & test_io::number(output, b.at as u64)
+        & test_io::number(output, n.at as u64)
 }
 
-fn say_reading(s: &[u8]) -> bool {
+fn say_reading(output: &impl Print, s: &[u8]) -> bool {
     let reading = sheet::read(s);
     match reading {
-        Reading::Accepted(sheet) => accepted(sheet),
-        Reading::Refused(k, at) => refused(k, at),
+        Reading::Accepted(sheet) => accepted(output, sheet),
+        Reading::Refused(k, at) => refused(output, k, at),
     }
 }
 
-fn say_decided(way: &[u8], r: Reason) -> bool {
-    test_io::word(way) & test_io::digits(verdict::reason_number(r) as u64)
+fn say_decided(output: &impl Print, way: &[u8], r: Reason) -> bool {
+    test_io::word(output, way) & test_io::digits(output, verdict::reason_number(r) as u64)
 }
 
 // a always and v never, each with the reason's number; u undecided, n no branch.
-fn say_verdict(v: Verdict) -> bool {
+fn say_verdict(output: &impl Print, v: Verdict) -> bool {
     match v {
-        Verdict::NoBranch => test_io::word(b" n"),
-        Verdict::Undecided => test_io::word(b" u"),
-        Verdict::Always(r) => say_decided(b" a", r),
-        Verdict::Never(r) => say_decided(b" v", r),
+        Verdict::NoBranch => test_io::word(output, b" n"),
+        Verdict::Undecided => test_io::word(output, b" u"),
+        Verdict::Always(r) => say_decided(output, b" a", r),
+        Verdict::Never(r) => say_decided(output, b" v", r),
     }
 }
 
 // r with its number for a refusal. That of the number past the last record is due and is not said; any other answer for that
 // number is one too many on the line.
-fn say_refused(k: u64, at: usize, past: bool) -> bool {
+fn say_refused(output: &impl Print, k: u64, at: usize, past: bool) -> bool {
     if past & (k == 13) & (at == 0) {
         return true;
     }
-    test_io::word(b" r") & test_io::digits(k)
+    test_io::word(output, b" r") & test_io::digits(output, k)
 }
 
-fn say_answer(a: Answer, past: bool) -> bool {
+fn say_answer(output: &impl Print, a: Answer, past: bool) -> bool {
     match a {
-        Answer::Given(v) => say_verdict(v),
-        Answer::Refused(k, at) => say_refused(k, at, past),
+        Answer::Given(v) => say_verdict(output, v),
+        Answer::Refused(k, at) => say_refused(output, k, at, past),
     }
 }
 
 // A bar and the sentence of the block of that number, nothing where it has none.
-fn say_sentence(s: &[u8], number: u64, past: bool) -> bool {
+fn say_sentence(output: &impl Print, s: &[u8], number: u64, past: bool) -> bool {
     let mut text = test_io::text();
     let told = answer_sentence::block_sentence(s, number, &mut text);
     match told {
-        Told::Length(n) => test_io::word(b"|") & test_io::start(&text, n),
-        Told::Refused(k, at) => say_refused(k, at, past),
+        Told::Length(n) => test_io::word(output, b"|") & test_io::start(output, &text, n),
+        Told::Refused(k, at) => say_refused(output, k, at, past),
     }
 }
 
@@ -91,30 +92,30 @@ enum Said {
 }
 
 // What is said of the block or the node of that number, which may be the one past the last.
-fn say_one(s: &[u8], said: Said, number: u64, past: bool) -> bool {
+fn say_one(output: &impl Print, s: &[u8], said: Said, number: u64, past: bool) -> bool {
     match said {
-        Said::Blocks => say_answer(answer_block::block_verdict(s, number), past),
-        Said::Nodes => say_answer(answer_node::node_verdict(s, number), past),
-        Said::Sentences => say_sentence(s, number, past),
+        Said::Blocks => say_answer(output, answer_block::block_verdict(s, number), past),
+        Said::Nodes => say_answer(output, answer_node::node_verdict(s, number), past),
+        Said::Sentences => say_sentence(output, s, number, past),
     }
 }
 
-fn say_name(said: Said) -> bool {
+fn say_name(output: &impl Print, said: Said) -> bool {
     match said {
-        Said::Blocks => test_io::word(b"blocks"),
-        Said::Nodes => test_io::word(b"nodes"),
-        Said::Sentences => test_io::word(b"sentences"),
+        Said::Blocks => test_io::word(output, b"blocks"),
+        Said::Nodes => test_io::word(output, b"nodes"),
+        Said::Sentences => test_io::word(output, b"sentences"),
     }
 }
 
-fn say_all(s: &[u8], said: Said, n: u64) -> bool {
-    let mut written = say_name(said);
+fn say_all(output: &impl Print, s: &[u8], said: Said, n: u64) -> bool {
+    let mut written = say_name(output, said);
     let mut i: u64 = 0;
     while i < n {
-        written = written & say_one(s, said, i, false);
+        written = written & say_one(output, s, said, i, false);
         i += 1;
     }
-    written & say_one(s, said, n, true)
+    written & say_one(output, s, said, n, true)
 }
 
 fn count_of(sheet: Sheet, said: Said) -> u64 {
@@ -126,33 +127,33 @@ fn count_of(sheet: Sheet, said: Said) -> u64 {
     }
 }
 
-fn say_records(s: &[u8], said: Said) -> bool {
+fn say_records(output: &impl Print, s: &[u8], said: Said) -> bool {
     let reading = sheet::read(s);
     match reading {
-        Reading::Accepted(sheet) => say_all(s, said, count_of(sheet, said)),
-        Reading::Refused(k, at) => refused(k, at),
+        Reading::Accepted(sheet) => say_all(output, s, said, count_of(sheet, said)),
+        Reading::Refused(k, at) => refused(output, k, at),
     }
 }
 
 // Commas stand between the evaluations of one line.
-fn comma(number: u32) -> bool {
+fn comma(output: &impl Print, number: u32) -> bool {
     if number > 0 {
-        return test_io::word(b", ");
+        return test_io::word(output, b", ");
     }
     true
 }
 
-fn say_evaluation(e: Evaluation) -> bool {
+fn say_evaluation(output: &impl Print, e: Evaluation) -> bool {
     match e {
-        Evaluation::Holds => test_io::word(b"holds"),
-        Evaluation::Fails => test_io::word(b"fails"),
-        Evaluation::Refused(k, at) => refused(k, at),
+        Evaluation::Holds => test_io::word(output, b"holds"),
+        Evaluation::Fails => test_io::word(output, b"fails"),
+        Evaluation::Refused(k, at) => refused(output, k, at),
     }
 }
 
 // Ends the line.
-fn line(written: bool) -> Ending {
-    if written & test_io::word(b"\n") {
+fn line(output: &impl Print, written: bool) -> Ending {
+    if written & test_io::word(output, b"\n") {
         Ending::Whole
     } else {
         Ending::Unwritten
@@ -209,7 +210,14 @@ fn take_set(s: &[u8], from: usize, values: &mut [u64]) -> Set {
 }
 
 // The evaluation on each set, all on one line.
-fn say_sets(sheet: &[u8], node: u64, sets: &[u8], count: u32, values: &mut [u64]) -> Ending {
+fn say_sets(
+    output: &impl Print,
+    sheet: &[u8],
+    node: u64,
+    sets: &[u8],
+    count: u32,
+    values: &mut [u64],
+) -> Ending {
     let mut at: usize = 0;
     let mut i: u32 = 0;
     while i < count {
@@ -218,7 +226,9 @@ fn say_sets(sheet: &[u8], node: u64, sets: &[u8], count: u32, values: &mut [u64]
             Set::Cut => return Ending::Cut,
             Set::To(next) => at = next,
         }
-        if !(comma(i) & say_evaluation(answer_evaluation::evaluation(sheet, node, values))) {
+        if !(comma(output, i)
+            & say_evaluation(output, answer_evaluation::evaluation(sheet, node, values)))
+        {
             return Ending::Unwritten;
         }
         i += 1;
@@ -226,11 +236,11 @@ fn say_sets(sheet: &[u8], node: u64, sets: &[u8], count: u32, values: &mut [u64]
     if at < sets.len() {
         return Ending::TooLong;
     }
-    line(true)
+    line(output, true)
 }
 
 // The frame of an evaluation, after the operation's number.
-fn answer_evaluation(s: &[u8], values: &mut [u64]) -> Ending {
+fn answer_evaluation(output: &impl Print, s: &[u8], values: &mut [u64]) -> Ending {
     if s.len() < 16 {
         return Ending::Cut;
     }
@@ -244,30 +254,42 @@ fn answer_evaluation(s: &[u8], values: &mut [u64]) -> Ending {
     if s.len() < end {
         return Ending::Cut;
     }
-    say_sets(&s[16..end], node, &s[end..], count, &mut values[..each])
+    say_sets(
+        output,
+        &s[16..end],
+        node,
+        &s[end..],
+        count,
+        &mut values[..each],
+    )
 }
 
-fn answer(s: &[u8], values: &mut [u64]) -> Ending {
+fn answer(output: &impl Print, s: &[u8], values: &mut [u64]) -> Ending {
     if s.len() == 0 {
         return Ending::Cut;
     }
     match s[0] {
-        0 => line(say_reading(&s[1..])),
-        1 => line(say_records(&s[1..], Said::Blocks)),
-        2 => answer_evaluation(&s[1..], values),
-        3 => line(say_records(&s[1..], Said::Nodes)),
-        4 => line(say_records(&s[1..], Said::Sentences)),
+        0 => line(output, say_reading(output, &s[1..])),
+        1 => line(output, say_records(output, &s[1..], Said::Blocks)),
+        2 => answer_evaluation(output, &s[1..], values),
+        3 => line(output, say_records(output, &s[1..], Said::Nodes)),
+        4 => line(output, say_records(output, &s[1..], Said::Sentences)),
         _ => Ending::NoOperation,
     }
 }
 
 // Answers the next frame. The rest is over where there is none, or where it has no answer.
-fn answer_next(buf: &mut [u8], values: &mut [u64]) -> Next {
-    let next = test_io::next_frame(buf);
+fn answer_next<R: Read>(
+    input: &mut R,
+    output: &impl Print,
+    buf: &mut [u8],
+    values: &mut [u64],
+) -> Next {
+    let next = test_io::next_frame(input, buf);
     match next {
         Next::Over(e) => Next::Over(e),
         Next::Frame(n) => {
-            let e = answer(&buf[..n], values);
+            let e = answer(output, &buf[..n], values);
             match e {
                 Ending::Whole => Next::Frame(n),
                 _ => Next::Over(e),
@@ -276,10 +298,15 @@ fn answer_next(buf: &mut [u8], values: &mut [u64]) -> Next {
     }
 }
 
-fn answer_all(buf: &mut [u8], values: &mut [u64]) -> Ending {
+fn answer_all<R: Read>(
+    input: &mut R,
+    output: &impl Print,
+    buf: &mut [u8],
+    values: &mut [u64],
+) -> Ending {
     let mut turns = u64::MAX;
     while turns > 0 {
-        let next = answer_next(buf, values);
+        let next = answer_next(input, output, buf, values);
         if let Next::Over(e) = next {
             return e;
         }
@@ -288,11 +315,13 @@ fn answer_all(buf: &mut [u8], values: &mut [u64]) -> Ending {
     Ending::Whole
 }
 
-// A program has no exit status, so one that ends too early says so on standard output too, where the lines are compared.
-fn main() {
+// It always ends with status 0, so one that ends too early says so on standard output too, where the lines are compared.
+fn main(rt: HostRuntime) {
     let mut buf = test_io::room();
     let mut values = [0u64; 256];
-    if test_io::is_early(answer_all(&mut buf, &mut values)) {
-        test_io::word(b"ended too early\n");
+    let output = rt.stdout();
+    let ending = answer_all(&mut rt.stdin(), &output, &mut buf, &mut values);
+    if test_io::is_early(&rt.stderr(), ending) {
+        test_io::word(&output, b"ended too early\n");
     }
 }

@@ -1,7 +1,8 @@
-// The listing program on the scope document's sheet: standard input has it, and the file `stdout` the two lines that are
-// due. A program has no exit status, so nothing looks at it here; where the text is not written, the lines are missing.
+// The listing program on the scope document's sheet: standard input has it, and the file `stdout` the two lines that are due.
 #![tactic(auto)]
 
-fn main() {
-    listing::pomthija_listing_program();
+use std::process::ExitCode;
+
+fn main(rt: HostRuntime) -> ExitCode {
+    ExitCode::from(listing::program(&mut rt.stdin(), &mut rt.stdout(), &mut rt.stderr()))
 }
