@@ -1,3 +1,5 @@
+-- The proof of the cycle of calls {decide}: it calls itself on the halves of && and ||, so the measure is the words. Each case is a
+-- law of proofs/Judged.antt. Assumes nothing.
 use Prim.Native.Nat.{◌-◌}
 use mathlib.Core.Path.{sym, ◌∙◌}
 use native.Mathlib.Omega.{arith}

@@ -1,4 +1,3 @@
--- `decide` calls itself on the halves of && and ||, so the measure is the words.
 use Rattle.std.proofs.Common.{length}
 use Rattle.decide.proofs.+decide.Given as goal
 

@@ -1,3 +1,5 @@
+-- `decide::above_zero` meets its contract: by the operator.
+-- Assumes nothing.
 use borrow.Author.Tests.{eq-eqb, ne_eqb}
 use Rattle.decide.proofs.above_zero.Goals as goal
 

@@ -1,3 +1,5 @@
+-- `decide::both` meets its contract: by cases.
+-- Assumes nothing.
 use Rattle.decide.proofs.both.Goals as goal
 
 pub returns-in-Never : goal.returns-in-Never

@@ -1,3 +1,5 @@
+-- `decide::either` meets its contract: its calls put together.
+-- Assumes nothing.
 use mathlib.Core.Path.{ap, ap₂, ◌∙◌}
 use Rattle.decide.specs.Decide.{both, negated}
 use Rattle.decide.proofs.either.Goals as goal

@@ -1,3 +1,5 @@
+-- `decide::equal_sides` meets its contract: by the operator, where the sides are the same.
+-- Assumes nothing.
 use mathlib.Core.Path.{sym, ◌∙◌}
 use borrow.Author.Tests.{not-true, not-false}
 use Rattle.expr.specs.Tree.{tree_of}

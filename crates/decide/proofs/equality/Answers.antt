@@ -1,3 +1,5 @@
+-- `decide::equality` meets its contract: its steps' answers put together. The borrowed lists keep their lengths from call to call.
+-- Assumes nothing.
 use mathlib.Core.Path.{◌∙◌}
 use native.Mathlib.Omega.{arith}
 use lib.Dec.{eqb}

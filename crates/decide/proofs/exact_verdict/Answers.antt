@@ -1,3 +1,5 @@
+-- `decide::exact_verdict` meets its contract: by cases.
+-- Assumes nothing.
 use Rattle.decide.proofs.exact_verdict.Goals as goal
 
 pub returns-else-as_written : goal.returns-else-as_written

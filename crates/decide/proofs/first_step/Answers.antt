@@ -1,3 +1,5 @@
+-- `decide::first_step` meets its contract: within the limits or past them.
+-- Assumes nothing.
 use Rattle.decide.proofs.Judged.{step-decides, step-passes}
 use Rattle.decide.proofs.first_step.Goals as goal
 

@@ -1,3 +1,5 @@
+-- `decide::halves` meets its contract: by cases.
+-- Assumes nothing.
 use Rattle.decide.proofs.halves.Goals as goal
 
 pub returns-then-and : goal.returns-then-and

@@ -1,3 +1,5 @@
+-- `decide::mirrored` meets its contract: by the operator.
+-- Assumes nothing.
 use borrow.Author.Tests.{eq-eqb, ne_eqb}
 use Rattle.decide.proofs.mirrored.Goals as goal
 

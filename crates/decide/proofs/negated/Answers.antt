@@ -1,3 +1,5 @@
+-- `decide::negated` meets its contract: by cases.
+-- Assumes nothing.
 use Rattle.decide.proofs.negated.Goals as goal
 
 pub returns-in-Always : goal.returns-in-Always

@@ -1,3 +1,5 @@
+-- `decide::or_else` meets its contract: by cases.
+-- Assumes nothing.
 use Rattle.decide.proofs.or_else.Goals as goal
 
 pub returns-in-Always : goal.returns-in-Always

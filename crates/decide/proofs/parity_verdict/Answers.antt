@@ -1,3 +1,5 @@
+-- `decide::parity_verdict` meets its contract: by cases.
+-- Assumes nothing.
 use Rattle.decide.proofs.parity_verdict.Goals as goal
 
 pub returns-in-Always : goal.returns-in-Always

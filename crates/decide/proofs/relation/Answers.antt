@@ -1,3 +1,5 @@
+-- `decide::relation` meets its contract: its two steps in order.
+-- Assumes nothing.
 use mathlib.Core.Path.{ap₂, ◌∙◌}
 use Rattle.decide.specs.Decide.{or_else}
 use Rattle.decide.proofs.relation.Goals as goal

@@ -1,3 +1,5 @@
+-- `decide::said` meets its contract: by cases.
+-- Assumes nothing.
 use Rattle.decide.proofs.said.Goals as goal
 
 pub returns-then-holds : goal.returns-then-holds

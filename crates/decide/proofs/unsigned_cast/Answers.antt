@@ -1,3 +1,5 @@
+-- `decide::unsigned_cast` meets its contract: by the root's kind and type.
+-- Assumes nothing.
 use Prim.Native.Nat.{◌-◌}
 use native.Mathlib.Omega.{arith}
 use lib.ListN.{length}

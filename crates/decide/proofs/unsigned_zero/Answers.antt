@@ -1,3 +1,5 @@
+-- `decide::unsigned_zero` meets its contract: the constant on the right, on the left, or nowhere.
+-- Assumes nothing.
 use mathlib.Core.Path.{sym, ap, ◌∙◌}
 use Rattle.expr.specs.Tree.{tree_of}
 use Rattle.decide.proofs.Judged.{zero_left}

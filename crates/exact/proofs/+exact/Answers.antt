@@ -1,3 +1,5 @@
+-- The proof of the cycle of calls {exact}: it calls itself below a cast, so the measure is the words. Each case is a law of
+-- proofs/Steps.antt. Assumes nothing.
 use Prim.Native.Nat.{◌-◌}
 use mathlib.Core.Path.{refl, sym, ◌∙◌}
 use native.Mathlib.Omega.{arith}

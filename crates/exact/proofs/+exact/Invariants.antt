@@ -1,4 +1,3 @@
--- `exact` calls itself below a cast, so the measure is the words.
 use Rattle.std.proofs.Common.{length}
 use Rattle.exact.proofs.+exact.Given as goal
 

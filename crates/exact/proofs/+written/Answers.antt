@@ -1,3 +1,5 @@
+-- The proof of the cycle of calls {written}: it calls itself on shorter parts, so the measure is the words. Each case is a law of
+-- proofs/Steps.antt. Assumes nothing.
 use Prim.Native.Nat.{◌-◌}
 use mathlib.Core.Path.{sym, ◌∙◌}
 use native.Mathlib.Omega.{arith}

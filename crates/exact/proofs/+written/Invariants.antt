@@ -1,4 +1,3 @@
--- `written` calls itself on shorter parts, so the measure is the words.
 use Rattle.std.proofs.Common.{length}
 use Rattle.exact.proofs.+written.Given as goal
 

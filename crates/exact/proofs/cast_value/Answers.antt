@@ -1,3 +1,5 @@
+-- `exact::cast_value` meets its contract: by cases.
+-- Assumes nothing.
 use borrow.Author.Tests.{le-leb, lt-leb}
 use Rattle.exact.proofs.cast_value.Goals as goal
 

@@ -1,3 +1,5 @@
+-- `exact::even_value` meets its contract: by cases.
+-- Assumes nothing.
 use borrow.Author.Tests.{ne_eqb}
 use Rattle.exact.proofs.even_value.Goals as goal
 

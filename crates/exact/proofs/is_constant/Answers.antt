@@ -1,3 +1,5 @@
+-- `exact::is_constant` meets its contract: by cases.
+-- Assumes nothing.
 use Rattle.exact.proofs.Steps.{constant-value, constant-none}
 use Rattle.exact.proofs.is_constant.Goals as goal
 

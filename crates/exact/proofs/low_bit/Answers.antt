@@ -1,3 +1,5 @@
+-- `exact::low_bit` meets its contract: by the count of terms.
+-- Assumes nothing.
 use Rattle.expr.specs.Tree.{tree_of}
 use Rattle.exact.proofs.Steps.{lent-whole, low-none, low-one, low-open, low-past}
 use Rattle.exact.proofs.low_bit.Goals as goal

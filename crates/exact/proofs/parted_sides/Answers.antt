@@ -1,3 +1,5 @@
+-- `exact::parted_sides` meets its contract: the sum of the sides is 1, or not.
+-- Assumes nothing.
 use mathlib.Core.Bool.{Bool, true}
 use mathlib.Core.Path.{ap, sym, ◌∙◌}
 use Rattle.expr.specs.Tree.{tree_of}

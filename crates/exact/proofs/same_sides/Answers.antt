@@ -1,3 +1,5 @@
+-- `exact::same_sides` meets its contract: both tests.
+-- Assumes nothing.
 use mathlib.Core.Bool.{Bool, not, ◌&&◌}
 use mathlib.Core.Path.{ap₂}
 use Rattle.exact.proofs.same_sides.Goals as goal

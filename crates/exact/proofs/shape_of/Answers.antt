@@ -1,3 +1,5 @@
+-- `exact::shape_of` meets its contract: by the tests, in order.
+-- Assumes nothing.
 use Rattle.exact.proofs.Steps.{shape-1, shape-2, shape-3, shape-4, shape-5, shape-6}
 use Rattle.exact.proofs.shape_of.Goals as goal
 

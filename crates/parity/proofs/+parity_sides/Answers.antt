@@ -1,3 +1,5 @@
+-- The proof of the cycle of calls {parity, sides}. `sides` is called on the two sides of a part and calls `parity` on each: the measures
+-- are twice the words, and one more for `parity`. Each case is a law of proofs/Calls.antt. Assumes nothing.
 use Prim.Native.Nat.{◌-◌}
 use mathlib.Core.Path.{refl, sym, ◌∙◌}
 use native.Mathlib.Omega.{arith}

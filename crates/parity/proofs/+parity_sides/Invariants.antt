@@ -1,5 +1,3 @@
--- The measures of the cycle of calls {parity, sides}. `sides` is called on the two sides of a part and calls `parity` on each: the measures
--- are twice the words, and one more for `parity`.
 use Rattle.std.proofs.Common.{◌+◌, length}
 use Rattle.parity.proofs.+parity_sides.Given as goal
 

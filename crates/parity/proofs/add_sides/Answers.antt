@@ -1,3 +1,5 @@
+-- `parity::add_sides` meets its contract: what is added is a copy of the right side.
+-- Assumes nothing.
 use mathlib.Core.Path.{sym}
 use native.Mathlib.Omega.{arith}
 use lib.ListN.{length-take}

@@ -1,3 +1,5 @@
+-- `parity::atom` meets its contract: a part that has a number keeps it, and another one is noted.
+-- Assumes nothing.
 use mathlib.Core.Path.{refl, sym}
 use native.Mathlib.Omega.{arith}
 use lib.Seq.{length-take-le}

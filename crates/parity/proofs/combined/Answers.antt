@@ -1,3 +1,5 @@
+-- `parity::combined` meets its contract: by cases.
+-- Assumes nothing.
 use Rattle.parity.proofs.combined.Goals as goal
 
 pub returns-in-Sum : goal.returns-in-Sum

@@ -1,3 +1,5 @@
+-- `parity::constant_of` meets its contract: the kind says whether there is a constant.
+-- Assumes nothing.
 use mathlib.Core.Path.{sym, ◌∙◌}
 use native.Mathlib.Omega.{arith}
 use Rattle.expr.proofs.Laws.{wf-two}

@@ -1,3 +1,5 @@
+-- `parity::constant_poly` meets its contract: an odd constant is 1, an even one 0.
+-- Assumes nothing.
 use Rattle.parity.proofs.Steps.{made-odd, made-even}
 use Rattle.parity.proofs.constant_poly.Goals as goal
 

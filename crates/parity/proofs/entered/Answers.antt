@@ -1,3 +1,5 @@
+-- `parity::entered` meets its contract: by the number of the operator.
+-- Assumes nothing.
 use mathlib.Core.Logic.{⊎_elim, inl, inr}
 use mathlib.Core.Path.{ap, ◌∙◌}
 use Rattle.parity.proofs.Steps.{entered-low, entered-not}

@@ -1,3 +1,5 @@
+-- `parity::join_sides` meets its contract: the product stays in the scratch, the right side is copied behind it.
+-- Assumes nothing.
 use Prim.Native.Nat.{◌+◌, ◌-◌}
 use mathlib.Core.Path.{sym}
 use native.Mathlib.Omega.{arith}

@@ -1,3 +1,5 @@
+-- `parity::multiply_sides` meets its contract: the product is moved to the start.
+-- Assumes nothing.
 use mathlib.Core.Path.{sym}
 use native.Mathlib.Omega.{arith}
 use lib.Seq.{length-take-le}

@@ -1,3 +1,5 @@
+-- `parity::number` meets its contract: by whether there is an effect.
+-- Assumes nothing.
 use mathlib.Core.Path.{sym, ◌∙◌}
 use Rattle.parity.proofs.Steps.{length-atoms}
 use Rattle.parity.proofs.number.Goals as goal

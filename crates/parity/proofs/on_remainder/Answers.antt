@@ -1,3 +1,5 @@
+-- `parity::on_remainder` meets its contract: by cases.
+-- Assumes nothing.
 use Rattle.parity.proofs.on_remainder.Goals as goal
 
 pub returns-then-x : goal.returns-then-x

@@ -1,3 +1,5 @@
+-- `parity::on_shift` meets its contract: by cases.
+-- Assumes nothing.
 use borrow.Author.Tests.{ne_eqb, lt-ltb, le-ltb}
 use Rattle.parity.proofs.on_shift.Goals as goal
 

@@ -1,3 +1,5 @@
+-- `parity::place` meets its contract: the first i atoms are not the part.
+-- Assumes nothing.
 use mathlib.Core.Path.{sym, ◌∙◌}
 use native.Mathlib.Omega.{arith}
 use Rattle.parity.proofs.Steps.{placing-none, placing-more, placing-found, placing-done}

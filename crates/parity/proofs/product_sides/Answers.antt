@@ -1,3 +1,5 @@
+-- `parity::product_sides` meets its contract: the pairs are counted first.
+-- Assumes nothing.
 use mathlib.Core.Path.{sym}
 use native.Mathlib.Nat.{mul-le-mul}
 use native.Mathlib.Omega.{arith}

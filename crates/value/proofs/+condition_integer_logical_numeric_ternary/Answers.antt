@@ -1,3 +1,6 @@
+-- The proof of the cycle of calls {condition, integer, logical, numeric, ternary}. `integer` and `condition` call `logical` and `numeric` on the whole,
+-- `numeric` calls `ternary` on the whole, and all others call on parts that are shorter: the measures are three times the length, and one or two
+-- more. Assumes nothing.
 use mathlib.Core.Path.{sym, ap, ◌∙◌}
 use Prim.Native.Nat.{◌-◌}
 use native.Mathlib.Omega.{arith}

@@ -1,6 +1,3 @@
--- The measures of the cycle of calls {condition, integer, logical, numeric, ternary}. `integer` and `condition` call `logical` and `numeric` on the
--- whole, `numeric` calls `ternary` on the whole, and all others call on parts that are shorter: the measures are three times the length, and one or
--- two more.
 use Rattle.std.proofs.Common.{◌+◌, ◌*◌, length}
 use Rattle.value.proofs.+condition_integer_logical_numeric_ternary.Given as goal
 

@@ -1,3 +1,5 @@
+-- `value::arithmetic` meets its contract: each number reads its entry of the table.
+-- Assumes nothing.
 use mathlib.Core.Path.{ap, sym}
 use lib.ListN.{get_or-eq_default}
 use Rattle.std.proofs.Common.{rules}

@@ -1,3 +1,5 @@
+-- `value::binary` meets its contract: the three ranges of operators.
+-- Assumes nothing.
 use Rattle.arith.proofs.Laws.{convert-lt, count-lt}
 use Rattle.value.proofs.Laws.{by-low, by-shift, by_high}
 use Rattle.value.proofs.binary.Goals as goal

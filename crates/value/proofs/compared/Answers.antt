@@ -1,3 +1,5 @@
+-- `value::compared` meets its contract: each number reads its entry of the table.
+-- Assumes nothing.
 use mathlib.Core.Bool.{Bool, not}
 use mathlib.Core.Path.{ap, sym, ◌∙◌}
 use Prim.Native.Nat.{◌-◌}

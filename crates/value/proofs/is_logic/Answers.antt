@@ -1,3 +1,5 @@
+-- `value::is_logic` meets its contract: a tree has two words at least.
+-- Assumes nothing.
 use native.Mathlib.Omega.{arith}
 use Rattle.expr.proofs.Laws.{wf-two}
 use Rattle.value.proofs.is_logic.Goals as goal

@@ -1,3 +1,5 @@
+-- `value::leaf` meets its contract: by the root's kind.
+-- Assumes nothing.
 use mathlib.Core.Path.{sym, ap, ◌∙◌}
 use Prim.Native.Nat.{ℕ, ◌-◌}
 use native.Mathlib.Omega.{arith}

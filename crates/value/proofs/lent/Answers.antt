@@ -1,3 +1,5 @@
+-- `value::lent` meets its contract: past the end there is 0.
+-- Assumes nothing.
 use mathlib.Core.Path.{sym}
 use lib.ListN.{get_or-eq_default}
 use Rattle.value.proofs.lent.Goals as goal

@@ -1,3 +1,5 @@
+-- `value::operated` meets its contract: binary, where both sides have a value.
+-- Assumes nothing.
 use Rattle.value.proofs.operated.Goals as goal
 
 pub binary-requires : goal.binary-requires

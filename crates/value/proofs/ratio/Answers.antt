@@ -1,3 +1,5 @@
+-- `value::ratio` meets its contract: by the test of the divisor.
+-- Assumes nothing.
 use mathlib.Core.Path.{ap}
 use borrow.Author.Tests.{eq-eqb, ne_eqb}
 use Rattle.value.specs.declared.Value.TheVariants.{Of}

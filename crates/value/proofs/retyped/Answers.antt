@@ -1,3 +1,5 @@
+-- `value::retyped` meets its contract: by cases.
+-- Assumes nothing.
 use mathlib.Core.Path.{ap}
 use Rattle.value.specs.declared.Value.TheVariants.{Of}
 use Rattle.value.proofs.retyped.Goals as goal

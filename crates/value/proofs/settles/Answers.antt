@@ -1,3 +1,5 @@
+-- `value::settles` meets its contract: by cases.
+-- Assumes nothing.
 use Rattle.value.proofs.settles.Goals as goal
 
 pub returns-in-Holds : goal.returns-in-Holds

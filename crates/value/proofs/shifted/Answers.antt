@@ -1,3 +1,5 @@
+-- `value::shifted` meets its contract: each number reads its entry of the table.
+-- Assumes nothing.
 use mathlib.Core.Path.{◌≡◌, ap}
 use native.Mathlib.Omega.{arith}
 use Rattle.value.specs.Operators.{shifts}

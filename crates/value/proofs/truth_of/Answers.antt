@@ -1,3 +1,5 @@
+-- `value::truth_of` meets its contract: by cases.
+-- Assumes nothing.
 use borrow.Author.Tests.{ne_eqb}
 use Rattle.value.proofs.truth_of.Goals as goal
 

@@ -1,4 +1,4 @@
--- `verdict_assigned` calls itself once, with buffers for all variables.
+-- The proof of the cycle of calls {verdict_assigned}: it calls itself once, with buffers for all variables. Assumes nothing.
 use Rattle.std.proofs.Common.{◌-◌}
 use Rattle.verdict_node.proofs.+verdict_assigned.Given as goal
 
