@@ -1,3 +1,5 @@
+-- `arith::below` meets its contract: signs first, then patterns.
+-- Assumes nothing.
 use Rattle.arith.proofs.Laws.{below-is}
 use Rattle.arith.proofs.below.Goals as goal
 

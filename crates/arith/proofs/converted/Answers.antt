@@ -1,3 +1,5 @@
+-- `arith::converted` meets its contract: the residue at 64 bits, truncated, is the residue at the width.
+-- Assumes nothing.
 use Rattle.std.proofs.Common.{ℕ, ◌%◌, ◌^◌, ap, ◌∙◌, eq-eqb, ne_eqb}
 use Rattle.arith.proofs.Laws.{residue-cut}
 use Rattle.arith.specs.Numbers.{bits, number, convert}

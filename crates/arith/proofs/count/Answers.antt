@@ -1,3 +1,5 @@
+-- `arith::count` meets its contract: a pattern leaves modulo a width what its number leaves.
+-- Assumes nothing.
 use Rattle.std.proofs.Common.{arith}
 use Rattle.arith.proofs.Laws.{bits_pos, count-is}
 use Rattle.arith.proofs.count.Goals as goal

@@ -1,3 +1,5 @@
+-- `arith::cut` meets its contract: masking keeps the low bits.
+-- Assumes nothing.
 use lib.Bits.{and_mask}
 use Rattle.arith.specs.Numbers.{bits}
 use Rattle.arith.proofs.cut.Goals as goal

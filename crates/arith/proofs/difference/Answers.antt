@@ -1,3 +1,5 @@
+-- `arith::difference` meets its contract: what wraps at 64 bits and is truncated wraps at the width.
+-- Assumes nothing.
 use Rattle.std.proofs.Common.{◌∙◌}
 use Rattle.arith.proofs.Laws.{difference-wraps}
 use Rattle.arith.proofs.difference.Goals as goal

@@ -1,3 +1,5 @@
+-- `arith::divided` meets its contract: the division of the magnitudes, with the signs put back.
+-- Assumes nothing.
 use Rattle.arith.proofs.Laws.{divisor-positive, quotient-lt, remainder-lt, quotient_is, remainder_is}
 use Rattle.arith.proofs.divided.Goals as goal
 

@@ -1,3 +1,4 @@
+-- `arith::fits` meets its contract: at most the largest pattern is below the count of patterns. Assumes nothing.
 use Rattle.std.proofs.Common.{◌^◌}
 use Rattle.arith.proofs.Laws.{below-full, some}
 use Rattle.arith.specs.Numbers.{bits}

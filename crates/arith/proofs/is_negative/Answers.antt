@@ -1,3 +1,5 @@
+-- `arith::is_negative` meets its contract: the top bit is set above half of the largest pattern.
+-- Assumes nothing.
 use Rattle.std.proofs.Common.{◌^◌}
 use Rattle.arith.proofs.Laws.{half-test, some}
 use Rattle.arith.specs.Numbers.{bits, negative}

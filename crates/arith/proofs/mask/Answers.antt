@@ -1,3 +1,5 @@
+-- `arith::mask` meets its contract: a shift of all ones leaves as many ones as the width.
+-- Assumes nothing.
 use Rattle.std.proofs.Common.{arith}
 use Rattle.arith.proofs.Laws.{bits-le, bits_pos, mask-of}
 use Rattle.arith.proofs.mask.Goals as goal

@@ -1,3 +1,5 @@
+-- `arith::product64` meets its contract: the high halves' product is a multiple of 2 ^ 64.
+-- Assumes nothing.
 use Rattle.std.proofs.Common.{rules}
 use Rattle.arith.proofs.Laws.{halves-fit, product-halves}
 use Rattle.arith.proofs.product64.Goals as goal

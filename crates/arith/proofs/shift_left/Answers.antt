@@ -1,3 +1,5 @@
+-- `arith::shift_left` meets its contract: what wraps at 64 bits and is truncated wraps at the width.
+-- Assumes nothing.
 use Rattle.std.proofs.Common.{◌*◌, ◌^◌, ◌∙◌}
 use Rattle.arith.proofs.Laws.{low_bits}
 use Rattle.arith.proofs.shift_left.Goals as goal

@@ -1,3 +1,5 @@
+-- `arith::shift_right` meets its contract: a negative value is shifted as its complement.
+-- Assumes nothing.
 use Rattle.std.proofs.Common.{◌-◌, ◌^◌, sym, ◌∙◌, div-le_self, arith}
 use Rattle.arith.proofs.Laws.{shift-negative, shift-plain}
 use Rattle.arith.proofs.shift_right.Goals as goal

@@ -1,3 +1,5 @@
+-- `arith::sum` meets its contract: what wraps at 64 bits and is truncated wraps at the width.
+-- Assumes nothing.
 use Rattle.std.proofs.Common.{ℕ, ◌+◌, ◌%◌, ◌^◌, ap, ◌∙◌}
 use Rattle.arith.proofs.Laws.{low_bits}
 use Rattle.arith.specs.Numbers.{bits}

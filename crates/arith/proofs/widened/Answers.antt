@@ -1,3 +1,5 @@
+-- `arith::widened` meets its contract: a negative pattern gains what lies between the two widths.
+-- Assumes nothing.
 use Rattle.std.proofs.Common.{sym, ◌∙◌}
 use Rattle.arith.proofs.Laws.{widened-negative, widened-plain}
 use Rattle.arith.proofs.widened.Goals as goal

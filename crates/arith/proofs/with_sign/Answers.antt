@@ -1,3 +1,5 @@
+-- `arith::with_sign` meets its contract: the pattern of a negation.
+-- Assumes nothing.
 use Rattle.std.proofs.Common.{◌^◌, sym, ◌∙◌, mod-eq_of_lt}
 use Rattle.arith.proofs.Laws.{negation}
 use Rattle.arith.specs.Numbers.{bits, residue}

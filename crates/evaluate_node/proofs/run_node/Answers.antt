@@ -1,3 +1,4 @@
+-- `evaluate_node::run_node` meets its contract: by how far the statements went. Assumes nothing.
 use mathlib.Core.Path.{sym, ◌∙◌}
 use Rattle.evaluate_node.proofs.Runs.{node-refused, node-stopped, node-went}
 use Rattle.evaluate_node.proofs.Whole.{fit-enough}

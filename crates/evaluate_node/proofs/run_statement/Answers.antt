@@ -1,3 +1,4 @@
+-- `evaluate_node::run_statement` meets its contract: each return is a case of what a statement leaves. Assumes nothing.
 use mathlib.Core.Path.{sym, ◌∙◌}
 use native.Mathlib.Omega.{arith}
 use lib.Seq.{length-take-le}

@@ -1,3 +1,5 @@
+-- `evaluate_node::run_statements` meets its contract. The invariant is `Passed`: what is left decides. The measure is what is left.
+-- Assumes nothing.
 use mathlib.Core.Path.{refl, sym, ◌∙◌}
 use native.Mathlib.Omega.{arith}
 use Rattle.std.proofs.Common.{rules}

@@ -1,3 +1,4 @@
+-- `evaluate_node::stopped` meets its contract. Assumes nothing.
 use Rattle.evaluate_node.proofs.stopped.Goals as goal
 
 pub returns-in-Unfit : goal.returns-in-Unfit

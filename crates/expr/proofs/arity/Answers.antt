@@ -1,3 +1,5 @@
+-- `expr::arity` meets its contract: kind by kind, two bits of one number are the table's entry.
+-- Assumes nothing.
 use mathlib.Core.Path.{◌≡◌, refl}
 use mathlib.Core.Bool.{Bool, true, false}
 use Prim.Native.Nat.{ℕ, ◌+◌, ◌*◌, ◌/◌, ◌%◌, ◌^◌, ◌-◌, ◌<◌}

@@ -1,3 +1,4 @@
+-- `expr::binary_type` meets its contract: at each return the tests say which operators are left. Assumes nothing.
 use borrow.Author.Tests.{lt-ltb, le-ltb}
 use Rattle.expr.specs.Types.{binary_type}
 use Rattle.expr.proofs.binary_type.Goals as goal

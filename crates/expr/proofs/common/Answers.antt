@@ -1,3 +1,5 @@
+-- `expr::common` meets its contract: at each return the tests say which case of the definition holds.
+-- Assumes nothing.
 use borrow.Author.Tests.{lt-ltb, le-ltb}
 use Rattle.expr.specs.Types.{common}
 use Rattle.expr.proofs.common.Goals as goal

@@ -1,3 +1,4 @@
+-- `expr::constant_type` meets its contract: each arm is a width. Assumes nothing.
 use borrow.Author.Tests.{ne_eqb}
 use Rattle.expr.specs.Types.{constant_type}
 use Rattle.expr.proofs.constant_type.Goals as goal

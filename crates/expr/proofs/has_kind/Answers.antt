@@ -1,3 +1,5 @@
+-- `expr::has_kind` meets its contract. The invariant: a scan of all the words is one of those from i on. The measure is what is left of them.
+-- Assumes nothing.
 use mathlib.Core.Path.{◌∙◌, sym}
 use borrow.Author.Tests.{eq-eqb, ne_eqb}
 use Rattle.expr.specs.Scan.{of_kind}

@@ -1,3 +1,5 @@
+-- `expr::has_load` meets its contract: a record of kind 5 among the words is one in the tree.
+-- Assumes nothing.
 use mathlib.Core.Path.{◌∙◌}
 use Rattle.expr.specs.Scan.{is_load, of_kind}
 use Rattle.expr.proofs.Scans.{any-tree, load-tag}

@@ -1,3 +1,5 @@
+-- `expr::has_own_value` meets its contract: a record of kind 4 among the words is one in the tree.
+-- Assumes nothing.
 use mathlib.Core.Path.{◌∙◌}
 use Rattle.expr.specs.Scan.{is_effect, of_kind}
 use Rattle.expr.proofs.Scans.{any-tree, effect-tag}

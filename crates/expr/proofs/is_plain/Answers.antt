@@ -1,3 +1,4 @@
+-- `expr::is_plain` meets its contract: it is the two scans that the definition names. Assumes nothing.
 use Rattle.expr.proofs.is_plain.Goals as goal
 
 pub returns : goal.returns

@@ -1,3 +1,4 @@
+-- `expr::joined` meets its contract: it is the composition that the definition says. Assumes nothing.
 use mathlib.Core.Path.{◌∙◌, ap₂}
 use Rattle.expr.specs.Types.{common}
 use Rattle.expr.proofs.joined.Goals as goal

@@ -1,3 +1,6 @@
+-- `expr::last_start` meets its contract. The invariant is `Back`: the words before `at` are trees, and passing `left` of them leads to the
+-- start that is looked for. The measure is `at`.
+-- Assumes nothing.
 use native.Mathlib.Omega.{arith}
 use Rattle.expr.proofs.Parts.{back_start, back_step, back-few, back_end}
 use Rattle.expr.proofs.last_start.Goals as goal

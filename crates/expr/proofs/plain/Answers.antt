@@ -1,3 +1,4 @@
+-- `expr::plain` meets its contract. Assumes nothing.
 use borrow.Author.Tests.{eq-eqb, ne_eqb}
 use Rattle.expr.specs.Types.{plain_type}
 use Rattle.expr.proofs.plain.Goals as goal

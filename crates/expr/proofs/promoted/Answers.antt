@@ -1,3 +1,4 @@
+-- `expr::promoted` meets its contract: the test is the definition's, on the width that `width` gives. Assumes nothing.
 use borrow.Author.Tests.{lt-ltb, le-ltb}
 use Rattle.expr.specs.Types.{promoted}
 use Rattle.expr.proofs.promoted.Goals as goal

@@ -1,3 +1,5 @@
+-- `expr::reads` meets its contract. The invariant: the answer is a scan of the words from i on. The measure is what is left of them.
+-- Assumes nothing.
 use mathlib.Core.Path.{◌∙◌, sym}
 use Rattle.expr.specs.Scan.{is_variable, of_variable}
 use Rattle.expr.proofs.Scans.{any_here, any-on, any-end, any-tree, variable-tag}

@@ -1,3 +1,5 @@
+-- `expr::same` meets its contract. The invariant: comparing all the words is comparing those from i on. The measure is what is left of them.
+-- Assumes nothing.
 use mathlib.Core.Path.{sym, ◌∙◌}
 use native.Mathlib.Omega.{arith}
 use Rattle.laws.proofs.SameWords.{words-unlike, words-on, words-stop, words-end}

@@ -1,3 +1,6 @@
+-- `expr::static_type` meets its contract. The invariant is `Typed`: the trees of the records passed, whose types the array holds. The
+-- measure is what is left of the words.
+-- Assumes nothing.
 use mathlib.Core.Path.{refl}
 use native.Mathlib.Omega.{arith}
 use Rattle.expr.proofs.Stack.{typed-start, typed-enough, typed-push, typed-end}

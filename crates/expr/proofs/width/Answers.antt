@@ -1,3 +1,5 @@
+-- `expr::width` meets its contract: each arm is an entry of the table, and what no arm names has 64 bits there.
+-- Assumes nothing.
 use mathlib.Core.Logic.{◌⊎◌, inl, inr, ⊎_elim}
 use mathlib.Core.Path.{◌≡◌, refl}
 use Prim.Native.Nat.{ℕ, zero, suc}

@@ -1,3 +1,4 @@
+-- `format::is_sheet` meets its contract: what the slice provides are bytes, so what the format says of reading goes for them.
 use native.Mathlib.Omega.{arith}
 use Rattle.format.proofs.Unique.{says-sheet, says_none}
 use Rattle.format.proofs.is_sheet.Goals as goal

@@ -1,3 +1,5 @@
+-- `sentence_text::joined_end` meets its contract. The invariant: comparing the parts is comparing them from i on. The measure is what is left of them.
+-- Assumes nothing.
 use mathlib.Core.Path.{◌∙◌}
 use Rattle.sentence_text.proofs.Parts.{parts-unlike, parts-on, parts-stop, parts-end, ends_turned, ends-unlike, ends-once}
 use Rattle.sentence_text.proofs.joined_end.Goals as goal

@@ -1,3 +1,4 @@
+-- `test_io::text` meets its contract: a repeat is as long as it says, by the law, with nothing computed.
 use mathlib.Core.Path.{sym}
 use Prim.Native.Nat.{ℕ}
 use lib.ListN.{length-replicate}
