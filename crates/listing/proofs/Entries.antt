@@ -69,4 +69,4 @@ entries-lines {s} {a} {b} [] h = refl
 entries-lines {s} {a} {b} (l ∷ due) h =
     let t = spans-cut (line_bytes l) (records line_bytes due) h in
     let e = entry-line l t.1 in
-    rw (e.0, entries-lines due (rw e.1 at t.2))
+    rw (e.0, entries-lines {a = a + 18} due (rw e.1 at t.2))

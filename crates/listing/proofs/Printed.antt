@@ -89,9 +89,12 @@ unfolding listing_of
 listing-says s list room = reading-says s list (reading_of s) refl room
 
 -- what the program writes, by the length of what it is given
-pub too_long_lem : (s : List ℕ) {old new : List ℕ} {r : ℕ} → 65536 < length s → Written old new r (refusal_text 1 65536) → Written old new r (printed s)
+pub printed_long : (s : List ℕ) → 65536 < length s → printed s ≡ refusal_text 1 65536
 unfolding printed
-too_long_lem s long w = rw (lt-ltb 65536 (length s) long) w
+printed_long s long = rw (lt-ltb 65536 (length s) long)
+
+pub too_long_lem : (s : List ℕ) {old new : List ℕ} {r : ℕ} → 65536 < length s → Written old new r (refusal_text 1 65536) → Written old new r (printed s)
+too_long_lem s long w = rw (printed_long s long) w
 
 -- at most 65,536 bytes are read
 pub within : (s : List ℕ) → length s ≤ 65536 → printed s ≡ read_text (reading_of s) s

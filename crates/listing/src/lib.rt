@@ -109,6 +109,7 @@ fn write_output<W: Write>(output: &mut W, _read: &[u8], text: &[u8]) -> Ending
 }
 
 // Puts what the program writes for a sheet at the start of the text's buffer, and gives its length.
+#[tactic(auto, using(crate::proofs::Printed::printed_long))]
 fn text_of(s: &[u8], list: &mut [u8], text: &mut [u8]) -> usize
     requires list_len { length list.old ≡ 36864 }
     requires in_bounds { 92190 ≤ length text.old }
