@@ -20,7 +20,6 @@ use Rattle.verdict_node.specs.NodeVerdict.{node_verdict}
 use Rattle.verdict_sheet.specs.Sites.{block_site, node_site}
 use Rattle.verdict_sheet.specs.Said.{Said, saying, blocks_say, Judged, node_too, judged_up_to, or_later, first_decided}
 use Rattle.verdict_sheet.specs.Said.Judged.{all, refused as node_refused}
-use Rattle.theorems.specs.Runs.Source.{node}
 use Rattle.theorems.proofs.Apart.{some_same, not_some}
 
 -- a verdict that decides nothing

@@ -9,7 +9,6 @@ use borrow.Author.Tests.{ltb-true, ltb-false, leb-true, leb-false, lt-ltb, le-lt
 use lib.Dec.{leb, ltb}
 use lib.ListN.{length, drop, get_or, length-append, length-drop}
 use lib.Seq.{take-append_seam, get_or-append-add, get_or-drop}
-use Rattle.isa.specs.declared.Instruction.{Instruction}
 use Rattle.alu.specs.declared.Flag.{Flag}
 use Rattle.alu.specs.declared.Flag.TheVariants as flag
 use Rattle.machine.specs.declared.State.{State}

@@ -19,7 +19,7 @@ use Rattle.machine.specs.Registers.{nothing_known}
 use Rattle.machine.specs.Rules.{stepped_all}
 use Rattle.machine.specs.Conditions.{condition_of}
 use Rattle.concrete.specs.Concrete.{Processor, Choice, executed_all, outcome}
-use Rattle.concrete.specs.Agreement.{Agrees, Accepted, AllAccepted, operand_well_formed}
+use Rattle.concrete.specs.Agreement.{Agrees, AllAccepted, operand_well_formed}
 use Rattle.concrete.proofs.Sound.{nothing_known_lem, steps-sound}
 use Rattle.concrete.proofs.Forced.{forced}
 use Rattle.sheet_instruction.specs.Instruction.{instruction_at}
