@@ -1,5 +1,4 @@
 use mathlib.Core.Path.{refl}
-use Rattle.std.proofs.Common.{rules}
 use Rattle.pomthija.proofs.pomthija_evaluation.Goals as goal
 
 pub returns-in-Holds : goal.returns-in-Holds

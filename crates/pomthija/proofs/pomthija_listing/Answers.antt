@@ -1,6 +1,5 @@
 use Rattle.answer_listing.specs.Listing.{listing_of}
 use Rattle.pomthija.proofs.Host.{returned-lines, returned-refusal}
-use Rattle.std.proofs.Common.{rules}
 use Rattle.pomthija.proofs.pomthija_listing.Goals as goal
 
 pub returns-in-Lines : goal.returns-in-Lines

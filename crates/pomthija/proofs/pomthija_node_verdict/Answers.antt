@@ -1,5 +1,4 @@
 use Rattle.pomthija.proofs.Host.{returned-always, returned-never, returned-undecided, returned-none, returned-refused}
-use Rattle.std.proofs.Common.{rules}
 use Rattle.pomthija.proofs.pomthija_node_verdict.Goals as goal
 
 pub returns-in-Always : goal.returns-in-Always
