@@ -136,6 +136,12 @@ def results(root):
             write(path, text)
 
 
+def own_at(root):
+    """port.py takes sentence_block's ownAt for a name of the library."""
+    path = os.path.join(root, "crates", "sentence_block", "specs", "Promises.antt")
+    write(path, re.sub(r"\bfield_own\b", "own_at", read(path)))
+
+
 def main():
     root = sys.argv[1] if len(sys.argv) > 1 else "."
     lemmas(root)
@@ -143,6 +149,7 @@ def main():
     names(root, words)
     contracts(root)
     results(root)
+    own_at(root)
     print(f"respell: {len(words)} words")
 
 
