@@ -1,36 +1,39 @@
 # make            the library (static and shared), the listing program and, where cargo is, the command, in build/
 # make sample     the listing program, run on a sample
-# make test       the gate: every proof from nothing, the must-fail edits and the outside checks
+# make test       the gate: every proof, the must-fail edits, the programs and the outside checks
 # make install    header, libraries, pkg-config file and what is built of program and command under PREFIX (and DESTDIR)
-# make clean      removes build/; what is proved stays in target/
+# make clean      removes build/; what is proved stays in crates/*/out
 #
-# rt proves a crate again only where it or something below it has changed. `rt check` proves crates side by side,
-# `rt staticlib` one after the other, so the first comes before the second.
+# rt proves a crate again only where it or something below it has changed.
 PREFIX = /usr/local
 DESTDIR =
 CC = cc
-CFLAGS = -O2
 VERSION := $(shell sed -n 's/^.define POMTHIJA_VERSION //p' include/pomthija.h)
 to = $(DESTDIR)$(PREFIX)
+
+# How the static library and the program of a crate are made, crates/NAME/out/libNAME.a and crates/NAME/out/NAME. The gate, which has
+# just proved all, says it in another way.
+ARCHIVE = cd crates/$(1) && rt lib
+PROGRAM = cd crates/$(1) && rt run -- --version
 
 .PHONY: all library program command sample test install clean
 
 all: library program command
 
 library:
-	rt check pomthija pomthija_sentence
-	rt staticlib pomthija
-	rt staticlib pomthija_sentence
+	$(call ARCHIVE,pomthija_c)
+	$(call ARCHIVE,pomthija_sentence_c)
 	mkdir -p build
-	cp target/staticlib/libpomthija.a build/
-	cd build && $(AR) x ../target/staticlib/libpomthija_sentence.a && $(AR) r libpomthija.a pomthija_sentence.o && rm pomthija_sentence.o
+	rm -f build/libpomthija.a
+	cd build && for crate in pomthija_c pomthija_sentence_c; do \
+	  $(AR) x ../crates/$$crate/out/lib$$crate.a && $(AR) rc libpomthija.a $$crate.o && rm $$crate.o || exit 1; done
+	$(AR) s build/libpomthija.a
 	$(CC) -shared -Wl,-soname,libpomthija.so.$(VERSION) -Wl,--whole-archive build/libpomthija.a -Wl,--no-whole-archive -o build/libpomthija.so
 
 program:
-	rt check listing
-	rt staticlib listing
+	$(call PROGRAM,listing_program)
 	mkdir -p build
-	$(CC) $(CFLAGS) -Iinclude -o build/listing programs/listing.c target/staticlib/liblisting.a
+	cp crates/listing_program/out/listing_program build/listing
 
 command: library
 	if [ -n "$$(command -v cargo)" ]; then cd lister && cargo build --release --quiet && cp target/release/pomthija ../build/; \

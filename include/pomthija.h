@@ -1,4 +1,4 @@
-/* Pomthija, for a host in C or C++. The library is libpomthija.a, made by `rt staticlib pomthija`.
+/* Pomthija, for a host in C or C++. The library is libpomthija.a, made by `make library`.
  *
  * The host answers for this much; the library checks everything else by itself:
  *   - a pointer is good for as many elements as the length beside it says. Where that is 0, any

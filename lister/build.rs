@@ -6,7 +6,7 @@ use std::path::Path;
 /// The repository's root from this package's folder, and the folder of the archive from the root,
 /// if `POMTHIJA_LIB` names none.
 const ROOT: &str = "..";
-const DEFAULT: &str = "target/staticlib";
+const DEFAULT: &str = "build";
 
 fn main() {
     let package = std::env::var("CARGO_MANIFEST_DIR").expect("cargo names the package's folder");
