@@ -4,3 +4,5 @@ pub mod Given
 pub mod Entries
 -- the text of the listing's answer
 pub mod Printed
+-- the bytes of input and output
+pub mod Streams

@@ -3,9 +3,11 @@
 #![tactic(auto)]
 
 ghost use Rattle.std.specs.Prelude.{◌≡◌, ◌≤◌, length};
+ghost use Rattle.std.specs.Io.KnownBytes.{Keeps};
 ghost use Rattle.text.specs.Promises.{Written};
 ghost use Rattle.listing.specs.Program.{printed};
 ghost use Rattle.listing.specs.Promises.{Within, Ended, status_of};
+ghost use Rattle.listing.specs.Streams.{TakesOnce, Takes, Puts, Lists, Answers};
 
 use answer_listing::Listed;
 use std::io::{Read, Write};
@@ -48,7 +50,8 @@ fn text_room() -> [u8; 92190]
 
 // One read of the input. Zero bytes mean its end.
 fn read_more<R: Read>(input: &mut R, room: &mut [u8]) -> Input
-    ensures { Within result (length room.new) }
+    ensures within { Within result (length room.new) }
+    ensures takes { TakesOnce result (R.remaining input.old) (R.remaining input.new) room.new }
 {
     match input.read(room) {
         Ok(n) => Input::Bytes(n),
@@ -58,7 +61,8 @@ fn read_more<R: Read>(input: &mut R, room: &mut [u8]) -> Input
 
 // Reads the input to its end, or until the buffer is full.
 fn read_input<R: Read>(input: &mut R, room: &mut [u8]) -> Input
-    ensures { Within result (length room.new) }
+    ensures within { Within result (length room.new) }
+    ensures takes { Takes result (R.remaining input.old) (R.remaining input.new) room.new }
 {
     let mut had: usize = 0;
     while had < room.len() {
@@ -101,6 +105,7 @@ fn status<E: Write>(e: Ending, errors: &mut E) -> u8
 // Writes the text, which is the one for the bytes that were read.
 fn write_output<W: Write>(output: &mut W, _read: &[u8], text: &[u8]) -> Ending
     requires { text.now ≡ printed _read.now }
+    ensures { Puts result (W.contents output.old) (W.contents output.new) text.now }
 {
     match output.write_all(text) {
         Ok(()) => Ending::Written,
@@ -135,7 +140,8 @@ fn answer<R: Read, W: Write>(
 ) -> Ending
     requires list_len { length list.old ≡ 36864 }
     requires in_bounds { 92190 ≤ length text.old }
-    ensures { Ended result room.new text.old text.new }
+    ensures ended { Ended result room.new text.old text.new }
+    ensures answers { Answers result (length room.new) (R.remaining input.old) (R.remaining input.new) (W.contents output.old) (W.contents output.new) }
 {
     let read = read_input(input, room);
     match read {
