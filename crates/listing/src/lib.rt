@@ -154,7 +154,10 @@ fn answer<R: Read, W: Write>(
 }
 
 // The program; its `main` returns the number as its exit status.
-pub fn program<R: Read, W: Write, E: Write>(input: &mut R, output: &mut W, errors: &mut E) -> u8 {
+pub fn program<R: Read, W: Write, E: Write>(input: &mut R, output: &mut W, errors: &mut E) -> u8
+    ensures written { result ≡ 0 → Lists 65537 (R.remaining input.old) (R.remaining input.new) (W.contents output.old) (W.contents output.new) }
+    ensures unread { result ≡ 1 → Keeps (W.contents output.old) (W.contents output.new) }
+{
     let mut room = input_room();
     let mut list = list_room();
     let mut text = text_room();

@@ -1,15 +1,15 @@
 -- What an instruction leaves known. The rules of machine and blocks in the order of the claims, with what renders each:
---   registers known whole, flags singly      known/specs/Registers.antt contents, partOf; Registers slotAt (M2, M3)
+--   registers known whole, flags singly      known/specs/Registers.antt contents, part_of; Registers slot_at (M2, M3)
 --   all start unknown                        Registers nothing_known (M4)
 --   call-like instructions                   stepped (M5)
 --   what is modelled                         isa/specs/Modelled.antt takes, modelled (M6)
 --   writes of 32, 16 and 8 bits, unknown ones   known/specs/Values.antt merged; Registers written (M7, M8, M9)
---   results wrap; PF                         alu/specs/Arithmetic.antt result, even_parity (M10, M11)
+--   results wrap; PF                         alu/specs/Arithmetic.antt result_of, even_parity (M10, M11)
 --   a register with itself                   same_register; known/specs/Operations.antt is_idiom, of_itself (M12)
 --   an unknown operand                       known/specs/Operations.antt of_unknown (M13, M14)
 --   inc, dec, neg of an unknown register     unary_unknown; known/specs/Operations.antt unknown_carry (M15, M16)
 --   all else                                 Registers forgotten; known/specs/Operations.antt forget_flags (M17)
---   jumps                                    Conditions condition_of; known/specs/Conditions.antt flag_condition, isZero (M18, M19, M20)
+--   jumps                                    Conditions condition_of; known/specs/Conditions.antt flag_condition, is_zero (M18, M19, M20)
 --   forced; blocks; runs                     theorems/specs/Runs.antt; verdict_block/specs; concrete/specs
 --                                            (M21, M22, M23, M24, M25, M26, M27, M28, M29, M30)
 use Rattle.std.specs.Prelude.{Bool, true, false, cond, ◌&&◌, List, [], ◌∷◌, eqb}

@@ -3,7 +3,7 @@
 -- Each check of reading: its number, what has to be, at which byte it is made, where its refusal is placed, and the definition that has it.
 --  1 | a field is whole | the sheet's end | the field's first byte | field_at
 --  1 | nothing follows the last record | the first byte that follows | that byte | ended
---  2 | a map, a code, a variable's number is in its table | its byte | its byte | map_at (two of them), codeAt, argument_at
+--  2 | a map, a code, a variable's number is in its table | its byte | its byte | map_at (two of them), code_at, argument_at
 --  3 | a count is within its limits | its second byte | its first byte | count_at
 --  4 | an instruction's address is above the one before | its last byte | its first byte | address_at
 --  5 | a register of class 1 is well formed | its offset byte | its class byte | register_at
