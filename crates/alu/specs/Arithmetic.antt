@@ -1,7 +1,6 @@
 -- What an operation on known values gives, result and flags. a and b are values of the width.
-use Rattle.std.specs.Prelude.{ℕ, ◌+◌, ◌-◌, ◌%◌, ◌^◌, Bool, false, not, ◌&&◌, ◌||◌, ◌==◌, bit_and, bit_or, bit_xor, count_ones, nat_le, nat_lt}
+use Rattle.std.specs.Prelude.{ℕ, ◌+◌, ◌-◌, ◌%◌, ◌^◌, Bool, false, not, ◌&&◌, ◌||◌, ◌==◌, bit_and, bit_or, bit_xor, count_ones, nat_le, nat_lt, Some}
 use Rattle.alu.specs.declared.Width.{Width}
-use Rattle.alu.specs.declared.Flag.TheVariants.{Known}
 use Rattle.alu.specs.declared.Flags.{Flags}
 use Rattle.alu.specs.declared.Operation.{Operation}
 use Rattle.alu.specs.declared.Operation.TheVariants.{Add, Sub, And, Or, Xor}
@@ -49,7 +48,7 @@ overflow Xor w a b r = false
 -- all five flags known: ZF, SF and PF from the result (M11)
 unfoldable pub result_flags : Width → ℕ → Bool → Bool → Flags
 result_flags w r cf of =
-    record { cf = Known cf; pf = Known (even_parity r); zf = Known (r == 0); sf = Known (negative w r); of = Known of }
+    record { cf = Some cf; pf = Some (even_parity r); zf = Some (r == 0); sf = Some (negative w r); of = Some of }
 
 -- an operation's result and all its flags (M10, M11)
 unfoldable pub performed : Operation → Width → ℕ → ℕ → Performed

@@ -1,5 +1,5 @@
 // The arithmetic of 8, 16, 32 and 64 bits: a result wraps at the width, and gives the flags CF, PF, ZF, SF and OF.
-// A flag is known, set or clear, or unknown; what a condition of flags yields is known or not in the same way.
+// A flag is `Some` where it is known, set or clear, else `None`; so is what a condition of flags yields.
 #![tactic(auto)]
 
 ghost use Rattle.std.specs.Prelude.{◌≡◌, ◌%◌, ◌^◌};
@@ -15,30 +15,17 @@ pub enum Width {
     Quad,
 }
 
-// What a size in bits is: that of a width, or of none. The sizes of well-formed registers of class 1 are those of the four widths.
-#[derive(Clone, Copy)]
-pub enum Size {
-    Of(Width),
-    NoWidth,
-}
-
-// The width of a size in bits.
-pub fn width_of(size: u8) -> Size
+// The width of a size in bits, if it has one, as the sizes of well-formed registers of class 1 do.
+pub fn width_of(size: u8) -> Option<Width>
     ensures { result ≡ width_of size }
 {
-    if size == 8 {
-        return Size::Of(Width::Byte);
+    match size {
+        8 => Some(Width::Byte),
+        16 => Some(Width::Word),
+        32 => Some(Width::Double),
+        64 => Some(Width::Quad),
+        _ => None,
     }
-    if size == 16 {
-        return Size::Of(Width::Word);
-    }
-    if size == 32 {
-        return Size::Of(Width::Double);
-    }
-    if size == 64 {
-        return Size::Of(Width::Quad);
-    }
-    Size::NoWidth
 }
 
 // The low bits that the width has.
@@ -69,36 +56,30 @@ fn is_negative(w: Width, x: u64) -> bool
 fn has_even_parity(x: u64) -> bool
     ensures { result ≡ even_parity x }
 {
-    u64::count_ones(x % 256) % 2 == 0
+    (x % 256).count_ones() % 2 == 0
 }
 
-#[derive(Clone, Copy)]
-pub enum Flag {
-    Known(bool),
-    Unknown,
-}
-
+// Each flag is set, clear or, at `None`, unknown.
 #[derive(Clone, Copy)]
 pub struct Flags {
-    pub cf: Flag,
-    pub pf: Flag,
-    pub zf: Flag,
-    pub sf: Flag,
-    pub of: Flag,
+    pub cf: Option<bool>,
+    pub pf: Option<bool>,
+    pub zf: Option<bool>,
+    pub sf: Option<bool>,
+    pub of: Option<bool>,
 }
 
 // What a result settles by itself, ZF, SF and PF, beside a carry and an overflow.
+#[tactic(auto, unfolding(crate::specs::Arithmetic::result_flags))]
 pub fn result_flags(w: Width, r: u64, cf: bool, of: bool) -> Flags
     ensures { result ≡ result_flags w r cf of }
 {
-    let even = has_even_parity(r);
-    let sign = is_negative(w, r);
     Flags {
-        cf: Flag::Known(cf),
-        pf: Flag::Known(even),
-        zf: Flag::Known(r == 0),
-        sf: Flag::Known(sign),
-        of: Flag::Known(of),
+        cf: Some(cf),
+        pf: Some(has_even_parity(r)),
+        zf: Some(r == 0),
+        sf: Some(is_negative(w, r)),
+        of: Some(of),
     }
 }
 
@@ -112,12 +93,13 @@ pub enum Operation {
 }
 
 // The result of an operation on two values of that width.
+#[tactic(auto, using(crate::proofs::Laws::truncated, crate::proofs::Laws::truncated_difference), unfolding(crate::specs::Arithmetic::result_of))]
 fn result_of(op: Operation, w: Width, a: u64, b: u64) -> u64
     ensures { result ≡ result_of op w a b }
 {
     match op {
-        Operation::Add => cut(w, std::num::wrapping_add_u64(a, b)),
-        Operation::Sub => cut(w, std::num::wrapping_sub_u64(a, b)),
+        Operation::Add => cut(w, a.wrapping_add(b)),
+        Operation::Sub => cut(w, a.wrapping_sub(b)),
         Operation::And => a & b,
         Operation::Or => a | b,
         Operation::Xor => a ^ b,
@@ -125,15 +107,14 @@ fn result_of(op: Operation, w: Width, a: u64, b: u64) -> u64
 }
 
 // The carry of a sum, the borrow of a difference; r is the result.
+#[tactic(auto, unfolding(crate::specs::Arithmetic::carry))]
 fn carry_of(op: Operation, a: u64, b: u64, r: u64) -> bool
     ensures { result ≡ carry op a b r }
 {
     match op {
         Operation::Add => r < a,
         Operation::Sub => a < b,
-        Operation::And => false,
-        Operation::Or => false,
-        Operation::Xor => false,
+        Operation::And | Operation::Or | Operation::Xor => false,
     }
 }
 
@@ -145,6 +126,7 @@ fn signs_overflow(a: bool, b: bool, r: bool) -> bool
 }
 
 // A sum overflows by its terms' signs, a difference as the sum with its second term's sign turned.
+#[tactic(auto, unfolding(crate::specs::Arithmetic::overflow))]
 fn overflow_of(op: Operation, w: Width, a: u64, b: u64, r: u64) -> bool
     ensures { result ≡ overflow op w a b r }
 {
@@ -154,9 +136,7 @@ fn overflow_of(op: Operation, w: Width, a: u64, b: u64, r: u64) -> bool
     match op {
         Operation::Add => signs_overflow(sa, sb, sr),
         Operation::Sub => signs_overflow(sa, !sb, sr),
-        Operation::And => false,
-        Operation::Or => false,
-        Operation::Xor => false,
+        Operation::And | Operation::Or | Operation::Xor => false,
     }
 }
 
@@ -168,6 +148,7 @@ pub struct Performed {
 }
 
 // The result of an operation and the flags that it settles.
+#[tactic(auto, unfolding(crate::specs::Arithmetic::performed))]
 pub fn perform(op: Operation, w: Width, a: u64, b: u64) -> Performed
     ensures { result ≡ performed op w a b }
 {
@@ -178,43 +159,33 @@ pub fn perform(op: Operation, w: Width, a: u64, b: u64) -> Performed
     Performed { value, flags }
 }
 
-pub fn not(f: Flag) -> Flag
+pub fn not(f: Option<bool>) -> Option<bool>
     ensures { result ≡ opposite f }
 {
-    match f {
-        Flag::Known(b) => Flag::Known(!b),
-        Flag::Unknown => Flag::Unknown,
-    }
+    f.map(|b| !b)
 }
 
 // One that is set settles it, also beside an unknown one.
-pub fn or(f: Flag, g: Flag) -> Flag
+pub fn or(f: Option<bool>, g: Option<bool>) -> Option<bool>
     ensures { result ≡ either f g }
 {
-    match f {
-        Flag::Known(a) => { if a { Flag::Known(true) } else { g } }
-        Flag::Unknown => match g {
-            Flag::Known(b) => { if b { Flag::Known(true) } else { Flag::Unknown } }
-            Flag::Unknown => Flag::Unknown,
-        },
+    match (f, g) {
+        (Some(true), _) | (_, Some(true)) => Some(true),
+        (Some(false), Some(false)) => Some(false),
+        (None, _) | (_, None) => None,
     }
 }
 
 // Both are set: not that one of them is clear.
-pub fn and(f: Flag, g: Flag) -> Flag
+pub fn and(f: Option<bool>, g: Option<bool>) -> Option<bool>
     ensures { result ≡ both f g }
 {
     not(or(not(f), not(g)))
 }
 
-pub fn differ_in(f: Flag, g: Flag) -> Flag
+// One is set and the other clear.
+pub fn differ_in(f: Option<bool>, g: Option<bool>) -> Option<bool>
     ensures { result ≡ differ f g }
 {
-    match f {
-        Flag::Known(a) => match g {
-            Flag::Known(b) => Flag::Known((a & !b) | (!a & b)),
-            Flag::Unknown => Flag::Unknown,
-        },
-        Flag::Unknown => Flag::Unknown,
-    }
+    f.zip(g).map(|(a, b)| a != b)
 }
