@@ -1,16 +1,13 @@
 -- What is known of the conditions of jumps.
-use Rattle.std.specs.Prelude.{eqb}
+use Rattle.std.specs.Prelude.{ℕ, Bool, eqb, Option}
+use Rattle.std.specs.Option.{option_map}
 use Rattle.isa.specs.declared.Condition.{Condition}
 use Rattle.isa.specs.declared.Condition.TheVariants.{E, Ne, L, Ge, Le, G, B, Ae, Be, A, S, Ns, P, Np, O, No}
-use Rattle.alu.specs.declared.Flag.{Flag}
 use Rattle.alu.specs.declared.Flags.{Flags}
 use Rattle.alu.specs.Flags.{opposite, either, both, differ}
-use Rattle.known.specs.declared.Value.{Value}
-use Rattle.known.specs.declared.Value.TheVariants.{Known, Unknown}
-use Rattle.alu.specs.declared.Flag.TheVariants as flag
 
 -- What is known of a condition of flags, case by case as the Rust's `holds` has it (M18, S23).
-unfoldable pub flag_condition : Condition → Flags → Flag
+unfoldable pub flag_condition : Condition → Flags → Option Bool
 flag_condition E f = f.zf
 flag_condition Ne f = opposite f.zf
 flag_condition L f = differ f.sf f.of
@@ -29,6 +26,5 @@ flag_condition O f = f.of
 flag_condition No f = opposite f.of
 
 -- The condition of a count-register jump, on the part of the register that it reads (M19).
-abbrev pub is_zero : Value → Flag
-is_zero (Known x) = flag.Known (eqb x 0)
-is_zero Unknown = flag.Unknown
+abbrev pub is_zero : Option ℕ → Option Bool
+is_zero v = option_map (λ x. eqb x 0) v

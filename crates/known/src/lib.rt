@@ -3,23 +3,16 @@
 #![tactic(auto)]
 
 ghost use Rattle.std.specs.Prelude.{◌≡◌};
-ghost use Rattle.known.specs.Values.{extracted, inserted, on_value, onto, merged};
+ghost use Rattle.known.specs.Values.{extracted, inserted, merged};
 ghost use Rattle.known.specs.Registers.{unmarked, contents, slot_of, part_of, with_part};
 ghost use Rattle.known.specs.Operations.{carry_rule, complement, operation_of, is_idiom, of_itself, no_flags, nothing_left, immediate, bitwise_flags, of_unknown, of_known, on_operands, arith_effect, with_carry, alone, kept_carry, unknown_carry, unary_effect, forget_flag, forget_flags};
 ghost use Rattle.known.specs.Conditions.{flag_condition, is_zero};
 
-use alu::{Flag, Flags, Operation, Performed, Size, Width};
+use alu::{Flags, Operation, Performed, Width};
 use isa::{Binary, CarryChange, Condition, Unary};
 
-// A value that is read or written: known or not.
-#[derive(Clone, Copy)]
-pub enum Value {
-    Known(u64),
-    Unknown,
-}
-
 // What is known of a register: its marks, which are all set where it is known and else 0; and its value, which means nothing
-// where it is not known; then it is 0.
+// where it is not known; then it is 0. It is not an Option, as a mark stands for a byte and may come to be set by itself.
 #[derive(Clone, Copy)]
 pub struct Slot {
     pub known: u64,
@@ -27,9 +20,10 @@ pub struct Slot {
 }
 
 // All marks: 255 for each of eight bytes.
-const MARKS: u64 = 18446744073709551615;
+const MARKS: u64 = u64::MAX;
 
 // The part of a whole register that a width and an offset name. Offset 8 counts at 8 bits alone.
+#[tactic(auto, unfolding(crate::specs::Values::extracted))]
 fn extract(w: Width, offset: u8, x: u64) -> u64
     ensures { result ≡ extracted w offset x }
 {
@@ -42,6 +36,7 @@ fn extract(w: Width, offset: u8, x: u64) -> u64
 }
 
 // The whole register with another part.
+#[tactic(auto, unfolding(crate::specs::Values::inserted))]
 fn insert(w: Width, offset: u8, old: u64, x: u64) -> u64
     ensures { result ≡ inserted w offset old x }
 {
@@ -59,37 +54,16 @@ fn insert(w: Width, offset: u8, old: u64, x: u64) -> u64
     }
 }
 
-fn part(w: Width, offset: u8, v: Value) -> Value
-    ensures { result ≡ on_value (extracted w offset) v }
-{
-    match v {
-        Value::Known(x) => Value::Known(extract(w, offset, x)),
-        Value::Unknown => Value::Unknown,
-    }
-}
-
-// A part written onto a whole register.
-fn onto_whole(w: Width, offset: u8, x: u64, old: Value) -> Value
-    ensures { result ≡ onto w offset x old }
-{
-    match old {
-        Value::Known(y) => Value::Known(insert(w, offset, y, x)),
-        Value::Unknown => Value::Unknown,
-    }
-}
-
 // The whole register after a write to it.
-fn merge(w: Width, offset: u8, old: Value, v: Value) -> Value
+#[tactic(auto, unfolding(crate::specs::Values::merged))]
+fn merge(w: Width, offset: u8, old: Option<u64>, v: Option<u64>) -> Option<u64>
     ensures { result ≡ merged w offset old v }
 {
-    match v {
-        Value::Unknown => Value::Unknown,
-        Value::Known(x) => match w {
-            Width::Byte => onto_whole(Width::Byte, offset, x, old),
-            Width::Word => onto_whole(Width::Word, offset, x, old),
-            Width::Double => Value::Known(x % 4294967296),
-            Width::Quad => Value::Known(x),
-        },
+    let x = v?;
+    match w {
+        Width::Byte | Width::Word => old.map(|whole| insert(w, offset, whole, x)),
+        Width::Double => Some(x % 4294967296),
+        Width::Quad => Some(x),
     }
 }
 
@@ -100,78 +74,71 @@ pub fn unknown() -> Slot
     Slot { known: 0, value: 0 }
 }
 
-fn contents_of(s: Slot) -> Value
+fn contents_of(s: Slot) -> Option<u64>
     ensures { result ≡ contents s }
 {
     if s.known == MARKS {
-        Value::Known(s.value)
+        Some(s.value)
     } else {
-        Value::Unknown
+        None
     }
 }
 
-fn slot_of(v: Value) -> Slot
+fn slot_of(v: Option<u64>) -> Slot
     ensures { result ≡ slot_of v }
 {
     match v {
-        Value::Known(value) => Slot {
+        Some(value) => Slot {
             known: MARKS,
             value,
         },
-        Value::Unknown => unknown(),
+        None => unknown(),
     }
 }
 
 // What is known of a part of a register.
-pub fn read(size: Size, offset: u8, s: Slot) -> Value
+#[tactic(auto, unfolding(crate::specs::Registers::part_of))]
+pub fn read(size: Option<Width>, offset: u8, s: Slot) -> Option<u64>
     ensures { result ≡ part_of size offset s }
 {
-    match size {
-        Size::Of(w) => part(w, offset, contents_of(s)),
-        Size::NoWidth => Value::Unknown,
-    }
+    let w = size?;
+    contents_of(s).map(|x| extract(w, offset, x))
 }
 
 // What is known of a register after a write to a part of it.
-pub fn write(size: Size, offset: u8, s: Slot, v: Value) -> Slot
+#[tactic(auto, unfolding(crate::specs::Registers::with_part))]
+pub fn write(size: Option<Width>, offset: u8, s: Slot, v: Option<u64>) -> Slot
     ensures { result ≡ with_part size offset s v }
 {
-    let old = contents_of(s);
     match size {
-        Size::Of(w) => slot_of(merge(w, offset, old, v)),
-        Size::NoWidth => unknown(),
+        Some(w) => slot_of(merge(w, offset, contents_of(s), v)),
+        None => unknown(),
     }
 }
 
 // An immediate, truncated to a width.
-pub fn immediate_of(size: Size, x: u64) -> Value
+pub fn immediate_of(size: Option<Width>, x: u64) -> Option<u64>
     ensures { result ≡ immediate size x }
 {
-    match size {
-        Size::Of(w) => Value::Known(alu::cut(w, x)),
-        Size::NoWidth => Value::Unknown,
-    }
+    size.map(|w| alu::cut(w, x))
 }
 
 // stc, clc, cmc.
-pub fn carry_rule(c: CarryChange, cf: Flag) -> Flag
+pub fn carry_rule(c: CarryChange, cf: Option<bool>) -> Option<bool>
     ensures { result ≡ carry_rule c cf }
 {
     match c {
-        CarryChange::Stc => Flag::Known(true),
-        CarryChange::Clc => Flag::Known(false),
+        CarryChange::Stc => Some(true),
+        CarryChange::Clc => Some(false),
         CarryChange::Cmc => alu::not(cf),
     }
 }
 
 // not.
-pub fn complement_of(v: Value) -> Value
+pub fn complement_of(v: Option<u64>) -> Option<u64>
     ensures { result ≡ complement v }
 {
-    match v {
-        Value::Known(x) => Value::Known(18446744073709551615 - x),
-        Value::Unknown => Value::Unknown,
-    }
+    v.map(|x| !x)
 }
 
 // The operation of add to test.
@@ -180,19 +147,17 @@ fn operation(op: Binary) -> Operation
 {
     match op {
         Binary::Add => Operation::Add,
-        Binary::Sub => Operation::Sub,
-        Binary::Cmp => Operation::Sub,
-        Binary::And => Operation::And,
+        Binary::Sub | Binary::Cmp => Operation::Sub,
+        Binary::And | Binary::Test => Operation::And,
         Binary::Or => Operation::Or,
         Binary::Xor => Operation::Xor,
-        Binary::Test => Operation::And,
     }
 }
 
 // What an instruction leaves: a value for its register, and the flags.
 #[derive(Clone, Copy)]
 pub struct Effect {
-    pub value: Value,
+    pub value: Option<u64>,
     pub flags: Flags,
 }
 
@@ -200,24 +165,19 @@ pub struct Effect {
 pub fn is_idiom(op: Binary) -> bool
     ensures { result ≡ is_idiom op }
 {
-    match op {
-        Binary::Add => false,
-        Binary::Sub => true,
-        Binary::Cmp => true,
-        Binary::And => false,
-        Binary::Or => false,
-        Binary::Xor => true,
-        Binary::Test => false,
-    }
+    matches!(op, Binary::Sub | Binary::Cmp | Binary::Xor)
 }
 
 // A register with itself.
+#[tactic(auto, unfolding(crate::specs::Operations::of_itself))]
 fn of_itself(w: Width) -> Effect
     ensures { result ≡ of_itself w }
 {
     let flags = alu::result_flags(w, 0, false, false);
-    let value = Value::Known(0);
-    Effect { value, flags }
+    Effect {
+        value: Some(0),
+        flags,
+    }
 }
 
 // No flag is known.
@@ -225,11 +185,11 @@ pub fn no_flags() -> Flags
     ensures { result ≡ no_flags }
 {
     Flags {
-        cf: Flag::Unknown,
-        pf: Flag::Unknown,
-        zf: Flag::Unknown,
-        sf: Flag::Unknown,
-        of: Flag::Unknown,
+        cf: None,
+        pf: None,
+        zf: None,
+        sf: None,
+        of: None,
     }
 }
 
@@ -238,11 +198,11 @@ fn bitwise_flags() -> Flags
     ensures { result ≡ bitwise_flags }
 {
     Flags {
-        cf: Flag::Known(false),
-        pf: Flag::Unknown,
-        zf: Flag::Unknown,
-        sf: Flag::Unknown,
-        of: Flag::Known(false),
+        cf: Some(false),
+        pf: None,
+        zf: None,
+        sf: None,
+        of: Some(false),
     }
 }
 
@@ -251,37 +211,32 @@ fn of_unknown(op: Binary) -> Flags
     ensures { result ≡ of_unknown op }
 {
     match op {
-        Binary::Add => no_flags(),
-        Binary::Sub => no_flags(),
-        Binary::Cmp => no_flags(),
-        Binary::And => bitwise_flags(),
-        Binary::Or => bitwise_flags(),
-        Binary::Xor => bitwise_flags(),
-        Binary::Test => bitwise_flags(),
+        Binary::Add | Binary::Sub | Binary::Cmp => no_flags(),
+        Binary::And | Binary::Or | Binary::Xor | Binary::Test => bitwise_flags(),
     }
 }
 
 // Both operands are known.
+#[tactic(auto, unfolding(crate::specs::Operations::of_known))]
 fn of_known(op: Binary, w: Width, a: u64, b: u64) -> Effect
     ensures { result ≡ of_known op w a b }
 {
     let o = alu::perform(operation(op), w, a, b);
-    let flags = o.flags;
-    let value = Value::Known(o.value);
-    Effect { value, flags }
+    Effect {
+        value: Some(o.value),
+        flags: o.flags,
+    }
 }
 
-fn on_operands(op: Binary, w: Width, a: Value, b: Value) -> Effect
+fn on_operands(op: Binary, w: Width, a: Option<u64>, b: Option<u64>) -> Effect
     ensures { result ≡ on_operands op w a b }
 {
-    let value = Value::Unknown;
-    let flags = of_unknown(op);
-    match a {
-        Value::Known(x) => match b {
-            Value::Known(y) => of_known(op, w, x, y),
-            Value::Unknown => Effect { value, flags },
+    match (a, b) {
+        (Some(x), Some(y)) => of_known(op, w, x, y),
+        (None, _) | (_, None) => Effect {
+            value: None,
+            flags: of_unknown(op),
         },
-        Value::Unknown => Effect { value, flags },
     }
 }
 
@@ -289,35 +244,34 @@ fn on_operands(op: Binary, w: Width, a: Value, b: Value) -> Effect
 fn nothing_left() -> Effect
     ensures { result ≡ nothing_left }
 {
-    let value = Value::Unknown;
-    let flags = no_flags();
-    Effect { value, flags }
-}
-
-// add, sub, cmp, and, or, xor, test.
-pub fn arith_effect(op: Binary, size: Size, same: bool, a: Value, b: Value) -> Effect
-    ensures { result ≡ arith_effect op size same a b }
-{
-    match size {
-        Size::Of(w) => {
-            if is_idiom(op) & same {
-                of_itself(w)
-            } else {
-                on_operands(op, w, a, b)
-            }
-        }
-        Size::NoWidth => nothing_left(),
+    Effect {
+        value: None,
+        flags: no_flags(),
     }
 }
 
-pub fn with_carry(f: Flags, cf: Flag) -> Flags
+// add, sub, cmp, and, or, xor, test.
+#[tactic(auto, unfolding(crate::specs::Operations::arith_effect))]
+pub fn arith_effect(
+    op: Binary,
+    size: Option<Width>,
+    same: bool,
+    a: Option<u64>,
+    b: Option<u64>,
+) -> Effect
+    ensures { result ≡ arith_effect op size same a b }
+{
+    match size {
+        Some(w) if is_idiom(op) & same => of_itself(w),
+        Some(w) => on_operands(op, w, a, b),
+        None => nothing_left(),
+    }
+}
+
+pub fn with_carry(f: Flags, cf: Option<bool>) -> Flags
     ensures { result ≡ with_carry f cf }
 {
-    let pf = f.pf;
-    let zf = f.zf;
-    let sf = f.sf;
-    let of = f.of;
-    Flags { cf, pf, zf, sf, of }
+    Flags { cf, ..f }
 }
 
 // inc, dec, neg.
@@ -332,102 +286,91 @@ fn perform_alone(op: Unary, w: Width, a: u64) -> Performed
 }
 
 // inc and dec keep CF, neg does not.
-fn keep_carry(op: Unary, cf: Flag, f: Flags) -> Flags
+fn keep_carry(op: Unary, cf: Option<bool>, f: Flags) -> Flags
     ensures { result ≡ kept_carry op cf f }
 {
     match op {
-        Unary::Inc => with_carry(f, cf),
-        Unary::Dec => with_carry(f, cf),
+        Unary::Inc | Unary::Dec => with_carry(f, cf),
         Unary::Neg => f,
     }
 }
 
 // CF after inc, dec, neg of an unknown value.
-pub fn unknown_carry(op: Unary, cf: Flag) -> Flag
+pub fn unknown_carry(op: Unary, cf: Option<bool>) -> Option<bool>
     ensures { result ≡ unknown_carry op cf }
 {
     match op {
-        Unary::Inc => cf,
-        Unary::Dec => cf,
-        Unary::Neg => Flag::Unknown,
+        Unary::Inc | Unary::Dec => cf,
+        Unary::Neg => None,
     }
 }
 
 // inc, dec, neg of a known value.
-pub fn unary_effect(op: Unary, size: Size, cf: Flag, a: u64) -> Effect
+#[tactic(auto, unfolding(crate::specs::Operations::unary_effect))]
+pub fn unary_effect(op: Unary, size: Option<Width>, cf: Option<bool>, a: u64) -> Effect
     ensures { result ≡ unary_effect op size cf a }
 {
     match size {
-        Size::Of(w) => {
+        Some(w) => {
             let o = perform_alone(op, w, a);
-            let flags = o.flags;
-            let kept = keep_carry(op, cf, flags);
-            let value = Value::Known(o.value);
-            Effect { value, flags: kept }
+            Effect {
+                value: Some(o.value),
+                flags: keep_carry(op, cf, o.flags),
+            }
         }
-        Size::NoWidth => nothing_left(),
+        None => nothing_left(),
     }
 }
 
-fn forget_flag(declared: bool, f: Flag) -> Flag
+fn forget_flag(declared: bool, f: Option<bool>) -> Option<bool>
     ensures { result ≡ forget_flag declared f }
 {
-    if declared { Flag::Unknown } else { f }
+    if declared { None } else { f }
 }
 
 // Forget the flags that are declared as written.
+#[tactic(auto, unfolding(crate::specs::Operations::forget_flags))]
 pub fn forget_flags(declared: u64, f: Flags) -> Flags
     ensures { result ≡ forget_flags declared f }
 {
-    let cf = f.cf;
-    let pf = f.pf;
-    let zf = f.zf;
-    let sf = f.sf;
-    let of = f.of;
     Flags {
-        cf: forget_flag(isa::is_declared(declared, isa::CF), cf),
-        pf: forget_flag(isa::is_declared(declared, isa::PF), pf),
-        zf: forget_flag(isa::is_declared(declared, isa::ZF), zf),
-        sf: forget_flag(isa::is_declared(declared, isa::SF), sf),
-        of: forget_flag(isa::is_declared(declared, isa::OF), of),
+        cf: forget_flag(isa::is_declared(declared, isa::CF), f.cf),
+        pf: forget_flag(isa::is_declared(declared, isa::PF), f.pf),
+        zf: forget_flag(isa::is_declared(declared, isa::ZF), f.zf),
+        sf: forget_flag(isa::is_declared(declared, isa::SF), f.sf),
+        of: forget_flag(isa::is_declared(declared, isa::OF), f.of),
     }
 }
 
 // The condition of a jump on flags.
-pub fn holds(c: Condition, f: Flags) -> Flag
+#[tactic(auto, unfolding(crate::specs::Conditions::flag_condition))]
+pub fn holds(c: Condition, f: Flags) -> Option<bool>
     ensures { result ≡ flag_condition c f }
 {
-    let cf = f.cf;
-    let pf = f.pf;
-    let zf = f.zf;
-    let sf = f.sf;
-    let of = f.of;
+    let less = alu::differ_in(f.sf, f.of);
     match c {
-        Condition::E => zf,
-        Condition::Ne => alu::not(zf),
-        Condition::L => alu::differ_in(sf, of),
-        Condition::Ge => alu::not(alu::differ_in(sf, of)),
-        Condition::Le => alu::or(zf, alu::differ_in(sf, of)),
-        Condition::G => alu::and(alu::not(zf), alu::not(alu::differ_in(sf, of))),
-        Condition::B => cf,
-        Condition::Ae => alu::not(cf),
-        Condition::Be => alu::or(cf, zf),
-        Condition::A => alu::and(alu::not(cf), alu::not(zf)),
-        Condition::S => sf,
-        Condition::Ns => alu::not(sf),
-        Condition::P => pf,
-        Condition::Np => alu::not(pf),
-        Condition::O => of,
-        Condition::No => alu::not(of),
+        Condition::E => f.zf,
+        Condition::Ne => alu::not(f.zf),
+        Condition::L => less,
+        Condition::Ge => alu::not(less),
+        Condition::Le => alu::or(f.zf, less),
+        Condition::G => alu::and(alu::not(f.zf), alu::not(less)),
+        Condition::B => f.cf,
+        Condition::Ae => alu::not(f.cf),
+        Condition::Be => alu::or(f.cf, f.zf),
+        Condition::A => alu::and(alu::not(f.cf), alu::not(f.zf)),
+        Condition::S => f.sf,
+        Condition::Ns => alu::not(f.sf),
+        Condition::P => f.pf,
+        Condition::Np => alu::not(f.pf),
+        Condition::O => f.of,
+        Condition::No => alu::not(f.of),
     }
 }
 
 // The condition of a count-register jump.
-pub fn is_zero(v: Value) -> Flag
+pub fn is_zero(v: Option<u64>) -> Option<bool>
     ensures { result ≡ is_zero v }
 {
-    match v {
-        Value::Known(x) => Flag::Known(x == 0),
-        Value::Unknown => Flag::Unknown,
-    }
+    v.map(|x| x == 0)
 }
