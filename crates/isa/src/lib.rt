@@ -10,7 +10,7 @@ ghost use Rattle.isa.specs.Modelled.{is_register, is_absent, takes, modelled, si
 ghost use Rattle.isa.specs.Promises.{is_size, is_unary, fault_of};
 
 // Class 1 are the general registers; index, size in bits and offset in bits name the part.
-#[derive(Clone, Copy)]
+#[derive(Clone, Copy, PartialEq, Eq)]
 pub struct Register {
     pub class: u8,
     pub index: u8,
@@ -18,7 +18,7 @@ pub struct Register {
     pub offset: u8,
 }
 
-#[derive(Clone, Copy)]
+#[derive(Clone, Copy, PartialEq, Eq)]
 pub enum Operand {
     Absent,
     Reg(Register),
@@ -115,6 +115,7 @@ pub struct Instruction {
 }
 
 // The mnemonic of a number.
+#[tactic(auto, unfolding(crate::specs::Mnemonics::named, crate::specs::Mnemonics::table))]
 pub fn mnemonic_of(number: u64) -> Mnemonic
     requires { number < 35 }
     ensures { result ≡ named number }
@@ -154,7 +155,8 @@ pub fn mnemonic_of(number: u64) -> Mnemonic
         31 => Mnemonic::Jump(Condition::No),
         32 => Mnemonic::CountJump(Counter::Rcx),
         33 => Mnemonic::CountJump(Counter::Ecx),
-        _ => Mnemonic::CountJump(Counter::Cx),
+        34 => Mnemonic::CountJump(Counter::Cx),
+        _ => unreachable!(),
     }
 }
 
@@ -180,10 +182,7 @@ pub fn is_declared(flags: u64, flag: u64) -> bool
 fn is_size(size: u8) -> bool
     ensures { result ≡ is_size size }
 {
-    match size {
-        8 | 16 | 32 | 64 => true,
-        _ => false,
-    }
+    matches!(size, 8 | 16 | 32 | 64)
 }
 
 pub fn well_formed(r: Register) -> bool
@@ -192,34 +191,23 @@ pub fn well_formed(r: Register) -> bool
     if r.class != 1 {
         return true;
     }
-    let index = r.index;
-    let size = r.size;
-    if r.offset == 0 {
-        return (index <= 15) & is_size(size);
+    match r.offset {
+        0 => r.index <= 15 && is_size(r.size),
+        8 => r.index <= 3 && r.size == 8,
+        _ => false,
     }
-    (index <= 15) & (r.offset == 8) & (size == 8) & (index <= 3)
 }
 
 fn is_register(o: Operand) -> bool
     ensures { result ≡ is_register o }
 {
-    match o {
-        Operand::Reg(_) => true,
-        Operand::Absent => false,
-        Operand::Imm(_) => false,
-        Operand::Mem => false,
-    }
+    matches!(o, Operand::Reg(_))
 }
 
 fn is_absent(o: Operand) -> bool
     ensures { result ≡ is_absent o }
 {
-    match o {
-        Operand::Absent => true,
-        Operand::Reg(_) => false,
-        Operand::Imm(_) => false,
-        Operand::Mem => false,
-    }
+    matches!(o, Operand::Absent)
 }
 
 // Whether the rules cover the mnemonic with such operands.
@@ -227,14 +215,12 @@ fn is_taken(m: Mnemonic, register: bool, alone: bool) -> bool
     ensures { result ≡ takes m register alone }
 {
     match m {
-        Mnemonic::Other => false,
         Mnemonic::Carry(_) => true,
         Mnemonic::Mov => register & !alone,
         Mnemonic::Not => register & alone,
         Mnemonic::TwoOperand(_) => register & !alone,
         Mnemonic::OneOperand(_) => register & alone,
-        Mnemonic::Jump(_) => false,
-        Mnemonic::CountJump(_) => false,
+        Mnemonic::Other | Mnemonic::Jump(_) | Mnemonic::CountJump(_) => false,
     }
 }
 
@@ -242,52 +228,28 @@ fn is_taken(m: Mnemonic, register: bool, alone: bool) -> bool
 pub fn is_modelled(i: Instruction) -> bool
     ensures { result ≡ modelled i }
 {
-    let m = i.mnemonic;
-    let first = i.first;
-    let second = i.second;
-    !i.call & is_taken(m, is_register(first), is_absent(second))
+    !i.call & is_taken(i.mnemonic, is_register(i.first), is_absent(i.second))
 }
 
 fn sizes_differ(a: Operand, b: Operand) -> bool
     ensures { result ≡ sizes_differ a b }
 {
-    match a {
-        Operand::Reg(x) => match b {
-            Operand::Reg(y) => (x.class == 1) & (y.class == 1) & (x.size != y.size),
-            Operand::Absent => false,
-            Operand::Imm(_) => false,
-            Operand::Mem => false,
-        },
-        Operand::Absent => false,
-        Operand::Imm(_) => false,
-        Operand::Mem => false,
+    match (a, b) {
+        (Operand::Reg(x), Operand::Reg(y)) => x.class == 1 && y.class == 1 && x.size != y.size,
+        _ => false,
     }
 }
 
 fn is_outside(o: Operand) -> bool
     ensures { result ≡ outside o }
 {
-    match o {
-        Operand::Reg(x) => x.class != 1,
-        Operand::Absent => false,
-        Operand::Imm(_) => false,
-        Operand::Mem => false,
-    }
+    matches!(o, Operand::Reg(r) if r.class != 1)
 }
 
 fn is_mov(m: Mnemonic) -> bool
     ensures { result ≡ is_mov m }
 {
-    match m {
-        Mnemonic::Other => false,
-        Mnemonic::Carry(_) => false,
-        Mnemonic::Mov => true,
-        Mnemonic::Not => false,
-        Mnemonic::TwoOperand(_) => false,
-        Mnemonic::OneOperand(_) => false,
-        Mnemonic::Jump(_) => false,
-        Mnemonic::CountJump(_) => false,
-    }
+    matches!(m, Mnemonic::Mov)
 }
 
 // Whether the flags that a result sets beside CF are declared.
@@ -306,8 +268,7 @@ fn declares_own(op: Unary, flags: u64) -> bool
 {
     let four = declares_result(flags);
     match op {
-        Unary::Inc => four,
-        Unary::Dec => four,
+        Unary::Inc | Unary::Dec => four,
         Unary::Neg => four & is_declared(flags, CF),
     }
 }
@@ -315,31 +276,13 @@ fn declares_own(op: Unary, flags: u64) -> bool
 fn is_undeclared(m: Mnemonic, flags: u64) -> bool
     ensures { result ≡ undeclared m flags }
 {
-    match m {
-        Mnemonic::Other => false,
-        Mnemonic::Carry(_) => false,
-        Mnemonic::Mov => false,
-        Mnemonic::Not => false,
-        Mnemonic::TwoOperand(_) => false,
-        Mnemonic::OneOperand(op) => !declares_own(op, flags),
-        Mnemonic::Jump(_) => false,
-        Mnemonic::CountJump(_) => false,
-    }
+    matches!(m, Mnemonic::OneOperand(op) if !declares_own(op, flags))
 }
 
 fn is_unary(m: Mnemonic) -> bool
     ensures { result ≡ is_unary m }
 {
-    match m {
-        Mnemonic::Other => false,
-        Mnemonic::Carry(_) => false,
-        Mnemonic::Mov => false,
-        Mnemonic::Not => false,
-        Mnemonic::TwoOperand(_) => false,
-        Mnemonic::OneOperand(_) => true,
-        Mnemonic::Jump(_) => false,
-        Mnemonic::CountJump(_) => false,
-    }
+    matches!(m, Mnemonic::OneOperand(_))
 }
 
 // Refusal 6, from what it depends on. An instruction without operands has no fault; nor has one whose registers are of class 1

@@ -268,7 +268,7 @@ pub fn arith_effect(
     }
 }
 
-pub fn with_carry(f: Flags, cf: Option<bool>) -> Flags
+fn with_carry(f: Flags, cf: Option<bool>) -> Flags
     ensures { result ≡ with_carry f cf }
 {
     Flags { cf, ..f }

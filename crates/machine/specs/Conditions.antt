@@ -1,12 +1,10 @@
 -- What is known of a conditional branch, by its mnemonic.
-use Rattle.std.specs.Prelude.{ℕ}
+use Rattle.std.specs.Prelude.{ℕ, Bool, Option, None}
 use Rattle.isa.specs.declared.Register.{Register}
 use Rattle.isa.specs.declared.Counter.{Counter}
 use Rattle.isa.specs.declared.Counter.TheVariants.{Rcx, Ecx, Cx}
 use Rattle.isa.specs.declared.Mnemonic.{Mnemonic}
 use Rattle.isa.specs.declared.Mnemonic.TheVariants.{Other, Carry, Mov, Not, TwoOperand, OneOperand, Jump, CountJump}
-use Rattle.alu.specs.declared.Flag.{Flag}
-use Rattle.alu.specs.declared.Flag.TheVariants.{Unknown}
 use Rattle.known.specs.Conditions.{flag_condition, is_zero}
 use Rattle.machine.specs.declared.State.{State}
 use Rattle.machine.specs.Registers.{read_of}
@@ -23,12 +21,12 @@ count_register c = record { class = 1; index = 1; size = count_size c; offset = 
 
 -- What is known of whether the branch jumps: by its flags, or by register 1. Of a conditional branch that has no jump's
 -- mnemonic, as loop, nothing is known (M18, M19, M20).
-unfoldable pub condition_of : State → Mnemonic → Flag
-condition_of s Other = Unknown
-condition_of s (Carry c) = Unknown
-condition_of s Mov = Unknown
-condition_of s Not = Unknown
-condition_of s (TwoOperand op) = Unknown
-condition_of s (OneOperand op) = Unknown
+unfoldable pub condition_of : State → Mnemonic → Option Bool
+condition_of s Other = None
+condition_of s (Carry c) = None
+condition_of s Mov = None
+condition_of s Not = None
+condition_of s (TwoOperand op) = None
+condition_of s (OneOperand op) = None
 condition_of s (Jump c) = flag_condition c s.flags
 condition_of s (CountJump c) = is_zero (read_of s (count_register c))

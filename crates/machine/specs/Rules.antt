@@ -12,7 +12,7 @@
 --   jumps                                    Conditions condition_of; known/specs/Conditions.antt flag_condition, is_zero (M18, M19, M20)
 --   forced; blocks; runs                     theorems/specs/Runs.antt; verdict_block/specs; concrete/specs
 --                                            (M21, M22, M23, M24, M25, M26, M27, M28, M29, M30)
-use Rattle.std.specs.Prelude.{Bool, true, false, cond, ◌&&◌, List, [], ◌∷◌, eqb}
+use Rattle.std.specs.Prelude.{Bool, true, false, cond, ◌&&◌, List, [], ◌∷◌, eqb, ℕ, Option, Some, None}
 use Rattle.isa.specs.declared.Register.{Register}
 use Rattle.isa.specs.declared.Operand.{Operand}
 use Rattle.isa.specs.declared.Operand.TheVariants.{Absent, Reg, Imm, Mem}
@@ -25,8 +25,6 @@ use Rattle.isa.specs.declared.Mnemonic.TheVariants.{Other, Carry, Mov, Not, TwoO
 use Rattle.isa.specs.declared.Instruction.{Instruction}
 use Rattle.isa.specs.Modelled.{modelled}
 use Rattle.alu.specs.Width.{width_of}
-use Rattle.known.specs.declared.Value.{Value}
-use Rattle.known.specs.declared.Value.TheVariants.{Known, Unknown}
 use Rattle.known.specs.Operations.{carry_rule, complement, arith_effect, with_carry, unknown_carry, unary_effect}
 use Rattle.machine.specs.declared.State.{State}
 use Rattle.machine.specs.States.{with_flags}
@@ -68,9 +66,9 @@ unary_unknown s i op =
     with_flags after (with_carry after.flags (unknown_carry op s.flags.cf))
 
 -- inc, dec, neg by what is known of the register
-abbrev pub unary_on : State → Instruction → Unary → Register → Value → State
-unary_on s i op d (Known a) = finished s true d (unary_effect op (width_of d.size) s.flags.cf a)
-unary_on s i op d Unknown = unary_unknown s i op
+abbrev pub unary_on : State → Instruction → Unary → Register → Option ℕ → State
+unary_on s i op d (Some a) = finished s true d (unary_effect op (width_of d.size) s.flags.cf a)
+unary_on s i op d None = unary_unknown s i op
 
 -- inc, dec, neg of a register (M15, M16)
 unfoldable pub unary_step : State → Instruction → Unary → Register → State

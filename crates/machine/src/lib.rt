@@ -1,24 +1,22 @@
-// What is known of registers and flags; stepping over an instruction; what is known of a jump. The registers are borrowed as the
-// words of a state, the flags go in and come back: a state is not copied from call to call.
+// What is known of registers and flags; stepping over an instruction; what is known of a jump. A state is changed in place, since
+// it is large.
 #![tactic(auto)]
 
-ghost use Rattle.std.specs.Prelude.{◌≡◌, cond, List, ℕ, min, ◌≤◌};
-ghost use Rattle.machine.specs.Registers.{nothing_known, slot_at, read_of, written, operand_of, forget_register, forget_registers, forgotten};
-ghost use Rattle.machine.specs.States.{state_of, replaced};
+ghost use Rattle.std.specs.Prelude.{◌≡◌};
+ghost use Rattle.machine.specs.Registers.{nothing_known, slot_at, read_of, written, operand_of, forget_register, forgotten};
+ghost use Rattle.machine.specs.States.{replaced};
 ghost use Rattle.machine.specs.Finish.{finished};
-ghost use Rattle.machine.specs.Rules.{writes, same_register, carry_step, arith_step, unary_unknown, unary_on, unary_step, register_step, on_first, modelled_step, stepped};
+ghost use Rattle.machine.specs.Rules.{writes, same_register, carry_step, arith_step, unary_unknown, unary_step, register_step, on_first, modelled_step, stepped};
 ghost use Rattle.machine.specs.Conditions.{count_size, condition_of};
 
-use alu::{Flag, Flags};
+use alu::Flags;
 use isa::{Binary, CarryChange, Counter, Instruction, Mnemonic, Operand, Register, Unary};
-use known::{Effect, Slot, Value};
+use known::{Effect, Slot};
 
-// The values of the registers, then the marks of each.
-pub type Registers = [u64; 2 * State::REGISTERS];
-
+// The values of the registers, then the marks of each; the flags.
 #[derive(Clone, Copy)]
 pub struct State {
-    pub registers: Registers,
+    pub registers: [u64; 2 * State::REGISTERS],
     pub flags: Flags,
 }
 
@@ -26,304 +24,247 @@ impl State {
     pub const REGISTERS: usize = 16;
 
     // The state of which nothing is known.
+    #[tactic(auto, unfolding(crate::specs::Registers::nothing_known))]
     pub fn unknown() -> Self
         ensures { result ≡ nothing_known }
     {
-        let flags = known::no_flags();
         State {
             registers: [0; 2 * Self::REGISTERS],
-            flags,
+            flags: known::no_flags(),
         }
     }
-}
 
-// What is known of the register of that index.
-fn slot_at(registers: &Registers, index: u8) -> Slot
-    ensures { (f : Flags) → result ≡ slot_at (state_of registers.now f) index }
-{
-    let k = index as usize;
-    if k < State::REGISTERS {
-        let known = registers[State::REGISTERS + k];
-        let value = registers[k];
-        Slot { known, value }
-    } else {
-        known::unknown()
-    }
-}
-
-// Something else is known of a register.
-fn replace(registers: &mut Registers, index: u8, slot: Slot)
-    ensures { (f : Flags) → state_of registers.new f ≡ replaced (state_of registers.old f) index slot }
-{
-    let k = index as usize;
-    if k < State::REGISTERS {
-        registers[k] = slot.value;
-        registers[State::REGISTERS + k] = slot.known;
-    }
-}
-
-// A register of another class than 1 is unknown.
-pub fn read(registers: &Registers, r: Register) -> Value
-    ensures { (f : Flags) → result ≡ read_of (state_of registers.now f) r }
-{
-    if r.class == 1 {
-        let w = alu::width_of(r.size);
-        let slot = slot_at(registers, r.index);
-        known::read(w, r.offset, slot)
-    } else {
-        Value::Unknown
-    }
-}
-
-// To a register of another class than 1 nothing is written.
-fn write(registers: &mut Registers, r: Register, v: Value)
-    ensures { (f : Flags) → state_of registers.new f ≡ written (state_of registers.old f) r v }
-{
-    if r.class == 1 {
-        let w = alu::width_of(r.size);
-        let old = slot_at(registers, r.index);
-        let new = known::write(w, r.offset, old, v);
-        replace(registers, r.index, new);
-    }
-}
-
-// The value of an operand beside a register of that size.
-pub fn operand(registers: &Registers, size: u8, o: Operand) -> Value
-    ensures { (f : Flags) → result ≡ operand_of (state_of registers.now f) size o }
-{
-    match o {
-        Operand::Absent => Value::Unknown,
-        Operand::Reg(r) => read(registers, r),
-        Operand::Imm(x) => {
-            let w = alu::width_of(size);
-            known::immediate_of(w, x)
+    // What is known of the register of that index.
+    #[tactic(auto, unfolding(crate::specs::Registers::slot_at))]
+    fn slot_at(&self, index: u8) -> Slot
+        ensures { result ≡ slot_at self.now index }
+    {
+        let k = index as usize;
+        if k < Self::REGISTERS {
+            Slot {
+                known: self.registers[Self::REGISTERS + k],
+                value: self.registers[k],
+            }
+        } else {
+            known::unknown()
         }
-        Operand::Mem => Value::Unknown,
     }
-}
 
-fn at_most_eight(count: u64) -> u64
-    ensures { result ≡ min count 8 }
-{
-    if count < 8 { count } else { 8 }
-}
-
-// Forget a register that is declared as written, whole.
-fn forget_register(registers: &mut Registers, r: Register)
-    ensures { (f : Flags) → state_of registers.new f ≡ forget_register (state_of registers.old f) r }
-{
-    if r.class == 1 {
-        replace(registers, r.index, known::unknown());
+    // Something else is known of a register.
+    #[tactic(auto, unfolding(crate::specs::States::replaced))]
+    fn replace(&mut self, index: u8, slot: Slot)
+        ensures { self.new ≡ replaced self.old index slot }
+    {
+        let k = index as usize;
+        if k < Self::REGISTERS {
+            self.registers[k] = slot.value;
+            self.registers[Self::REGISTERS + k] = slot.known;
+        }
     }
-}
 
-// Forget the first n of some registers.
-fn forget_registers(registers: &mut Registers, declared: [Register; 8], n: u64)
-    requires { n ≤ 8 }
-    ensures { (f : Flags) → state_of registers.new f ≡ forget_registers (state_of registers.old f) declared n }
-{
-    let mut i: u64 = 0;
-    while i < n {
-        let r = declared[i as usize];
-        forget_register(registers, r);
-        i += 1;
+    // A register of another class than 1 is unknown.
+    #[tactic(auto, unfolding(crate::specs::Registers::read_of))]
+    pub fn read(&self, r: Register) -> Option<u64>
+        ensures { result ≡ read_of self.now r }
+    {
+        if r.class == 1 {
+            known::read(alu::width_of(r.size), r.offset, self.slot_at(r.index))
+        } else {
+            None
+        }
     }
-}
 
-// Forget what the instruction declares as written.
-fn forget(registers: &mut Registers, flags: Flags, i: Instruction) -> Flags
-    ensures { state_of registers.new result ≡ forgotten (state_of registers.old flags) i }
-{
-    let declared = i.written;
-    let n = at_most_eight(i.count);
-    forget_registers(registers, declared, n);
-    known::forget_flags(i.flags, flags)
-}
+    // To a register of another class than 1 nothing is written.
+    #[tactic(auto, unfolding(crate::specs::Registers::written))]
+    fn write(&mut self, r: Register, v: Option<u64>)
+        ensures { self.new ≡ written self.old r v }
+    {
+        if r.class == 1 {
+            let old = self.slot_at(r.index);
+            self.replace(
+                r.index,
+                known::write(alu::width_of(r.size), r.offset, old, v),
+            );
+        }
+    }
 
-// Forget all.
-fn forget_all(registers: &mut Registers) -> Flags
-    ensures { state_of registers.new result ≡ nothing_known }
-{
-    let start = State::unknown();
-    let words = start.registers;
-    *registers = words;
-    start.flags
+    // The value of an operand beside a register of that size.
+    #[tactic(auto, unfolding(crate::specs::Registers::operand_of))]
+    pub fn operand(&self, size: u8, o: Operand) -> Option<u64>
+        ensures { result ≡ operand_of self.now size o }
+    {
+        match o {
+            Operand::Reg(r) => self.read(r),
+            Operand::Imm(x) => known::immediate_of(alu::width_of(size), x),
+            Operand::Absent | Operand::Mem => None,
+        }
+    }
+
+    // Forget a register that is declared as written, whole.
+    #[tactic(auto, unfolding(crate::specs::Registers::forget_register))]
+    fn forget_register(&mut self, r: Register)
+        ensures { self.new ≡ forget_register self.old r }
+    {
+        if r.class == 1 {
+            self.replace(r.index, known::unknown());
+        }
+    }
+
+    // Forget what the instruction declares as written.
+    #[tactic(auto, unfolding(crate::specs::Registers::forgotten, crate::specs::Registers::forget_registers))]
+    fn forget(&mut self, i: Instruction)
+        ensures { self.new ≡ forgotten self.old i }
+    {
+        let n = i.count.min(8) as usize;
+        for r in &i.written[..n] {
+            self.forget_register(*r);
+        }
+        self.flags = known::forget_flags(i.flags, self.flags);
+    }
+
+    // stc, clc, cmc.
+    #[tactic(auto, unfolding(crate::specs::Rules::carry_step))]
+    fn carry(&mut self, c: CarryChange)
+        ensures { self.new ≡ carry_step self.old c }
+    {
+        self.flags.cf = known::carry_rule(c, self.flags.cf);
+    }
+
+    // Write the value, if the instruction writes, and set the flags.
+    #[tactic(auto, unfolding(crate::specs::Finish::finished))]
+    fn finish(&mut self, there: bool, d: Register, e: Effect)
+        ensures { self.new ≡ finished self.old there d e }
+    {
+        if there {
+            self.write(d, e.value);
+        }
+        self.flags = e.flags;
+    }
+
+    // add, sub, cmp, and, or, xor, test.
+    #[tactic(auto, unfolding(crate::specs::Rules::arith_step))]
+    fn arith(&mut self, op: Binary, d: Register, o: Operand)
+        ensures { self.new ≡ arith_step self.old op d o }
+    {
+        let a = self.read(d);
+        let b = self.operand(d.size, o);
+        let e = known::arith_effect(op, alu::width_of(d.size), is_same(d, o), a, b);
+        self.finish(is_writing(op), d, e);
+    }
+
+    // inc, dec, neg of an unknown register.
+    #[tactic(auto, unfolding(crate::specs::Rules::unary_unknown))]
+    fn unary_unknown(&mut self, i: Instruction, op: Unary)
+        ensures { self.new ≡ unary_unknown self.old i op }
+    {
+        let cf = self.flags.cf;
+        self.forget(i);
+        self.flags.cf = known::unknown_carry(op, cf);
+    }
+
+    // inc, dec, neg.
+    #[tactic(auto, unfolding(crate::specs::Rules::unary_step))]
+    fn unary(&mut self, i: Instruction, op: Unary, d: Register)
+        ensures { self.new ≡ unary_step self.old i op d }
+    {
+        match self.read(d) {
+            Some(a) => {
+                let w = alu::width_of(d.size);
+                self.finish(true, d, known::unary_effect(op, w, self.flags.cf, a));
+            }
+            None => self.unary_unknown(i, op),
+        }
+    }
+
+    // A modelled instruction with a register first; any other forgets what it declares.
+    #[tactic(auto, unfolding(crate::specs::Rules::register_step))]
+    fn on_register(&mut self, i: Instruction, d: Register)
+        ensures { self.new ≡ register_step self.old i i.mnemonic d }
+    {
+        match i.mnemonic {
+            Mnemonic::Mov => self.write(d, self.operand(d.size, i.second)),
+            Mnemonic::Not => self.write(d, known::complement_of(self.read(d))),
+            Mnemonic::TwoOperand(op) => self.arith(op, d, i.second),
+            Mnemonic::OneOperand(op) => self.unary(i, op, d),
+            Mnemonic::Other | Mnemonic::Carry(_) | Mnemonic::Jump(_) | Mnemonic::CountJump(_) =>
+                self.forget(i),
+        }
+    }
+
+    fn on_first(&mut self, i: Instruction)
+        ensures { self.new ≡ on_first self.old i i.mnemonic i.first }
+    {
+        match i.first {
+            Operand::Reg(d) => self.on_register(i, d),
+            Operand::Absent | Operand::Imm(_) | Operand::Mem => self.forget(i),
+        }
+    }
+
+    // stc, clc, cmc whatever their operands, all others by their first one.
+    #[tactic(auto, unfolding(crate::specs::Rules::modelled_step))]
+    fn step_modelled(&mut self, i: Instruction)
+        ensures { self.new ≡ modelled_step self.old i i.mnemonic }
+    {
+        match i.mnemonic {
+            Mnemonic::Carry(c) => self.carry(c),
+            Mnemonic::Other | Mnemonic::Jump(_) | Mnemonic::CountJump(_) => self.forget(i),
+            Mnemonic::Mov | Mnemonic::Not | Mnemonic::TwoOperand(_) | Mnemonic::OneOperand(_) =>
+                self.on_first(i),
+        }
+    }
+
+    // What is known after an instruction.
+    #[tactic(auto, unfolding(crate::specs::Rules::stepped))]
+    pub fn step(&mut self, i: Instruction)
+        ensures { self.new ≡ stepped self.old i }
+    {
+        if i.call {
+            *self = State::unknown();
+        } else if isa::is_modelled(i) {
+            self.step_modelled(i);
+        } else {
+            self.forget(i);
+        }
+    }
+
+    // What is known of a conditional branch of that mnemonic: whether it jumps.
+    #[tactic(auto, unfolding(crate::specs::Conditions::condition_of))]
+    pub fn condition(&self, m: Mnemonic) -> Option<bool>
+        ensures { result ≡ condition_of self.now m }
+    {
+        match m {
+            Mnemonic::Jump(c) => known::holds(c, self.flags),
+            Mnemonic::CountJump(c) => {
+                let r = Register {
+                    class: 1,
+                    index: 1,
+                    size: count_size(c),
+                    offset: 0,
+                };
+                known::is_zero(self.read(r))
+            }
+            Mnemonic::Other
+            | Mnemonic::Carry(_)
+            | Mnemonic::Mov
+            | Mnemonic::Not
+            | Mnemonic::TwoOperand(_)
+            | Mnemonic::OneOperand(_) => None,
+        }
+    }
 }
 
 // Whether the operand is that very register.
 pub fn is_same(d: Register, o: Operand) -> bool
     ensures { result ≡ same_register d o }
 {
-    match o {
-        Operand::Absent => false,
-        Operand::Reg(r) => (r.class == d.class)
-            & (r.index == d.index)
-            & (r.size == d.size)
-            & (r.offset == d.offset),
-        Operand::Imm(_) => false,
-        Operand::Mem => false,
-    }
-}
-
-// stc, clc, cmc.
-fn carry(flags: Flags, c: CarryChange) -> Flags
-    ensures { (w : List ℕ) → state_of w result ≡ carry_step (state_of w flags) c }
-{
-    let cf = flags.cf;
-    let new = known::carry_rule(c, cf);
-    known::with_carry(flags, new)
-}
-
-fn write_if(registers: &mut Registers, there: bool, d: Register, v: Value)
-    ensures { (f : Flags) → state_of registers.new f ≡ cond there (written (state_of registers.old f) d v) (state_of registers.old f) }
-{
-    if there {
-        write(registers, d, v);
-    }
-}
-
-// Write the value, if the instruction writes; its flags come back.
-fn finish(registers: &mut Registers, there: bool, d: Register, e: Effect) -> Flags
-    ensures { (f : Flags) → state_of registers.new result ≡ finished (state_of registers.old f) there d e }
-{
-    let value = e.value;
-    write_if(registers, there, d, value);
-    e.flags
+    o == Operand::Reg(d)
 }
 
 // cmp and test write no result.
 fn is_writing(op: Binary) -> bool
     ensures { result ≡ writes op }
 {
-    match op {
-        Binary::Add => true,
-        Binary::Sub => true,
-        Binary::Cmp => false,
-        Binary::And => true,
-        Binary::Or => true,
-        Binary::Xor => true,
-        Binary::Test => false,
-    }
-}
-
-// add, sub, cmp, and, or, xor, test.
-fn arith(registers: &mut Registers, op: Binary, d: Register, o: Operand) -> Flags
-    ensures { (f : Flags) → state_of registers.new result ≡ arith_step (state_of registers.old f) op d o }
-{
-    let size = d.size;
-    let w = alu::width_of(size);
-    let same = is_same(d, o);
-    let a = read(registers, d);
-    let b = operand(registers, size, o);
-    let e = known::arith_effect(op, w, same, a, b);
-    finish(registers, is_writing(op), d, e)
-}
-
-// inc, dec, neg of an unknown register.
-fn unary_unknown(registers: &mut Registers, flags: Flags, i: Instruction, op: Unary) -> Flags
-    ensures { state_of registers.new result ≡ unary_unknown (state_of registers.old flags) i op }
-{
-    let cf = flags.cf;
-    let after = forget(registers, flags, i);
-    let carry = known::unknown_carry(op, cf);
-    known::with_carry(after, carry)
-}
-
-fn unary_on(
-    registers: &mut Registers,
-    flags: Flags,
-    i: Instruction,
-    op: Unary,
-    d: Register,
-    v: Value,
-) -> Flags
-    ensures { state_of registers.new result ≡ unary_on (state_of registers.old flags) i op d v }
-{
-    match v {
-        Value::Known(a) => {
-            let w = alu::width_of(d.size);
-            let cf = flags.cf;
-            let e = known::unary_effect(op, w, cf, a);
-            finish(registers, true, d, e)
-        }
-        Value::Unknown => unary_unknown(registers, flags, i, op),
-    }
-}
-
-// inc, dec, neg.
-fn unary(registers: &mut Registers, flags: Flags, i: Instruction, op: Unary, d: Register) -> Flags
-    ensures { state_of registers.new result ≡ unary_step (state_of registers.old flags) i op d }
-{
-    let v = read(registers, d);
-    unary_on(registers, flags, i, op, d, v)
-}
-
-// A modelled instruction with a register first; any other forgets what it declares.
-fn on_register(
-    registers: &mut Registers,
-    flags: Flags,
-    i: Instruction,
-    m: Mnemonic,
-    d: Register,
-) -> Flags
-    ensures { state_of registers.new result ≡ register_step (state_of registers.old flags) i m d }
-{
-    let second = i.second;
-    match m {
-        Mnemonic::Mov => {
-            let v = operand(registers, d.size, second);
-            write(registers, d, v);
-            flags
-        }
-        Mnemonic::Not => {
-            let v = known::complement_of(read(registers, d));
-            write(registers, d, v);
-            flags
-        }
-        Mnemonic::TwoOperand(op) => arith(registers, op, d, second),
-        Mnemonic::OneOperand(op) => unary(registers, flags, i, op, d),
-        _ => forget(registers, flags, i),
-    }
-}
-
-fn on_first(
-    registers: &mut Registers,
-    flags: Flags,
-    i: Instruction,
-    m: Mnemonic,
-    first: Operand,
-) -> Flags
-    ensures { state_of registers.new result ≡ on_first (state_of registers.old flags) i m first }
-{
-    match first {
-        Operand::Reg(d) => on_register(registers, flags, i, m, d),
-        _ => forget(registers, flags, i),
-    }
-}
-
-// stc, clc, cmc whatever their operands, all others by their first one.
-fn step_modelled(registers: &mut Registers, flags: Flags, i: Instruction) -> Flags
-    ensures { state_of registers.new result ≡ modelled_step (state_of registers.old flags) i i.mnemonic }
-{
-    let m = i.mnemonic;
-    let first = i.first;
-    match m {
-        Mnemonic::Carry(c) => carry(flags, c),
-        _ => on_first(registers, flags, i, m, first),
-    }
-}
-
-// What is known after an instruction: the registers are left so, the flags come back.
-pub fn step(registers: &mut Registers, flags: Flags, i: Instruction) -> Flags
-    ensures { state_of registers.new result ≡ stepped (state_of registers.old flags) i }
-{
-    if i.call {
-        return forget_all(registers);
-    }
-    if isa::is_modelled(i) {
-        return step_modelled(registers, flags, i);
-    }
-    forget(registers, flags, i)
+    !matches!(op, Binary::Cmp | Binary::Test)
 }
 
 // The bits of register 1 that a count-register jump reads.
@@ -334,29 +275,5 @@ pub fn count_size(c: Counter) -> u8
         Counter::Rcx => 64,
         Counter::Ecx => 32,
         Counter::Cx => 16,
-    }
-}
-
-// What is known of a conditional branch of that mnemonic: whether it jumps.
-pub fn condition(registers: &Registers, flags: Flags, m: Mnemonic) -> Flag
-    ensures { result ≡ condition_of (state_of registers.now flags) m }
-{
-    match m {
-        Mnemonic::Other => Flag::Unknown,
-        Mnemonic::Carry(_) => Flag::Unknown,
-        Mnemonic::Mov => Flag::Unknown,
-        Mnemonic::Not => Flag::Unknown,
-        Mnemonic::TwoOperand(_) => Flag::Unknown,
-        Mnemonic::OneOperand(_) => Flag::Unknown,
-        Mnemonic::Jump(c) => known::holds(c, flags),
-        Mnemonic::CountJump(c) => {
-            let r = Register {
-                class: 1,
-                index: 1,
-                size: count_size(c),
-                offset: 0,
-            };
-            known::is_zero(read(registers, r))
-        }
     }
 }
