@@ -1,4 +1,5 @@
 -- What the arithmetic instructions leave, value and flags, is what the manual's results are.
+use Rattle.std.proofs.Common.{None, Option, Some}
 use Prim.{tt}
 use Prim.Native.Nat.{ℕ, ◌+◌, ◌-◌, ◌^◌, ◌<◌}
 use mathlib.Core.Path.{◌≡◌, refl, sym}
@@ -10,8 +11,6 @@ use lib.Pow.{pow_pos}
 use lib.Count.{ones}
 use lib.Bits.{bit_and, bit_or, bit_xor, and_lt, or_lt, xor_lt, xor_self}
 use Rattle.alu.specs.declared.Width.{Width}
-use Rattle.alu.specs.declared.Size.TheVariants.{Of}
-use Rattle.alu.specs.declared.Flag.{Flag}
 use Rattle.alu.specs.declared.Flags.{Flags}
 use Rattle.alu.specs.declared.Operation.{Operation}
 use Rattle.alu.specs.declared.Operation.TheVariants as operation
@@ -21,11 +20,9 @@ use Rattle.isa.specs.declared.Unary.{Unary}
 use Rattle.isa.specs.declared.Unary.TheVariants.{Inc, Dec, Neg}
 use Rattle.alu.specs.Width.{bits}
 use Rattle.known.specs.declared.Effect.{Effect}
-use Rattle.known.specs.declared.Value.{Value}
-use Rattle.known.specs.declared.Value.TheVariants.{Known, Unknown}
 use Rattle.known.specs.Operations.{operation_of, is_idiom, of_itself, no_flags, bitwise_flags, of_unknown, of_known, on_operands, arith_effect, alone, kept_carry}
 use Rattle.concrete.specs.Concrete.{Status, Result, lifted, sum, difference, bitwise, ones_below, status_of, computed, computed_alone, with_own_carry}
-use Rattle.concrete.specs.Agreement.{Allows, AllowsValue, FlagsAgree}
+use Rattle.concrete.specs.Agreement.{Allows, FlagsAgree}
 use Rattle.concrete.proofs.Outcome.{halves, half_pos, Matches, matches, add-matches, sub-matches, neg-matches}
 use Rattle.concrete.proofs.Registers.{never}
 use Rattle.alu.specs.Arithmetic as rules
@@ -109,7 +106,7 @@ right Test = right-logical Test operation.And bit_and refl (λ n a b. refl) (λ 
 
 -- an effect of the rules and a result of the manual
 pub record EffectAgrees (e : Effect) (n : ℕ) (r : Result) : Type 0 where
-  pub value : AllowsValue e.value r.value
+  pub value : Allows e.value r.value
   pub flags : FlagsAgree e.flags (status_of n r)
 
 itself-agrees : (w : Width) (r : Result) → r.value ≡ 0 → r.carry ≡ false → r.overflow ≡ false → EffectAgrees (of_itself w) (bits w) r
@@ -121,22 +118,22 @@ itself-agrees w r zero_is no-carry no_overflow =
     }
 
 unknown-agrees : (op : Binary) (w : Width) (x y : ℕ)
-    → EffectAgrees (record { value = Unknown; flags = of_unknown op }) (bits w) (computed op (bits w) x y)
+    → EffectAgrees (record { value = None; flags = of_unknown op }) (bits w) (computed op (bits w) x y)
 unknown-agrees op w x y = record { value = tt; flags = (right op).unknown (bits w) x y }
 
-on-operands-agrees : (op : Binary) (w : Width) (a b : Value) (x y : ℕ) → x < 2 ^ bits w → y < 2 ^ bits w
-    → AllowsValue a x → AllowsValue b y → EffectAgrees (on_operands op w a b) (bits w) (computed op (bits w) x y)
+on-operands-agrees : (op : Binary) (w : Width) (a b : Option ℕ) (x y : ℕ) → x < 2 ^ bits w → y < 2 ^ bits w
+    → Allows a x → Allows b y → EffectAgrees (on_operands op w a b) (bits w) (computed op (bits w) x y)
 unfolding of_known
-on-operands-agrees op w (Known a) (Known b) x y hx hy ha hb =
+on-operands-agrees op w (Some a) (Some b) x y hx hy ha hb =
     let same = (right op).known w x y hx hy in
     rw (ha, hb) (record { value = same.value; flags = same.flags })
-on-operands-agrees op w (Known a) Unknown x y hx hy ha hb = unknown-agrees op w x y
-on-operands-agrees op w Unknown b x y hx hy ha hb = unknown-agrees op w x y
+on-operands-agrees op w (Some a) None x y hx hy ha hb = unknown-agrees op w x y
+on-operands-agrees op w None b x y hx hy ha hb = unknown-agrees op w x y
 
 -- add to test
-pub arith-agrees : (op : Binary) (w : Width) (same : Bool) (a b : Value) (x y : ℕ) → x < 2 ^ bits w → y < 2 ^ bits w
-    → AllowsValue a x → AllowsValue b y → (same ≡ true → y ≡ x)
-    → EffectAgrees (arith_effect op (Of w) same a b) (bits w) (computed op (bits w) x y)
+pub arith-agrees : (op : Binary) (w : Width) (same : Bool) (a b : Option ℕ) (x y : ℕ) → x < 2 ^ bits w → y < 2 ^ bits w
+    → Allows a x → Allows b y → (same ≡ true → y ≡ x)
+    → EffectAgrees (arith_effect op (Some w) same a b) (bits w) (computed op (bits w) x y)
 unfolding arith_effect
 arith-agrees op w same a b x y hx hy ha hb one =
     by_test (is_idiom op && same)
@@ -162,7 +159,7 @@ alone-below Inc n a = mod-lt _ (pow_pos n)
 alone-below Dec n a = mod-lt _ (pow_pos n)
 alone-below Neg n a = mod-lt _ (pow_pos n)
 
-pub kept-agrees : (op : Unary) (cf : Flag) (c : Bool) (f : Flags) (g : Status) → Allows cf c → FlagsAgree f g
+pub kept-agrees : (op : Unary) (cf : Option Bool) (c : Bool) (f : Flags) (g : Status) → Allows cf c → FlagsAgree f g
     → FlagsAgree (kept_carry op cf f) (with_own_carry op g c)
 kept-agrees Inc cf c f g h agrees = record { cf = h; pf = agrees.pf; zf = agrees.zf; sf = agrees.sf; of = agrees.of }
 kept-agrees Dec cf c f g h agrees = record { cf = h; pf = agrees.pf; zf = agrees.zf; sf = agrees.sf; of = agrees.of }

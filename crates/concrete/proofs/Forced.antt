@@ -1,5 +1,6 @@
 -- The theorems about verdicts. `forced`: a branch is always (never) exactly when it is taken (not taken) in every state that
 -- agrees with what is known. `whole-runs`: no run of a block goes against its verdict.
+use Rattle.std.proofs.Common.{None, Option, Some}
 use Prim.{tt}
 use Prim.Native.Nat.{ℕ}
 use mathlib.Core.Path.{◌≡◌, refl, sym, ap, ◌∙◌}
@@ -9,8 +10,6 @@ use mathlib.Core.List.{List}
 use Rattle.isa.specs.declared.Mnemonic.{Mnemonic}
 use Rattle.isa.specs.declared.Mnemonic.TheVariants.{Other, Carry, Mov, Not, TwoOperand, OneOperand, Jump, CountJump}
 use Rattle.isa.specs.declared.Instruction.{Instruction}
-use Rattle.alu.specs.declared.Flag.{Flag}
-use Rattle.alu.specs.declared.Flag.TheVariants.{Known, Unknown}
 use Rattle.known.specs.Conditions.{flag_condition, is_zero}
 use Rattle.machine.specs.declared.State.{State}
 use Rattle.machine.specs.Registers.{nothing_known, read_of}
@@ -23,12 +22,12 @@ use Rattle.concrete.proofs.Sound.{nothing_known_lem, steps-sound}
 use Rattle.concrete.proofs.Jumps.{Exact, exact-jump, exact-count}
 
 -- a flag that allows one setting alone is known
-only : (t : Flag) (b : Bool) → ((c : Bool) → Allows t c → c ≡ b) → t ≡ Known b
-only (Known a) b h = ap Known (h a refl)
-only Unknown true h = never (h false tt)
-only Unknown false h = never (sym (h true tt))
+only : (t : Option Bool) (b : Bool) → ((c : Bool) → Allows t c → c ≡ b) → t ≡ Some b
+only (Some a) b h = ap Some (h a refl)
+only None true h = never (h false tt)
+only None false h = never (sym (h true tt))
 
-not_known : {X : Type 0} (b : Bool) → Unknown ≡ Known b → X
+not_known : {X : Type 0} (b : Bool) → None ≡ Some b → X
 not_known b h = let e : false ≡ true = cc in never e
 
 not_itself : {X : Type 0} (b : Bool) → not b ≡ b → X
@@ -37,12 +36,12 @@ not_itself false h = never (sym h)
 
 -- a branch of any other mnemonic goes as it is chosen
 free-branch : (s : State) (p : Processor) → Agrees s p → (b : Bool)
-    → (Unknown ≡ Known b) ↔ ((q : Processor) (free : Bool) → Agrees s q → free ≡ b)
+    → (None ≡ Some b) ↔ ((q : Processor) (free : Bool) → Agrees s q → free ≡ b)
 free-branch s p agrees b = ((λ h. not_known b h), (λ h. not_itself b (h p (not b) agrees)))
 
-exact-branch : (s : State) (p : Processor) → Agrees s p → (t : Flag) (test : Processor → Bool) (b : Bool)
+exact-branch : (s : State) (p : Processor) → Agrees s p → (t : Option Bool) (test : Processor → Bool) (b : Bool)
     → ((q : Processor) → Agrees s q → Exact s q t test)
-    → (t ≡ Known b) ↔ ((q : Processor) (free : Bool) → Agrees s q → test q ≡ b)
+    → (t ≡ Some b) ↔ ((q : Processor) (free : Bool) → Agrees s q → test q ≡ b)
 exact-branch s p agrees t test b exact = (
   (λ h q free fits. sym (rw h at (exact q fits).sound)),
   (λ h. only t b (λ c k. let r = (exact p agrees).reached c k in sym r.is ∙ h r.state true r.agrees)),
@@ -51,7 +50,7 @@ exact-branch s p agrees t test b exact = (
 -- FORCED. With p a state that agrees with what is known, it is known of a conditional branch of mnemonic m that it jumps
 -- (b set) or that it does not (b clear) exactly when its outcome is b in every state that agrees, and with every free choice.
 pub forced : (s : State) (p : Processor) → Agrees s p → (m : Mnemonic) (b : Bool)
-    → (condition_of s m ≡ Known b) ↔ ((q : Processor) (free : Bool) → Agrees s q → outcome m q free ≡ b)
+    → (condition_of s m ≡ Some b) ↔ ((q : Processor) (free : Bool) → Agrees s q → outcome m q free ≡ b)
 unfolding condition_of outcome
 forced s p agrees Other b = free-branch s p agrees b
 forced s p agrees (Carry c) b = free-branch s p agrees b
@@ -66,7 +65,7 @@ forced s p agrees (CountJump c) b =
 
 -- WHOLE RUNS. Whatever the start state and whatever is chosen, the outcome of a block's run, its body of accepted
 -- instructions and then a conditional branch of mnemonic m, is what the verdict says, where there is one.
-pub whole-runs : (body : List Instruction) (m : Mnemonic) → AllAccepted body → (b : Bool) → condition_of (stepped_all nothing_known body) m ≡ Known b
+pub whole-runs : (body : List Instruction) (m : Mnemonic) → AllAccepted body → (b : Bool) → condition_of (stepped_all nothing_known body) m ≡ Some b
     → (start : Processor) (free : ℕ → Choice) (last : Bool) → outcome m (executed_all start body free) last ≡ b
 whole-runs body m accepted b h start free last =
     let agrees = steps-sound nothing_known start body free accepted (nothing_known_lem start) in
@@ -79,7 +78,7 @@ somewhere = record { register = λ k. 0; status = record { cf = false; pf = fals
 -- FORCED, AT A BRANCH. After any body of accepted instructions there is such a state: the branch is always (never) exactly
 -- where it jumps (does not jump) in each concrete state that agrees with what is known, whatever the rest is.
 pub forced-at-branch : (body : List Instruction) → AllAccepted body → (m : Mnemonic) (b : Bool)
-    → (condition_of (stepped_all nothing_known body) m ≡ Known b)
+    → (condition_of (stepped_all nothing_known body) m ≡ Some b)
     ↔ ((q : Processor) (free : Bool) → Agrees (stepped_all nothing_known body) q → outcome m q free ≡ b)
 forced-at-branch body accepted m b =
     let still : ℕ → Choice = λ k. record { memory = 0; other = 0; registers = λ r. 0; status = somewhere.status } in

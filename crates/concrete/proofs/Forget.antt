@@ -1,4 +1,5 @@
 -- Forgetting what is declared keeps agreement with whatever the declared registers and flags become.
+use Rattle.std.proofs.Common.{None, Option, Some}
 use Prim.{tt}
 use Prim.Native.Nat.{ℕ, zero, suc, min}
 use mathlib.Core.Path.{◌≡◌, refl, sym, ◌∙◌}
@@ -10,45 +11,42 @@ use lib.Dec.{eqb}
 use lib.ListN.{get_or}
 use Rattle.isa.specs.declared.Register.{Register}
 use Rattle.isa.specs.declared.Instruction.{Instruction}
-use Rattle.alu.specs.declared.Flag.{Flag}
 use Rattle.alu.specs.declared.Flags.{Flags}
 use Rattle.machine.specs.declared.State.{State}
-use Rattle.known.specs.declared.Value.{Value}
-use Rattle.known.specs.declared.Value.TheVariants.{Known, Unknown}
 use Rattle.known.specs.Operations.{forget_flag, forget_flags}
 use Rattle.known.specs.Registers.{unmarked}
 use Rattle.isa.specs.FlagBits as bit
 use Rattle.machine.specs.States.{no_register}
 use Rattle.machine.specs.Registers.{slot_at, whole_of, forget_register, forget_registers, forgotten}
 use Rattle.concrete.specs.Concrete.{Status, Processor, Choice, declares, chosen, declared_status, by_declaration}
-use Rattle.concrete.specs.Agreement.{Allows, AllowsValue, FlagsAgree, Agrees}
+use Rattle.concrete.specs.Agreement.{Allows, FlagsAgree, Agrees}
 use Rattle.concrete.proofs.Registers.{replaced-same, replaced-other, never}
 use Rattle.machine.proofs.Kept.{forgetting-flags}
 use Rattle.laws.proofs.Booleans.{and_left, and_right, by_test}
 
 -- no more is known
-abbrev pub Less : Value → Value → Type 0
-Less v u = (v ≡ Unknown) ⊎ (v ≡ u)
+abbrev pub Less : Option ℕ → Option ℕ → Type 0
+Less v u = (v ≡ None) ⊎ (v ≡ u)
 
-pub less-known : (v u : Value) (y : ℕ) → Less v u → AllowsValue u y → AllowsValue v y
+pub less-known : (v u : Option ℕ) (y : ℕ) → Less v u → Allows u y → Allows v y
 less-known v u y (inl e) h = rw e tt
 less-known v u y (inr e) h = rw e h
 
-pub less_both : (v u w : Value) → Less v u → Less u w → Less v w
+pub less_both : (v u w : Option ℕ) → Less v u → Less u w → Less v w
 less_both v u w (inl e) k = inl e
 less_both v u w (inr e) (inl k) = inl (e ∙ k)
 less_both v u w (inr e) (inr k) = inr (e ∙ k)
 
-less-unknown : (v u : Value) → Less v u → u ≡ Unknown → v ≡ Unknown
+less-unknown : (v u : Option ℕ) → Less v u → u ≡ None → v ≡ None
 less-unknown v u (inl e) h = e
 less-unknown v u (inr e) h = e ∙ h
 
 -- what allows 0 and 1 is unknown
-open-value : (v : Value) → AllowsValue v 0 → AllowsValue v 1 → v ≡ Unknown
-open-value (Known x) a b = let z : ◌≡◌ {A = ℕ} 0 1 = sym a ∙ b in cc
-open-value Unknown a b = refl
+open-value : (v : Option ℕ) → Allows v 0 → Allows v 1 → v ≡ None
+open-value (Some x) a b = let z : ◌≡◌ {A = ℕ} 0 1 = sym a ∙ b in cc
+open-value None a b = refl
 
-forget-here : (s : State) (r : Register) → eqb r.class 1 ≡ true → whole_of (forget_register s r) r.index ≡ Unknown
+forget-here : (s : State) (r : Register) → eqb r.class 1 ≡ true → whole_of (forget_register s r) r.index ≡ None
 unfolding forget_register
 forget-here s r one =
     rw one (open-value _ (replaced-same s r.index unmarked 0 tt) (replaced-same s r.index unmarked 1 tt))
@@ -76,7 +74,7 @@ forgets s rs zero k = inr refl
 forgets s rs (suc n) k =
     less_both _ _ _ (forget-there (forget_registers s rs n) (get_or rs n no_register) k) (forgets s rs n k)
 
-pub forgot : (s : State) (rs : List Register) (n k : ℕ) → declares rs n k ≡ true → whole_of (forget_registers s rs n) k ≡ Unknown
+pub forgot : (s : State) (rs : List Register) (n k : ℕ) → declares rs n k ≡ true → whole_of (forget_registers s rs n) k ≡ None
 unfolding forget_registers declares
 forgot s rs zero k h = never h
 forgot s rs (suc n) k h =
@@ -87,7 +85,7 @@ forgot s rs (suc n) k h =
     (forget-here (forget_registers s rs n) r (and_left (eqb r.class 1) _ t)))
     (λ t. less-unknown _ _ (forget-there (forget_registers s rs n) r k) (forgot s rs n k (rw t at h)))
 
-flag-law : (declared : Bool) (f : Flag) (new old : Bool) → Allows f old → Allows (forget_flag declared f) (chosen declared new old)
+flag-law : (declared : Bool) (f : Option Bool) (new old : Bool) → Allows f old → Allows (forget_flag declared f) (chosen declared new old)
 flag-law true f new old h = tt
 flag-law false f new old h = h
 
@@ -109,7 +107,7 @@ forgotten-agrees s p i free agrees =
     record {
       registers = λ k.
           by_test (declares i.written (min i.count 8) k)
-          (λ t. less-known _ Unknown _ (inl (forgot s i.written (min i.count 8) k t)) tt)
+          (λ t. less-known _ None _ (inl (forgot s i.written (min i.count 8) k t)) tt)
           (λ t. rw t (less-known _ (whole_of s k) _ (forgets s i.written (min i.count 8) k) (agrees.registers k)));
       flags =
           rw (forgetting-flags s i.written (min i.count 8))

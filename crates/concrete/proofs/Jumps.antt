@@ -1,4 +1,5 @@
 -- What is known of a jump is exact: it allows just the outcomes that the jump has in the states that agree.
+use Rattle.std.proofs.Common.{None, Option, Some}
 use Prim.{tt}
 use Prim.Native.Nat.{ℕ, ◌/◌, ◌%◌, ◌^◌}
 use mathlib.Core.Path.{◌≡◌, refl, sym, ap, subst, ◌∙◌}
@@ -11,26 +12,22 @@ use Rattle.isa.specs.declared.Condition.TheVariants.{E, Ne, L, Ge, Le, G, B, Ae,
 use Rattle.isa.specs.declared.Counter.{Counter}
 use Rattle.isa.specs.declared.Counter.TheVariants.{Rcx, Ecx, Cx}
 use Rattle.isa.specs.Register.{well_formed}
-use Rattle.alu.specs.declared.Flag.{Flag}
-use Rattle.alu.specs.declared.Flag.TheVariants.{Known, Unknown}
 use Rattle.alu.specs.declared.Flags.{Flags}
 use Rattle.alu.specs.Flags.{opposite, either, both, differ}
 use Rattle.machine.specs.declared.State.{State}
-use Rattle.known.specs.declared.Value.{Value}
 use Rattle.machine.specs.Registers.{read_of}
 use Rattle.known.specs.Conditions.{flag_condition, is_zero}
 use Rattle.machine.specs.Conditions.{count_register}
 use Rattle.concrete.specs.Concrete.{Status, Processor, value as value_of, part, update, with_status, jumps_on, jumps_at}
-use Rattle.concrete.specs.Agreement.{Allows, AllowsValue, FlagsAgree, Agrees}
+use Rattle.concrete.specs.Agreement.{Allows, FlagsAgree, Agrees}
 use Rattle.concrete.proofs.Registers.{reads}
 use Rattle.concrete.proofs.Sound.{opposite-allows, unread}
-use Rattle.known.specs.declared.Value.TheVariants as value
 use Rattle.laws.proofs.Booleans.{by_test}
 
 -- ---- conditions of flags
 
 -- two settings that two flags allow, and what they come to
-record Both (f g : Flag) (op : Bool → Bool → Bool) (b : Bool) : Type 0 where
+record Both (f g : Option Bool) (op : Bool → Bool → Bool) (b : Bool) : Type 0 where
   left : Bool
   right : Bool
   left-ok : Allows f left
@@ -44,25 +41,25 @@ or-clear : (b : Bool) → (b || false) ≡ b
 or-clear true = refl
 or-clear false = refl
 
-either-allows : (f g : Flag) (x y : Bool) → Allows f x → Allows g y → Allows (either f g) (x || y)
-either-allows (Known true) g x y hx hy = ap (λ (z : Bool). z || y) hx
-either-allows (Known false) g x y hx hy = subst (λ (z : Bool). Allows g (z || y)) hx hy
-either-allows Unknown (Known true) true y hx hy = refl
-either-allows Unknown (Known true) false y hx hy = hy
-either-allows Unknown (Known false) x y hx hy = tt
-either-allows Unknown Unknown x y hx hy = tt
+either-allows : (f g : Option Bool) (x y : Bool) → Allows f x → Allows g y → Allows (either f g) (x || y)
+either-allows (Some true) g x y hx hy = ap (λ (z : Bool). z || y) hx
+either-allows (Some false) g x y hx hy = subst (λ (z : Bool). Allows g (z || y)) hx hy
+either-allows None (Some true) true y hx hy = refl
+either-allows None (Some true) false y hx hy = hy
+either-allows None (Some false) x y hx hy = tt
+either-allows None None x y hx hy = tt
 
-either-reached : (f g : Flag) (y b : Bool) → Allows g y → Allows (either f g) b → Both f g ◌||◌ b
-either-reached (Known true) g y b hy h = record { left = true; right = y; left-ok = refl; right-ok = hy; is = h }
-either-reached (Known false) g y b hy h = record { left = false; right = b; left-ok = refl; right-ok = h; is = refl }
-either-reached Unknown (Known true) y b hy h = record { left = true; right = true; left-ok = tt; right-ok = refl; is = h }
-either-reached Unknown (Known false) y b hy h = record { left = b; right = false; left-ok = tt; right-ok = refl; is = or-clear b }
-either-reached Unknown Unknown y b hy h = record { left = b; right = false; left-ok = tt; right-ok = tt; is = or-clear b }
+either-reached : (f g : Option Bool) (y b : Bool) → Allows g y → Allows (either f g) b → Both f g ◌||◌ b
+either-reached (Some true) g y b hy h = record { left = true; right = y; left-ok = refl; right-ok = hy; is = h }
+either-reached (Some false) g y b hy h = record { left = false; right = b; left-ok = refl; right-ok = h; is = refl }
+either-reached None (Some true) y b hy h = record { left = true; right = true; left-ok = tt; right-ok = refl; is = h }
+either-reached None (Some false) y b hy h = record { left = b; right = false; left-ok = tt; right-ok = refl; is = or-clear b }
+either-reached None None y b hy h = record { left = b; right = false; left-ok = tt; right-ok = tt; is = or-clear b }
 
-differ-allows : (f g : Flag) (x y : Bool) → Allows f x → Allows g y → Allows (differ f g) (differs x y)
-differ-allows (Known a) (Known c) x y hx hy = rw (hx, hy)
-differ-allows (Known a) Unknown x y hx hy = tt
-differ-allows Unknown g x y hx hy = tt
+differ-allows : (f g : Option Bool) (x y : Bool) → Allows f x → Allows g y → Allows (differ f g) (differs x y)
+differ-allows (Some a) (Some c) x y hx hy = rw (hx, hy)
+differ-allows (Some a) None x y hx hy = tt
+differ-allows None g x y hx hy = tt
 
 -- the setting beside which the other differs or not, as b says
 turned : (x b : Bool) → differs x (differs x b) ≡ b
@@ -77,18 +74,18 @@ turned_left true false = refl
 turned_left false true = refl
 turned_left false false = refl
 
-differ-reached : (f g : Flag) (y b : Bool) → Allows g y → Allows (differ f g) b → Both f g differs b
-differ-reached (Known a) (Known c) y b hy h = record { left = a; right = c; left-ok = refl; right-ok = refl; is = h }
-differ-reached (Known a) Unknown y b hy h = record { left = a; right = differs a b; left-ok = refl; right-ok = tt; is = turned a b }
-differ-reached Unknown g y b hy h = record { left = differs y b; right = y; left-ok = tt; right-ok = hy; is = turned_left y b }
+differ-reached : (f g : Option Bool) (y b : Bool) → Allows g y → Allows (differ f g) b → Both f g differs b
+differ-reached (Some a) (Some c) y b hy h = record { left = a; right = c; left-ok = refl; right-ok = refl; is = h }
+differ-reached (Some a) None y b hy h = record { left = a; right = differs a b; left-ok = refl; right-ok = tt; is = turned a b }
+differ-reached None g y b hy h = record { left = differs y b; right = y; left-ok = tt; right-ok = hy; is = turned_left y b }
 
 not-not : (b : Bool) → not (not b) ≡ b
 not-not true = refl
 not-not false = refl
 
-opposite-back : (f : Flag) (b : Bool) → Allows (opposite f) b → Allows f (not b)
-opposite-back (Known a) b h = sym (not-not a) ∙ ap not h
-opposite-back Unknown b h = tt
+opposite-back : (f : Option Bool) (b : Bool) → Allows (opposite f) b → Allows f (not b)
+opposite-back (Some a) b h = sym (not-not a) ∙ ap not h
+opposite-back None b h = tt
 
 neither : (a b : Bool) → (not a && not b) ≡ not (a || b)
 neither true b = refl
@@ -100,11 +97,11 @@ record FlagsReached (f : Flags) (c : Status → Bool) (b : Bool) : Type 0 where
   agrees : FlagsAgree f status
   is : c status ≡ b
 
-record ExactFlags (f : Flags) (g : Status) (t : Flag) (c : Status → Bool) : Type 0 where
+record ExactFlags (f : Flags) (g : Status) (t : Option Bool) (c : Status → Bool) : Type 0 where
   sound : Allows t (c g)
   reached : (b : Bool) → Allows t b → FlagsReached f c b
 
-exact-opposite : (f : Flags) (g : Status) (t : Flag) (c : Status → Bool) → ExactFlags f g t c
+exact-opposite : (f : Flags) (g : Status) (t : Option Bool) (c : Status → Bool) → ExactFlags f g t c
     → ExactFlags f g (opposite t) (λ h. not (c h))
 exact-opposite f g t c exact =
     record {
@@ -116,7 +113,7 @@ exact-opposite f g t c exact =
 
 module _ (f : Flags) (g : Status) (h : FlagsAgree f g) where
   -- one flag: put sets it in a status that agrees
-  exact_one : (t : Flag) (get : Status → Bool) (put : Bool → Status) → Allows t (get g)
+  exact_one : (t : Option Bool) (get : Status → Bool) (put : Bool → Status) → Allows t (get g)
       → ((b : Bool) → Allows t b → FlagsAgree f (put b)) → ((b : Bool) → get (put b) ≡ b) → ExactFlags f g t get
   exact_one t get put now agrees is =
       record { sound = now; reached = λ b k. record { status = put b; agrees = agrees b k; is = is b } }
@@ -190,15 +187,15 @@ module _ (f : Flags) (g : Status) (h : FlagsAgree f g) where
             };
       }
 
-opposite-twice : (f : Flag) → opposite (opposite f) ≡ f
-opposite-twice (Known a) = ap Known (not-not a)
-opposite-twice Unknown = refl
+opposite-twice : (f : Option Bool) → opposite (opposite f) ≡ f
+opposite-twice (Some a) = ap Some (not-not a)
+opposite-twice None = refl
 
 -- what is known of 'neither' is the opposite of what is known of 'either'
-both_is : (f g : Flag) → both (opposite f) (opposite g) ≡ opposite (either f g)
+both_is : (f g : Option Bool) → both (opposite f) (opposite g) ≡ opposite (either f g)
 both_is f g = rw (opposite-twice f, opposite-twice g)
 
-exact-neither : (f : Flags) (g : Status) (x y : Flag) (c d : Status → Bool) → ExactFlags f g (either x y) (λ h. c h || d h)
+exact-neither : (f : Flags) (g : Status) (x y : Option Bool) (c d : Status → Bool) → ExactFlags f g (either x y) (λ h. c h || d h)
     → ExactFlags f g (both (opposite x) (opposite y)) (λ h. not (c h) && not (d h))
 exact-neither f g x y c d exact =
     let opposed = exact-opposite f g (either x y) (λ h. c h || d h) exact in
@@ -237,13 +234,13 @@ pub record Reached (s : State) (test : Processor → Bool) (b : Bool) : Type 0 w
   pub agrees : Agrees s state
   pub is : test state ≡ b
 
-pub record Exact (s : State) (p : Processor) (t : Flag) (test : Processor → Bool) : Type 0 where
+pub record Exact (s : State) (p : Processor) (t : Option Bool) (test : Processor → Bool) : Type 0 where
   pub sound : Allows t (test p)
   pub reached : (b : Bool) → Allows t b → Reached s test b
 
-zero-allows : (v : Value) (x : ℕ) → AllowsValue v x → Allows (is_zero v) (eqb x 0)
-zero-allows (value.Known y) x h = ap (λ (n : ℕ). eqb n 0) h
-zero-allows value.Unknown x h = tt
+zero-allows : (v : Option ℕ) (x : ℕ) → Allows v x → Allows (is_zero v) (eqb x 0)
+zero-allows (Some y) x h = ap (λ (n : ℕ). eqb n 0) h
+zero-allows None x h = tt
 
 -- a state with another register 1
 abbrev counting : Processor → ℕ → Processor
@@ -280,7 +277,7 @@ module _ (s : State) (p : Processor) (agrees : Agrees s p) where
         reached = λ b h. at (read_of s r) refl b h;
       }
     where
-      free : read_of s (count_register c) ≡ value.Unknown → (x : ℕ) → Agrees s (counting p x)
+      free : read_of s (count_register c) ≡ None → (x : ℕ) → Agrees s (counting p x)
       free e x =
           record {
             registers = λ k.
@@ -290,12 +287,12 @@ module _ (s : State) (p : Processor) (agrees : Agrees s p) where
             flags = agrees.flags;
           }
 
-      at : (v : Value) → read_of s (count_register c) ≡ v → (b : Bool) → Allows (is_zero v) b → Reached s (jumps_at c) b
-      at (value.Known y) e b h =
+      at : (v : Option ℕ) → read_of s (count_register c) ≡ v → (b : Bool) → Allows (is_zero v) b → Reached s (jumps_at c) b
+      at (Some y) e b h =
           let same : y ≡ part p (count_register c) = rw e at (reads s p (count_register c) agrees ok) in
           record { state = p; agrees = agrees; is = is p ∙ ap (λ (x : ℕ). eqb x 0) (sym same) ∙ h }
-      at value.Unknown e true h = record { state = counting p 0; agrees = free e 0; is = jumps-at-0 }
-      at value.Unknown e false h = record { state = counting p 1; agrees = free e 1; is = stays-at-1 }
+      at None e true h = record { state = counting p 0; agrees = free e 0; is = jumps-at-0 }
+      at None e false h = record { state = counting p 1; agrees = free e 1; is = stays-at-1 }
 
   pub exact-count : (c : Counter) → Exact s p (is_zero (read_of s (count_register c))) (jumps_at c)
   unfolding jumps_at part

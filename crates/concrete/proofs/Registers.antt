@@ -1,4 +1,6 @@
 -- Reads, writes and forgetting keep agreement.
+use Rattle.std.proofs.Common.{None, Option, Some}
+use Rattle.std.specs.Option.{option_map}
 use Prim.{Unit, tt}
 use Prim.Native.Nat.{ℕ, ◌+◌, ◌-◌, ◌*◌, ◌/◌, ◌%◌, ◌^◌, ◌≤◌, ◌<◌}
 use mathlib.Core.Path.{◌≡◌, refl, sym, ap, subst, ◌∙◌}
@@ -16,18 +18,15 @@ use Rattle.isa.specs.declared.Register.{Register}
 use Rattle.isa.specs.Register.{well_formed}
 use Rattle.alu.specs.declared.Width.{Width}
 use Rattle.alu.specs.declared.Width.TheVariants.{Byte, Word, Double, Quad}
-use Rattle.alu.specs.declared.Size.TheVariants.{Of}
 use Rattle.alu.specs.Width.{bits, width_of}
 use Rattle.machine.specs.declared.State.{State}
-use Rattle.known.specs.declared.Value.{Value}
-use Rattle.known.specs.declared.Value.TheVariants.{Known, Unknown}
-use Rattle.known.specs.Values.{extracted, inserted, on_value, merged}
+use Rattle.known.specs.Values.{extracted, inserted, merged}
 use Rattle.known.specs.declared.Slot.{Slot}
 use Rattle.known.specs.Registers.{contents, slot_of, part_of, with_part}
 use Rattle.machine.specs.States.{replaced}
 use Rattle.machine.specs.Registers.{slot_at, whole_of, read_of, written}
 use Rattle.concrete.specs.Concrete.{Processor, value, part, stored, assign}
-use Rattle.concrete.specs.Agreement.{AllowsValue, Agrees}
+use Rattle.concrete.specs.Agreement.{Allows, Agrees}
 use Rattle.machine.proofs.Kept.{written-flags}
 use Rattle.laws.proofs.Booleans.{and_right, by_test}
 
@@ -80,7 +79,7 @@ width_in word = Word
 width_in double = Double
 width_in quad = Quad
 
-pub width-law : {size offset : ℕ} (f : Form size offset) → width_of size ≡ Of (width_in f)
+pub width-law : {size offset : ℕ} (f : Form size offset) → width_of size ≡ Some (width_in f)
 width-law low_byte = refl
 width-law high_byte = refl
 width-law word = refl
@@ -97,11 +96,11 @@ extract-law word x = refl
 extract-law double x = refl
 extract-law quad x = refl
 
-pub on_value_lem : (f g : ℕ → ℕ) → ((x : ℕ) → f x ≡ g x) → (v : Value) (y : ℕ) → AllowsValue v y → AllowsValue (on_value f v) (g y)
-on_value_lem f g e (Known x) y h = e x ∙ ap g h
-on_value_lem f g e Unknown y h = tt
+pub on_value_lem : (f g : ℕ → ℕ) → ((x : ℕ) → f x ≡ g x) → (v : Option ℕ) (y : ℕ) → Allows v y → Allows (option_map f v) (g y)
+on_value_lem f g e (Some x) y h = e x ∙ ap g h
+on_value_lem f g e None y h = tt
 
-pub reads : (s : State) (p : Processor) (r : Register) → Agrees s p → well_formed r ≡ true → AllowsValue (read_of s r) (part p r)
+pub reads : (s : State) (p : Processor) (r : Register) → Agrees s p → well_formed r ≡ true → Allows (read_of s r) (part p r)
 unfolding read_of part_of part
 reads s p r agrees ok =
     by_test (eqb r.class 1)
@@ -118,9 +117,9 @@ part-below p r = mod-lt _ (pow_pos r.size)
 -- ---- writes
 
 -- what is written: a known value, of which the part takes the low bits
-abbrev pub Stores : ℕ → Value → ℕ → Type 0
-Stores size (Known y) x = (y < 2 ^ 64) × (y % 2 ^ size ≡ x)
-Stores size Unknown x = Unit {0}
+abbrev pub Stores : ℕ → Option ℕ → ℕ → Type 0
+Stores size (Some y) x = (y < 2 ^ 64) × (y % 2 ^ size ≡ x)
+Stores size None x = Unit {0}
 
 -- the bits outside the high byte
 outside_high : (old : ℕ) → old - old / 256 % 256 * 256 ≡ old / 65536 * 65536 + old % 256
@@ -146,9 +145,9 @@ within word x h = omega arith
 within double x h = omega arith
 within quad x h = h
 
-pub stores-known : {size offset : ℕ} → Form size offset → (v : Value) (x : ℕ) → AllowsValue v x → x < 2 ^ size → Stores size v x
-stores-known f (Known y) x h k = (rw h (within f x k), rw h (mod-eq_of_lt k))
-stores-known f Unknown x h k = tt
+pub stores-known : {size offset : ℕ} → Form size offset → (v : Option ℕ) (x : ℕ) → Allows v x → x < 2 ^ size → Stores size v x
+stores-known f (Some y) x h k = (rw h (within f x k), rw h (mod-eq_of_lt k))
+stores-known f None x h k = tt
 
 -- a known part in a known whole
 pub insert-law : {size offset : ℕ} (f : Form size offset) (old y : ℕ) → old < 2 ^ 64 → ltb size 32 ≡ true
@@ -163,27 +162,27 @@ insert-law double old y h small = never small
 insert-law quad old y h small = never small
 
 -- the whole register after a write
-pub merge-law : {size offset : ℕ} (f : Form size offset) (old v : Value) (was x : ℕ) → was < 2 ^ 64
-    → AllowsValue old was → Stores size v x
-    → AllowsValue (merged (width_in f) offset old v) (stored was size offset x % 2 ^ 64)
+pub merge-law : {size offset : ℕ} (f : Form size offset) (old v : Option ℕ) (was x : ℕ) → was < 2 ^ 64
+    → Allows old was → Stores size v x
+    → Allows (merged (width_in f) offset old v) (stored was size offset x % 2 ^ 64)
 unfolding merged stored
-merge-law low_byte old Unknown was x h o w = tt
-merge-law high_byte old Unknown was x h o w = tt
-merge-law word old Unknown was x h o w = tt
-merge-law double old Unknown was x h o w = tt
-merge-law quad old Unknown was x h o w = tt
-merge-law low_byte Unknown (Known y) was x h o w = tt
-merge-law high_byte Unknown (Known y) was x h o w = tt
-merge-law word Unknown (Known y) was x h o w = tt
-merge-law low_byte (Known z) (Known y) was x h o w = rw (o, ← w.1) (insert-law low_byte was y h refl)
-merge-law high_byte (Known z) (Known y) was x h o w = rw (o, ← w.1) (insert-law high_byte was y h refl)
-merge-law word (Known z) (Known y) was x h o w = rw (o, ← w.1) (insert-law word was y h refl)
-merge-law double old (Known y) was x h o w = omega (arith, w.1)
-merge-law quad old (Known y) was x h o w = omega (arith, w.0, w.1)
+merge-law low_byte old None was x h o w = tt
+merge-law high_byte old None was x h o w = tt
+merge-law word old None was x h o w = tt
+merge-law double old None was x h o w = tt
+merge-law quad old None was x h o w = tt
+merge-law low_byte None (Some y) was x h o w = tt
+merge-law high_byte None (Some y) was x h o w = tt
+merge-law word None (Some y) was x h o w = tt
+merge-law low_byte (Some z) (Some y) was x h o w = rw (o, ← w.1) (insert-law low_byte was y h refl)
+merge-law high_byte (Some z) (Some y) was x h o w = rw (o, ← w.1) (insert-law high_byte was y h refl)
+merge-law word (Some z) (Some y) was x h o w = rw (o, ← w.1) (insert-law word was y h refl)
+merge-law double old (Some y) was x h o w = omega (arith, w.1)
+merge-law quad old (Some y) was x h o w = omega (arith, w.0, w.1)
 
-contents-slot : (v : Value) → contents (slot_of v) ≡ v
-contents-slot (Known x) = refl
-contents-slot Unknown = refl
+contents-slot : (v : Option ℕ) → contents (slot_of v) ≡ v
+contents-slot (Some x) = refl
+contents-slot None = refl
 
 -- the words of the registers after one is replaced
 module _ (words : List ℕ) (index value marks : ℕ) where
@@ -204,7 +203,7 @@ module _ (words : List ℕ) (index value marks : ℕ) where
   elsewhere k one two = get_or-set_other (set words index value) (16 + index) k marks 0 two ∙ get_or-set_other words index k value 0 one
 
 -- a register that was set is what was put there, or does not exist and is unknown
-pub replaced-same : (s : State) (index : ℕ) (slot : Slot) (y : ℕ) → AllowsValue (contents slot) y → AllowsValue (whole_of (replaced s index slot) index) y
+pub replaced-same : (s : State) (index : ℕ) (slot : Slot) (y : ℕ) → Allows (contents slot) y → Allows (whole_of (replaced s index slot) index) y
 unfolding slot_at replaced
 replaced-same s index slot y h =
     let words = s.registers in
@@ -233,22 +232,22 @@ assign-status : (p : Processor) (r : Register) (x : ℕ) → (assign p r x).stat
 unfolding assign
 assign-status p r x = by_test (eqb r.class 1) (λ t. rw t) (λ t. rw t)
 
-with_part_lem : (w : Width) (offset : ℕ) (slot : Slot) (v : Value) (y : ℕ) → AllowsValue (merged w offset (contents slot) v) y
-    → AllowsValue (contents (with_part (Of w) offset slot v)) y
+with_part_lem : (w : Width) (offset : ℕ) (slot : Slot) (v : Option ℕ) (y : ℕ) → Allows (merged w offset (contents slot) v) y
+    → Allows (contents (with_part (Some w) offset slot v)) y
 unfolding with_part
 with_part_lem w offset slot v y h = rw (contents-slot (merged w offset (contents slot) v)) h
 
 -- what the registers are after a write
-write-at : (s : State) (p : Processor) (r : Register) (v : Value) (x : ℕ) → Agrees s p → well_formed r ≡ true
+write-at : (s : State) (p : Processor) (r : Register) (v : Option ℕ) (x : ℕ) → Agrees s p → well_formed r ≡ true
     → (eqb r.class 1 ≡ true → Stores r.size v x)
-    → (k : ℕ) → AllowsValue (whole_of (written s r v) k) (value (assign p r x) k)
+    → (k : ℕ) → Allows (whole_of (written s r v) k) (value (assign p r x) k)
 unfolding written assign
 write-at s p r v x agrees ok what k =
     by_test (eqb r.class 1)
     (λ one. by_test (eqb k r.index)
     (λ t.
     let f = form r ok one in
-    let new = with_part (Of (width_in f)) r.offset (slot_at s r.index) v in
+    let new = with_part (Some (width_in f)) r.offset (slot_at s r.index) v in
     let here = merge-law f (whole_of s r.index) v (value p r.index) x (mod-lt _ (pow_pos 64)) (agrees.registers r.index) (what one) in
     rw (one, eqb-true k r.index t, eq-eqb r.index r.index refl, width-law f)
     (replaced-same s r.index new _ (with_part_lem (width_in f) r.offset (slot_at s r.index) v _ here)))
@@ -257,7 +256,7 @@ write-at s p r v x agrees ok what k =
     rw (one, t, e) (agrees.registers k)))
     (λ other. rw other (agrees.registers k))
 
-pub writes : (s : State) (p : Processor) (r : Register) (v : Value) (x : ℕ) → Agrees s p → well_formed r ≡ true
+pub writes : (s : State) (p : Processor) (r : Register) (v : Option ℕ) (x : ℕ) → Agrees s p → well_formed r ≡ true
     → (eqb r.class 1 ≡ true → Stores r.size v x)
     → Agrees (written s r v) (assign p r x)
 writes s p r v x agrees ok what =

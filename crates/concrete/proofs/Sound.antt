@@ -1,5 +1,7 @@
 -- Step soundness: agreement of what is known with the concrete state is kept by every instruction that reading accepts,
 -- whatever is chosen for what is free. The theorem is `step-sound`, at the end.
+use Rattle.std.proofs.Common.{None, Option, Some}
+use Rattle.std.specs.Option.{option_map}
 use Prim.{Unit, tt}
 use Prim.Native.Nat.{ℕ, zero, suc, min, ◌+◌, ◌-◌, ◌%◌, ◌^◌, ◌<◌}
 use mathlib.Core.Path.{◌≡◌, refl, sym, ap, subst}
@@ -28,29 +30,23 @@ use Rattle.isa.specs.FlagBits as bit
 use Rattle.isa.specs.Register.{well_formed}
 use Rattle.isa.specs.Modelled.{modelled, sizes_differ, outside, is_mov, declares_result, declares_own, undeclared}
 use Rattle.machine.proofs.Declared.{result_parts}
-use Rattle.alu.specs.declared.Flag.{Flag}
 use Rattle.alu.specs.declared.Flags.{Flags}
 use Rattle.alu.specs.declared.Width.{Width}
-use Rattle.alu.specs.declared.Size.TheVariants.{Of}
 use Rattle.alu.specs.Width.{bits, width_of}
 use Rattle.alu.specs.Flags.{opposite}
 use Rattle.machine.specs.declared.State.{State}
 use Rattle.known.specs.declared.Effect.{Effect}
-use Rattle.known.specs.declared.Value.{Value}
-use Rattle.known.specs.declared.Value.TheVariants.{Known, Unknown}
 use Rattle.known.specs.Operations.{with_carry, forget_flag, forget_flags, unknown_carry, carry_rule, complement, arith_effect, unary_effect, alone as perform_alone}
-use Rattle.known.specs.Values.{on_value}
 use Rattle.known.specs.Registers.{part_of}
 use Rattle.machine.specs.Registers.{nothing_known, slot_at, whole_of, read_of, written, operand_of, forget_registers, forgotten}
 use Rattle.machine.specs.Finish.{finished}
 use Rattle.machine.specs.Rules.{writes as writes_result, same_register, carry_step, arith_step, unary_unknown, unary_on, unary_step, register_step, on_first, modelled_step, stepped, stepped_all}
 use Rattle.concrete.specs.Concrete.{Status, Processor, Choice, value, part, assign, argument, computed, computed_alone, with_status, with_own_carry, carry_after, keeps, binary, alone, on_register, on_operand, by_manual, by_declaration, executed, executed_all}
-use Rattle.concrete.specs.Agreement.{Allows, AllowsValue, FlagsAgree, Agrees, operand_well_formed, Accepted, AllAccepted}
+use Rattle.concrete.specs.Agreement.{Allows, FlagsAgree, Agrees, operand_well_formed, Accepted, AllAccepted}
 use Rattle.concrete.proofs.Outcome.{Matches}
 use Rattle.concrete.proofs.Registers.{Form, low_byte, high_byte, word, double, quad, form, width_in, width-law, bits-law, reads, part-below, Stores, stores-known, writes, never}
 use Rattle.concrete.proofs.Forget.{less-known, less_both, forgets, forgotten-agrees}
 use Rattle.concrete.proofs.Effects.{right, alone-matches, alone-below, EffectAgrees, arith-agrees, kept-agrees}
-use Rattle.alu.specs.declared.Flag.TheVariants as flag
 use Rattle.laws.proofs.Booleans.{and_left, or_left, or_right, by_test}
 
 -- ---- operands
@@ -62,12 +58,12 @@ SizeFits size (Reg r) = eqb r.class 1 ≡ true → r.size ≡ size
 SizeFits size (Imm x) = Unit {0}
 SizeFits size Mem = Unit {0}
 
-read-outside : (s : State) (r : Register) → eqb r.class 1 ≡ false → read_of s r ≡ Unknown
+read-outside : (s : State) (r : Register) → eqb r.class 1 ≡ false → read_of s r ≡ None
 unfolding read_of
 read-outside s r t = rw t
 
 operand_agrees : (s : State) (p : Processor) (free : Choice) {size offset : ℕ} → Form size offset → (o : Operand)
-    → Agrees s p → operand_well_formed o ≡ true → AllowsValue (operand_of s size o) (argument p free size o)
+    → Agrees s p → operand_well_formed o ≡ true → Allows (operand_of s size o) (argument p free size o)
 unfolding operand_of argument
 operand_agrees s p free f Absent agrees ok = tt
 operand_agrees s p free f (Reg r) agrees ok =
@@ -114,14 +110,14 @@ complement-law word x k = (omega arith, not_mod 48 16 k)
 complement-law double x k = (omega arith, not_mod 32 32 k)
 complement-law quad x k = (omega arith, not_mod 0 64 k)
 
-complement-stores : {size offset : ℕ} → Form size offset → (v : Value) (x : ℕ) → AllowsValue v x → x < 2 ^ size
+complement-stores : {size offset : ℕ} → Form size offset → (v : Option ℕ) (x : ℕ) → Allows v x → x < 2 ^ size
     → Stores size (complement v) (2 ^ size - 1 - x)
-complement-stores f (Known y) x h k = rw h (complement-law f x k)
-complement-stores f Unknown x h k = tt
+complement-stores f (Some y) x h k = rw h (complement-law f x k)
+complement-stores f None x h k = tt
 
 finish-agrees : (s : State) (p : Processor) (d : Register) (there : Bool) (e : Effect) (x : ℕ) (g : Status)
     → Agrees s p → well_formed d ≡ true → eqb d.class 1 ≡ true
-    → AllowsValue e.value x → x < 2 ^ d.size → FlagsAgree e.flags g
+    → Allows e.value x → x < 2 ^ d.size → FlagsAgree e.flags g
     → Agrees (finished s there d e) (with_status (cond there (assign p d x) p) g)
 unfolding finished slot_at
 finish-agrees s p d true e x g agrees ok one v below flags =
@@ -132,15 +128,15 @@ finish-agrees s p d true e x g agrees ok one v below flags =
 finish-agrees s p d false e x g agrees ok one v below flags = record { registers = agrees.registers; flags = flags }
 
 -- a register of class 1 that reads as unknown is unknown
-on-unknown : (f : ℕ → ℕ) (v : Value) → on_value f v ≡ Unknown → v ≡ Unknown
-on-unknown f (Known x) h = cc
-on-unknown f Unknown h = refl
+on-unknown : (f : ℕ → ℕ) (v : Option ℕ) → option_map f v ≡ None → v ≡ None
+on-unknown f (Some x) h = cc
+on-unknown f None h = refl
 
-pub unread : (s : State) (r : Register) → well_formed r ≡ true → eqb r.class 1 ≡ true → read_of s r ≡ Unknown → whole_of s r.index ≡ Unknown
+pub unread : (s : State) (r : Register) → well_formed r ≡ true → eqb r.class 1 ≡ true → read_of s r ≡ None → whole_of s r.index ≡ None
 unfolding read_of part_of
 unread s r ok one h = on-unknown _ (whole_of s r.index) (rw (one, width-law (form r ok one)) at h)
 
-forgot-flag : (declared : Bool) (f : Flag) (b : Bool) → declared ≡ true → Allows (forget_flag declared f) b
+forgot-flag : (declared : Bool) (f : Option Bool) (b : Bool) → declared ≡ true → Allows (forget_flag declared f) b
 forgot-flag declared f b h = rw h tt
 
 -- all that inc, dec and neg set, but CF, is declared
@@ -149,7 +145,7 @@ result-declared Inc d h = h
 result-declared Dec d h = h
 result-declared Neg d h = and_left (declares_result d) (bit.declares d bit.CF) h
 
-forgot-result : (d : ℕ) (f : Flags) (carry : Flag) (g : Status) → Allows carry g.cf → declares_result d ≡ true
+forgot-result : (d : ℕ) (f : Flags) (carry : Option Bool) (g : Status) → Allows carry g.cf → declares_result d ≡ true
     → FlagsAgree (with_carry (forget_flags d f) carry) g
 unfolding forget_flags
 forgot-result d f carry g h declared =
@@ -163,11 +159,11 @@ forgot-result d f carry g h declared =
     }
 
 -- inc and dec keep CF, neg leaves it unknown
-unknown-flags : (op : Unary) (d : ℕ) (cf : Flag) (c : Bool) (f : Flags) (g : Status) → declares_own op d ≡ true → Allows cf c
+unknown-flags : (op : Unary) (d : ℕ) (cf : Option Bool) (c : Bool) (f : Flags) (g : Status) → declares_own op d ≡ true → Allows cf c
     → FlagsAgree (with_carry (forget_flags d f) (unknown_carry op cf)) (with_own_carry op g c)
 unknown-flags Inc d cf c f g declared h = forgot-result d f cf (with_own_carry Inc g c) h (result-declared Inc d declared)
 unknown-flags Dec d cf c f g declared h = forgot-result d f cf (with_own_carry Dec g c) h (result-declared Dec d declared)
-unknown-flags Neg d cf c f g declared h = forgot-result d f flag.Unknown g tt (result-declared Neg d declared)
+unknown-flags Neg d cf c f g declared h = forgot-result d f None g tt (result-declared Neg d declared)
 
 -- rules and manual agree on what is written
 same_writes : (op : Binary) → writes_result op ≡ keeps op
@@ -204,7 +200,7 @@ module _ (s : State) (p : Processor) (free : Choice) (agrees : Agrees s p) (d : 
     unfolding width
     width_is = bits-law (form d ok one)
 
-    sized : width_of d.size ≡ Of width
+    sized : width_of d.size ≡ Some width
     unfolding width
     sized = width-law (form d ok one)
 
@@ -226,7 +222,7 @@ module _ (s : State) (p : Processor) (free : Choice) (agrees : Agrees s p) (d : 
         rw (same_writes op) (finish-agrees s p d (keeps op) _ _ _ agrees ok one there.value below there.flags)
 
     -- inc, dec, neg of a known value
-    known-agrees : (op : Unary) (a : ℕ) → read_of s d ≡ Known a
+    known-agrees : (op : Unary) (a : ℕ) → read_of s d ≡ Some a
         → Agrees (finished s true d (unary_effect op (width_of d.size) s.flags.cf a)) (alone p op d)
     unfolding unary_effect alone
     known-agrees op a read_is =
@@ -240,15 +236,15 @@ module _ (s : State) (p : Processor) (free : Choice) (agrees : Agrees s p) (d : 
         (kept-agrees op s.flags.cf p.status.cf _ _ agrees.flags.cf there.flags))
 
     -- inc, dec, neg of an unknown register, with their flags declared
-    unknown-register : (rs : List Register) (n k x : ℕ) → read_of s d ≡ Unknown
-        → AllowsValue (whole_of (forget_registers s rs n) k) (value (assign p d x) k)
+    unknown-register : (rs : List Register) (n k x : ℕ) → read_of s d ≡ None
+        → Allows (whole_of (forget_registers s rs n) k) (value (assign p d x) k)
     unfolding assign
     unknown-register rs n k x read_is =
         by_test (eqb k d.index)
-        (λ t. less-known _ Unknown _ (less_both _ _ _ (forgets s rs n k) (inr (rw (eqb-true k d.index t) (unread s d ok one read_is)))) tt)
+        (λ t. less-known _ None _ (less_both _ _ _ (forgets s rs n k) (inr (rw (eqb-true k d.index t) (unread s d ok one read_is)))) tt)
         (λ t. rw (one, t) (less-known _ (whole_of s k) _ (forgets s rs n k) (agrees.registers k)))
 
-    unknown-agrees : (i : Instruction) (op : Unary) → declares_own op i.flags ≡ true → read_of s d ≡ Unknown
+    unknown-agrees : (i : Instruction) (op : Unary) → declares_own op i.flags ≡ true → read_of s d ≡ None
         → Agrees (unary_unknown s i op) (alone p op d)
     unfolding unary_unknown forgotten alone slot_at
     unknown-agrees i op declared read_is =
@@ -265,11 +261,11 @@ fits-law d (Reg r) h one = λ c. sym (eqb-true d.size r.size (not-false _ (rw (o
 fits-law d (Imm x) h one = tt
 fits-law d Mem h one = tt
 
-pub opposite-allows : (f : Flag) (b : Bool) → Allows f b → Allows (opposite f) (not b)
-opposite-allows (flag.Known a) b h = ap not h
-opposite-allows flag.Unknown b h = tt
+pub opposite-allows : (f : Option Bool) (b : Bool) → Allows f b → Allows (opposite f) (not b)
+opposite-allows (Some a) b h = ap not h
+opposite-allows None b h = tt
 
-carry-allows : (c : CarryChange) (f : Flag) (b : Bool) → Allows f b → Allows (carry_rule c f) (carry_after c b)
+carry-allows : (c : CarryChange) (f : Option Bool) (b : Bool) → Allows f b → Allows (carry_rule c f) (carry_after c b)
 carry-allows Stc f b h = refl
 carry-allows Clc f b h = refl
 carry-allows Cmc f b h = opposite-allows f b h
@@ -292,9 +288,9 @@ record Faultless (m : Mnemonic) (a b : Operand) (flags : ℕ) : Type 0 where
 
 module _ (s : State) (p : Processor) (free : Choice) (agrees : Agrees s p) (i : Instruction) where
   unary-agrees : (op : Unary) (d : Register) → well_formed d ≡ true → eqb d.class 1 ≡ true → declares_own op i.flags ≡ true
-      → (v : Value) → read_of s d ≡ v → Agrees (unary_on s i op d v) (alone p op d)
-  unary-agrees op d ok one declared (Known a) e = known-agrees s p free agrees d ok one op a e
-  unary-agrees op d ok one declared Unknown e = unknown-agrees s p free agrees d ok one i op declared e
+      → (v : Option ℕ) → read_of s d ≡ v → Agrees (unary_on s i op d v) (alone p op d)
+  unary-agrees op d ok one declared (Some a) e = known-agrees s p free agrees d ok one op a e
+  unary-agrees op d ok one declared None e = unknown-agrees s p free agrees d ok one i op declared e
 
   register-agrees : (m : Mnemonic) (d : Register) → Faultless m (Reg d) i.second i.flags → Agrees (register_step s i m d) (on_register p i free m d)
   unfolding register_step on_register unary_step

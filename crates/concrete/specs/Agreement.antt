@@ -1,29 +1,20 @@
 -- Agreement: what is known of registers and flags is what they are.
-use Rattle.std.specs.Prelude.{ℕ, ◌≡◌, Bool, true, false, List, [], ◌∷◌}
+use Rattle.std.specs.Prelude.{ℕ, ◌≡◌, Bool, true, false, List, [], ◌∷◌, Option, Some, None}
 use Prim.{Unit}
 use Rattle.isa.specs.declared.Operand.{Operand}
 use Rattle.isa.specs.declared.Operand.TheVariants.{Absent, Reg, Imm, Mem}
 use Rattle.isa.specs.declared.Instruction.{Instruction}
 use Rattle.isa.specs.Register.{well_formed}
 use Rattle.isa.specs.Modelled.{at_fault}
-use Rattle.alu.specs.declared.Flag.{Flag}
 use Rattle.alu.specs.declared.Flags.{Flags}
 use Rattle.machine.specs.declared.State.{State}
-use Rattle.known.specs.declared.Value.{Value}
 use Rattle.machine.specs.Registers.{whole_of}
 use Rattle.concrete.specs.Concrete.{Status, Processor, value}
-use Rattle.alu.specs.declared.Flag.TheVariants as flag
-use Rattle.known.specs.declared.Value.TheVariants as known
 
--- a flag, as far as it is known, allows a setting
-abbrev pub Allows : Flag → Bool → Type 0
-Allows (flag.Known a) b = a ≡ b
-Allows flag.Unknown b = Unit {0}
-
--- a value, as far as it is known, allows a number
-abbrev pub AllowsValue : Value → ℕ → Type 0
-AllowsValue (known.Known x) y = x ≡ y
-AllowsValue known.Unknown y = Unit {0}
+-- what is known of a flag or a register allows a value: that one alone, or where nothing is known any
+abbrev pub Allows : {A : Type 0} → Option A → A → Type 0
+Allows (Some x) y = x ≡ y
+Allows None y = Unit {0}
 
 pub record FlagsAgree (f : Flags) (g : Status) : Type 0 where
   pub cf : Allows f.cf g.cf
@@ -34,7 +25,7 @@ pub record FlagsAgree (f : Flags) (g : Status) : Type 0 where
 
 -- Each known register's and each known flag's value is the concrete one; the rest is free, each of the others.
 pub record Agrees (s : State) (p : Processor) : Type 0 where
-  pub registers : (k : ℕ) → AllowsValue (whole_of s k) (value p k)
+  pub registers : (k : ℕ) → Allows (whole_of s k) (value p k)
   pub flags : FlagsAgree s.flags p.status
 
 abbrev pub operand_well_formed : Operand → Bool
