@@ -1,4 +1,5 @@
 -- What the arithmetic instructions leave, value and flags, is what the manual's results are.
+use Rattle.std.proofs.lemmas.Bool.Decides.{nat_tests}
 use Rattle.std.proofs.Common.{None, Option, Some}
 use Prim.{tt}
 use Prim.Native.Nat.{ℕ, ◌+◌, ◌-◌, ◌^◌, ◌<◌}
@@ -23,7 +24,7 @@ use Rattle.known.specs.declared.Effect.{Effect}
 use Rattle.known.specs.Operations.{operation_of, is_idiom, of_itself, no_flags, bitwise_flags, of_unknown, of_known, on_operands, arith_effect, alone, kept_carry}
 use Rattle.concrete.specs.Concrete.{Status, Result, lifted, sum, difference, bitwise, ones_below, status_of, computed, computed_alone, with_own_carry}
 use Rattle.concrete.specs.Agreement.{Allows, FlagsAgree}
-use Rattle.concrete.proofs.Outcome.{halves, half_pos, Matches, matches, add-matches, sub-matches, neg-matches}
+use Rattle.concrete.proofs.Outcome.{Matches, matches, add-matches, sub-matches, neg-matches}
 use Rattle.concrete.proofs.Registers.{never}
 use Rattle.alu.specs.Arithmetic as rules
 use Rattle.laws.proofs.Booleans.{and_left, and_right, by_test}
@@ -146,7 +147,7 @@ arith-agrees op w same a b x y hx hy ha hb one =
 -- ---- inc, dec, neg
 
 one_below : (w : Width) → 1 < 2 ^ bits w
-one_below w = rw (halves w) (omega (arith, half_pos w))
+one_below w = grind (arith, nat_tests)
 
 pub alone-matches : (op : Unary) (w : Width) (a : ℕ) → a < 2 ^ bits w → Matches (bits w) (alone op w a) (computed_alone op (bits w) a)
 alone-matches Inc w a h = add-matches w a 1 h (one_below w)
@@ -155,9 +156,7 @@ alone-matches Neg w a h = neg-matches w a h
 
 pub alone-below : (op : Unary) (n a : ℕ) → (computed_alone op n a).value < 2 ^ n
 unfolding sum difference
-alone-below Inc n a = mod-lt _ (pow_pos n)
-alone-below Dec n a = mod-lt _ (pow_pos n)
-alone-below Neg n a = mod-lt _ (pow_pos n)
+alone-below op n a = grind (arith, mod-lt, pow_pos)
 
 pub kept-agrees : (op : Unary) (cf : Option Bool) (c : Bool) (f : Flags) (g : Status) → Allows cf c → FlagsAgree f g
     → FlagsAgree (kept_carry op cf f) (with_own_carry op g c)

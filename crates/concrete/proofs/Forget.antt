@@ -1,8 +1,10 @@
 -- Forgetting what is declared keeps agreement with whatever the declared registers and flags become.
-use Rattle.std.proofs.Common.{None, Option, Some}
+use native.Mathlib.Omega.{arith}
+use Rattle.std.proofs.lemmas.Bool.Decides.{nat_tests}
+use Rattle.std.proofs.Common.{None, Option}
 use Prim.{tt}
 use Prim.Native.Nat.{ℕ, zero, suc, min}
-use mathlib.Core.Path.{◌≡◌, refl, sym, ◌∙◌}
+use mathlib.Core.Path.{◌≡◌, refl, ◌∙◌}
 use mathlib.Core.Logic.{◌⊎◌, inl, inr, ◌≢◌}
 use mathlib.Core.Bool.{Bool, true, false, ◌&&◌}
 use mathlib.Core.List.{List}
@@ -38,13 +40,11 @@ less_both v u w (inr e) (inl k) = inl (e ∙ k)
 less_both v u w (inr e) (inr k) = inr (e ∙ k)
 
 less-unknown : (v u : Option ℕ) → Less v u → u ≡ None → v ≡ None
-less-unknown v u (inl e) h = e
-less-unknown v u (inr e) h = e ∙ h
+less-unknown v u l h = grind (arith, nat_tests)
 
 -- what allows 0 and 1 is unknown
 open-value : (v : Option ℕ) → Allows v 0 → Allows v 1 → v ≡ None
-open-value (Some x) a b = let z : ◌≡◌ {A = ℕ} 0 1 = sym a ∙ b in cc
-open-value None a b = refl
+open-value v a b = grind (arith, nat_tests)
 
 forget-here : (s : State) (r : Register) → eqb r.class 1 ≡ true → whole_of (forget_register s r) r.index ≡ None
 unfolding forget_register
@@ -53,12 +53,11 @@ forget-here s r one =
 
 forget-elsewhere : (s : State) (r : Register) (k : ℕ) → k ≢ r.index → whole_of (forget_register s r) k ≡ whole_of s k
 unfolding forget_register
-forget-elsewhere s r k other =
-    by_test (eqb r.class 1) (λ t. rw (t, replaced-other s r.index k unmarked other)) (λ t. rw t)
+forget-elsewhere s r k other = grind (arith, nat_tests, replaced-other)
 
 forget-outside : (s : State) (r : Register) (k : ℕ) → eqb r.class 1 ≡ false → whole_of (forget_register s r) k ≡ whole_of s k
 unfolding forget_register
-forget-outside s r k other = rw other
+forget-outside s r k other = grind (arith, nat_tests)
 
 forget-there : (s : State) (r : Register) (k : ℕ) → Less (whole_of (forget_register s r) k) (whole_of s k)
 forget-there s r k =

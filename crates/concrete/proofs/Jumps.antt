@@ -1,10 +1,12 @@
 -- What is known of a jump is exact: it allows just the outcomes that the jump has in the states that agree.
+use native.Mathlib.Omega.{arith}
+use Rattle.std.proofs.lemmas.Bool.Decides.{nat_tests}
 use Rattle.std.proofs.Common.{None, Option, Some}
 use Prim.{tt}
 use Prim.Native.Nat.{ℕ, ◌/◌, ◌%◌, ◌^◌}
 use mathlib.Core.Path.{◌≡◌, refl, sym, ap, subst, ◌∙◌}
 use mathlib.Core.Bool.{Bool, true, false, not, ◌&&◌, ◌||◌}
-use native.Mathlib.Nat.{mod-mod, div-one}
+use native.Mathlib.Nat.{mod-mod}
 use borrow.Author.Tests.{eqb-true}
 use lib.Dec.{eqb}
 use Rattle.isa.specs.declared.Condition.{Condition}
@@ -38,8 +40,7 @@ abbrev differs : Bool → Bool → Bool
 differs a b = a && not b || not a && b
 
 or-clear : (b : Bool) → (b || false) ≡ b
-or-clear true = refl
-or-clear false = refl
+or-clear b = grind (arith, nat_tests)
 
 either-allows : (f g : Option Bool) (x y : Bool) → Allows f x → Allows g y → Allows (either f g) (x || y)
 either-allows (Some true) g x y hx hy = ap (λ (z : Bool). z || y) hx
@@ -63,16 +64,10 @@ differ-allows None g x y hx hy = tt
 
 -- the setting beside which the other differs or not, as b says
 turned : (x b : Bool) → differs x (differs x b) ≡ b
-turned true true = refl
-turned true false = refl
-turned false true = refl
-turned false false = refl
+turned x b = grind (arith, nat_tests)
 
 turned_left : (y b : Bool) → differs (differs y b) y ≡ b
-turned_left true true = refl
-turned_left true false = refl
-turned_left false true = refl
-turned_left false false = refl
+turned_left y b = grind (arith, nat_tests)
 
 differ-reached : (f g : Option Bool) (y b : Bool) → Allows g y → Allows (differ f g) b → Both f g differs b
 differ-reached (Some a) (Some c) y b hy h = record { left = a; right = c; left-ok = refl; right-ok = refl; is = h }
@@ -80,16 +75,14 @@ differ-reached (Some a) None y b hy h = record { left = a; right = differs a b; 
 differ-reached None g y b hy h = record { left = differs y b; right = y; left-ok = tt; right-ok = hy; is = turned_left y b }
 
 not-not : (b : Bool) → not (not b) ≡ b
-not-not true = refl
-not-not false = refl
+not-not b = grind (arith, nat_tests)
 
 opposite-back : (f : Option Bool) (b : Bool) → Allows (opposite f) b → Allows f (not b)
 opposite-back (Some a) b h = sym (not-not a) ∙ ap not h
 opposite-back None b h = tt
 
 neither : (a b : Bool) → (not a && not b) ≡ not (a || b)
-neither true b = refl
-neither false b = refl
+neither a b = grind (arith, nat_tests)
 
 -- A condition c of the flags, of which t is known: t allows what c is, and what t allows c is in some agreeing status.
 record FlagsReached (f : Flags) (c : Status → Bool) (b : Bool) : Type 0 where
@@ -187,13 +180,9 @@ module _ (f : Flags) (g : Status) (h : FlagsAgree f g) where
             };
       }
 
-opposite-twice : (f : Option Bool) → opposite (opposite f) ≡ f
-opposite-twice (Some a) = ap Some (not-not a)
-opposite-twice None = refl
-
 -- what is known of 'neither' is the opposite of what is known of 'either'
 both_is : (f g : Option Bool) → both (opposite f) (opposite g) ≡ opposite (either f g)
-both_is f g = rw (opposite-twice f, opposite-twice g)
+both_is f g = grind (arith, nat_tests)
 
 exact-neither : (f : Flags) (g : Status) (x y : Option Bool) (c d : Status → Bool) → ExactFlags f g (either x y) (λ h. c h || d h)
     → ExactFlags f g (both (opposite x) (opposite y)) (λ h. not (c h) && not (d h))
@@ -248,7 +237,7 @@ counting p x = record { register = update p.register 1 x; status = p.status }
 
 -- the low n bits, as a part that begins at bit 0
 low_bits : (n x : ℕ) → x % 2 ^ n ≡ x / 2 ^ 0 % 2 ^ n
-low_bits n x = ap (λ (y : ℕ). y % 2 ^ n) (sym (div-one x))
+low_bits n x = grind (arith, nat_tests)
 
 module _ (s : State) (p : Processor) (agrees : Agrees s p) where
   pub exact-jump : (c : Condition) → Exact s p (flag_condition c s.flags) (λ q. jumps_on c q.status)

@@ -1,42 +1,33 @@
 -- An operation's result and flags by the rules are those by the manual, at every width.
-use Prim.Native.Nat.{ℕ, zero, suc, ◌+◌, ◌-◌, ◌/◌, ◌%◌, ◌^◌, ◌≤◌, ◌<◌}
-use mathlib.Core.Logic.{◌≢◌}
+use Rattle.std.proofs.lemmas.Bool.Decides.{nat_tests}
+use Prim.Native.Nat.{ℕ, zero, suc, ◌+◌, ◌-◌, ◌/◌, ◌%◌, ◌^◌, ◌<◌}
 use mathlib.Core.Path.{◌≡◌, refl, ◌∙◌}
 use mathlib.Core.Bool.{not, ◌||◌}
 use native.Mathlib.Nat.{mod-one, zero-add}
 use native.Mathlib.Numerals.{add-one}
 use native.Mathlib.Omega.{arith}
-use borrow.Author.Tests.{ltb-true, ltb-false, eqb-true, eqb-false, lt-ltb, le-ltb, le-leb, lt-leb, ne_eqb}
 use lib.Dec.{leb, ltb, eqb}
 use lib.Pow.{field, mod-mod-pow}
 use lib.Count.{ones, ones_step}
 use Rattle.alu.specs.declared.Width.{Width}
-use Rattle.alu.specs.declared.Width.TheVariants.{Byte, Word, Double, Quad}
 use Rattle.alu.specs.declared.Operation.{Operation}
 use Rattle.alu.specs.declared.Operation.TheVariants.{Add, Sub}
 use Rattle.alu.specs.declared.Performed.{Performed}
 use Rattle.alu.specs.Width.{bits}
 use Rattle.concrete.specs.Concrete.{Result, lifted, sum, difference, ones_below, status_of}
 use Rattle.concrete.specs.Agreement.{FlagsAgree}
-use Rattle.concrete.proofs.Arithmetic.{wrap-below, carry-law, sum-overflow-law, difference-overflow-law}
+use Rattle.concrete.proofs.Arithmetic.{carry-law, sum-overflow-law, difference-overflow-law}
 use Rattle.alu.specs.Arithmetic as rules
-use Rattle.laws.proofs.Booleans.{by_test}
 
 -- half of a width's numbers, and all of them
 abbrev pub half : Width → ℕ
 half w = 2 ^ (bits w - 1)
 
 pub halves : (w : Width) → 2 ^ bits w ≡ half w + half w
-halves Byte = refl
-halves Word = refl
-halves Double = refl
-halves Quad = refl
+halves w = grind (arith, nat_tests)
 
 pub half_pos : (w : Width) → 0 < half w
-half_pos Byte = omega arith
-half_pos Word = omega arith
-half_pos Double = omega arith
-half_pos Quad = omega arith
+half_pos w = grind (arith, nat_tests)
 
 pub ones_below_lem : (k x : ℕ) → ones_below k x ≡ ones (x % 2 ^ k)
 unfolding ones_below ones
@@ -69,26 +60,15 @@ matches op w a b r value-is carry-is overflow-is =
 
 -- a value of the width is its own remainder
 pub within : (w : Width) (a b : ℕ) → b < 2 ^ bits w → (a + (2 ^ bits w - b % 2 ^ bits w)) % 2 ^ bits w ≡ (a + (2 ^ bits w - b)) % 2 ^ bits w
-within w a b h = rw (wrap-below h)
+within w a b h = grind (arith, nat_tests)
 
 -- zero minus a: out of range only for the least number
 pub negation-overflow : (h a : ℕ) → 0 < h → a < h + h
     → (ltb (lifted h 0 + h) (lifted h a) || leb (lifted h a + h) (lifted h 0)) ≡ eqb a h
-negation-overflow h a h0 ha =
-    by_test (ltb a h)
-    (λ t. let k : a < h = ltb-true a h t in
-    rw (t, lt-ltb 0 h h0, ne_eqb a h (λ e. omega arith), le-ltb (0 + h + h) (a + h) (omega arith), lt-leb (a + h + h) (0 + h) (omega arith)))
-    (λ t. let k : h ≤ a = ltb-false a h t in
-    rw (t, lt-ltb 0 h h0, le-ltb (0 + h + h) (a - h) (omega arith))
-    (by_test (eqb a h)
-    (λ u. let e : a ≡ h = eqb-true a h u in rw u (le-leb (a - h + h) (0 + h) (omega arith)))
-    (λ u. let e : a ≢ h = eqb-false a h u in rw u (lt-leb (a - h + h) (0 + h) (omega arith)))))
+negation-overflow h a h0 ha = grind (arith, nat_tests)
 
 pub zero_test : (a : ℕ) → ltb 0 a ≡ not (eqb a 0)
-zero_test a =
-    by_test (eqb a 0)
-    (λ t. rw t (le-ltb 0 a (omega (arith, eqb-true a 0 t))))
-    (λ t. let e : a ≢ 0 = eqb-false a 0 t in rw t (lt-ltb 0 a (omega arith)))
+zero_test a = grind (arith, nat_tests)
 
 module _ (w : Width) (a b : ℕ) (ha : a < 2 ^ bits w) (hb : b < 2 ^ bits w) where
   ha' : a < half w + half w

@@ -1,4 +1,5 @@
 -- Reads, writes and forgetting keep agreement.
+use Rattle.std.proofs.lemmas.Bool.Decides.{nat_tests}
 use Rattle.std.proofs.Common.{None, Option, Some}
 use Rattle.std.specs.Option.{option_map}
 use Prim.{Unit, tt}
@@ -181,8 +182,7 @@ merge-law double old (Some y) was x h o w = omega (arith, w.1)
 merge-law quad old (Some y) was x h o w = omega (arith, w.0, w.1)
 
 contents-slot : (v : Option ℕ) → contents (slot_of v) ≡ v
-contents-slot (Some x) = refl
-contents-slot None = refl
+contents-slot v = grind (arith, nat_tests)
 
 -- the words of the registers after one is replaced
 module _ (words : List ℕ) (index value marks : ℕ) where
@@ -217,20 +217,11 @@ replaced-same s index slot y h =
 
 pub replaced-other : (s : State) (index k : ℕ) (slot : Slot) → k ≢ index → slot_at (replaced s index slot) k ≡ slot_at s k
 unfolding slot_at replaced
-replaced-other s index k slot other =
-    by_test (ltb index 16)
-    (λ t. by_test (ltb k 16)
-    (λ u.
-    let low : index < 16 = ltb-true index 16 t in
-    let here : k < 16 = ltb-true k 16 u in
-    let kept = elsewhere s.registers index slot.value slot.known in
-    rw (t, u, kept k other (λ e. omega arith), kept (16 + k) (λ e. omega arith) (λ e. other (omega arith))))
-    (λ u. rw (t, u)))
-    (λ t. rw t)
+replaced-other s index k slot other = grind (arith, nat_tests, elsewhere)
 
 assign-status : (p : Processor) (r : Register) (x : ℕ) → (assign p r x).status ≡ p.status
 unfolding assign
-assign-status p r x = by_test (eqb r.class 1) (λ t. rw t) (λ t. rw t)
+assign-status p r x = grind (arith, nat_tests)
 
 with_part_lem : (w : Width) (offset : ℕ) (slot : Slot) (v : Option ℕ) (y : ℕ) → Allows (merged w offset (contents slot) v) y
     → Allows (contents (with_part (Some w) offset slot v)) y

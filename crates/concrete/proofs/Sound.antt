@@ -1,5 +1,6 @@
 -- Step soundness: agreement of what is known with the concrete state is kept by every instruction that reading accepts,
 -- whatever is chosen for what is free. The theorem is `step-sound`, at the end.
+use Rattle.std.proofs.lemmas.Bool.Decides.{nat_tests}
 use Rattle.std.proofs.Common.{None, Option, Some}
 use Rattle.std.specs.Option.{option_map}
 use Prim.{Unit, tt}
@@ -20,7 +21,6 @@ use Rattle.isa.specs.declared.Operand.TheVariants.{Absent, Reg, Imm, Mem}
 use Rattle.isa.specs.declared.CarryChange.{CarryChange}
 use Rattle.isa.specs.declared.CarryChange.TheVariants.{Stc, Clc, Cmc}
 use Rattle.isa.specs.declared.Binary.{Binary}
-use Rattle.isa.specs.declared.Binary.TheVariants.{Add, Sub, Cmp, And, Or, Xor, Test}
 use Rattle.isa.specs.declared.Unary.{Unary}
 use Rattle.isa.specs.declared.Unary.TheVariants.{Inc, Dec, Neg}
 use Rattle.isa.specs.declared.Mnemonic.{Mnemonic}
@@ -44,10 +44,10 @@ use Rattle.machine.specs.Rules.{writes as writes_result, same_register, carry_st
 use Rattle.concrete.specs.Concrete.{Status, Processor, Choice, value, part, assign, argument, computed, computed_alone, with_status, with_own_carry, carry_after, keeps, binary, alone, on_register, on_operand, by_manual, by_declaration, executed, executed_all}
 use Rattle.concrete.specs.Agreement.{Allows, FlagsAgree, Agrees, operand_well_formed, Accepted, AllAccepted}
 use Rattle.concrete.proofs.Outcome.{Matches}
-use Rattle.concrete.proofs.Registers.{Form, low_byte, high_byte, word, double, quad, form, width_in, width-law, bits-law, reads, part-below, Stores, stores-known, writes, never}
+use Rattle.concrete.proofs.Registers.{Form, low_byte, high_byte, word, double, quad, form, width_in, width-law, bits-law, reads, part-below, Stores, stores-known, writes}
 use Rattle.concrete.proofs.Forget.{less-known, less_both, forgets, forgotten-agrees}
 use Rattle.concrete.proofs.Effects.{right, alone-matches, alone-below, EffectAgrees, arith-agrees, kept-agrees}
-use Rattle.laws.proofs.Booleans.{and_left, or_left, or_right, by_test}
+use Rattle.laws.proofs.Booleans.{or_left, or_right, by_test}
 
 -- ---- operands
 
@@ -60,7 +60,7 @@ SizeFits size Mem = Unit {0}
 
 read-outside : (s : State) (r : Register) → eqb r.class 1 ≡ false → read_of s r ≡ None
 unfolding read_of
-read-outside s r t = rw t
+read-outside s r t = grind (arith, nat_tests)
 
 operand_agrees : (s : State) (p : Processor) (free : Choice) {size offset : ℕ} → Form size offset → (o : Operand)
     → Agrees s p → operand_well_formed o ≡ true → Allows (operand_of s size o) (argument p free size o)
@@ -86,19 +86,7 @@ argument-below p free size Mem fits = mod-lt _ (pow_pos size)
 same-argument : (p : Processor) (free : Choice) (size : ℕ) (d : Register) (o : Operand) → eqb d.class 1 ≡ true
     → same_register d o ≡ true → argument p free size o ≡ part p d
 unfolding argument part
-same-argument p free size d Absent one h = never h
-same-argument p free size d (Reg r) one h =
-    by_test (eqb r.class d.class)
-    (λ t1. by_test (eqb r.index d.index)
-    (λ t2. by_test (eqb r.size d.size)
-    (λ t3. by_test (eqb r.offset d.offset)
-    (λ t4. rw (eqb-true r.class d.class t1, one, eqb-true r.index d.index t2, eqb-true r.size d.size t3, eqb-true r.offset d.offset t4))
-    (λ t4. never (rw (t1, t2, t3, t4) at h)))
-    (λ t3. never (rw (t1, t2, t3) at h)))
-    (λ t2. never (rw (t1, t2) at h)))
-    (λ t1. never (rw t1 at h))
-same-argument p free size d (Imm x) one h = never h
-same-argument p free size d Mem one h = never h
+same-argument p free size d o one h = grind (arith, nat_tests)
 
 -- ---- the parts of a step
 
@@ -129,8 +117,7 @@ finish-agrees s p d false e x g agrees ok one v below flags = record { registers
 
 -- a register of class 1 that reads as unknown is unknown
 on-unknown : (f : ℕ → ℕ) (v : Option ℕ) → option_map f v ≡ None → v ≡ None
-on-unknown f (Some x) h = cc
-on-unknown f None h = refl
+on-unknown f v h = grind (arith, nat_tests)
 
 pub unread : (s : State) (r : Register) → well_formed r ≡ true → eqb r.class 1 ≡ true → read_of s r ≡ None → whole_of s r.index ≡ None
 unfolding read_of part_of
@@ -141,9 +128,7 @@ forgot-flag declared f b h = rw h tt
 
 -- all that inc, dec and neg set, but CF, is declared
 result-declared : (op : Unary) (d : ℕ) → declares_own op d ≡ true → declares_result d ≡ true
-result-declared Inc d h = h
-result-declared Dec d h = h
-result-declared Neg d h = and_left (declares_result d) (bit.declares d bit.CF) h
+result-declared op d h = grind (arith, nat_tests)
 
 forgot-result : (d : ℕ) (f : Flags) (carry : Option Bool) (g : Status) → Allows carry g.cf → declares_result d ≡ true
     → FlagsAgree (with_carry (forget_flags d f) carry) g
@@ -167,13 +152,7 @@ unknown-flags Neg d cf c f g declared h = forgot-result d f None g tt (result-de
 
 -- rules and manual agree on what is written
 same_writes : (op : Binary) → writes_result op ≡ keeps op
-same_writes Add = refl
-same_writes Sub = refl
-same_writes Cmp = refl
-same_writes And = refl
-same_writes Or = refl
-same_writes Xor = refl
-same_writes Test = refl
+same_writes op = grind (arith, nat_tests)
 
 module _ (s : State) (p : Processor) (free : Choice) (agrees : Agrees s p) (d : Register) (ok : well_formed d ≡ true) where
   -- mov
@@ -271,12 +250,11 @@ carry-allows Clc f b h = refl
 carry-allows Cmc f b h = opposite-allows f b h
 
 and-false : (a b : Bool) → (a && b) ≡ false → a ≡ true → b ≡ false
-and-false true b h t = h
-and-false false b h t = never t
+and-false a b h t = grind (arith, nat_tests)
 
 -- a register first that is not outside class 1
 inside : (d : Register) (o : Operand) → (true && (outside (Reg d) || outside o)) ≡ false → eqb d.class 1 ≡ true
-inside d o h = not-false _ (or_left (outside (Reg d)) (outside o) h)
+inside d o h = grind (arith, nat_tests)
 
 -- the three faults that a modelled instruction does not have
 record Faultless (m : Mnemonic) (a b : Operand) (flags : ℕ) : Type 0 where

@@ -1,12 +1,11 @@
 -- Blocks, forced: the verdict on a flag branch is always, or never, exactly where what is known forces the branch that way.
+use Rattle.std.proofs.Common.{None, Option, Some}
 use Prim.Native.Nat.{ℕ}
 use mathlib.Core.Path.{◌≡◌, refl, ap, ◌∙◌}
 use mathlib.Core.List.{List}
 use mathlib.Core.Logic.{◌↔◌}
 use mathlib.Core.Bool.{Bool, true, false}
 use Rattle.isa.specs.declared.Mnemonic.{Mnemonic}
-use Rattle.alu.specs.declared.Flag.{Flag}
-use Rattle.alu.specs.declared.Flag.TheVariants.{Known, Unknown}
 use Rattle.machine.specs.declared.State.{State}
 use Rattle.machine.specs.Registers.{nothing_known}
 use Rattle.concrete.specs.Concrete.{Processor, Choice, executed_all}
@@ -19,7 +18,6 @@ use Rattle.sheet.specs.Sheet.{reading_of}
 use Rattle.verdict.specs.declared.Reason.TheVariants.{Flags}
 use Rattle.verdict.specs.declared.Verdict.{Verdict}
 use Rattle.verdict.specs.declared.Verdict.TheVariants.{Always, Never}
-use Rattle.verdict_block.specs.declared.Jump.TheVariants.{Conditional}
 use Rattle.verdict_block.specs.Verdict.{code_of, Parts, apart, flag_verdict, end_at, end_from, end_on, verdict_on}
 use Rattle.verdict_block.specs.Verdict.Parts.{none, ending}
 use Rattle.theorems.specs.Runs.{Forced}
@@ -30,15 +28,15 @@ abbrev pub saying : Bool → Verdict
 saying true = Always Flags
 saying false = Never Flags
 
-judged-is : (f : Flag) (b : Bool) → flag_verdict f ≡ saying b → f ≡ Known b
-judged-is (Known true) true e = refl
-judged-is (Known true) false e = cc
-judged-is (Known false) true e = cc
-judged-is (Known false) false e = refl
-judged-is Unknown true e = cc
-judged-is Unknown false e = cc
+judged-is : (f : Option Bool) (b : Bool) → flag_verdict f ≡ saying b → f ≡ Some b
+judged-is (Some true) true e = refl
+judged-is (Some true) false e = cc
+judged-is (Some false) true e = cc
+judged-is (Some false) false e = refl
+judged-is None true e = cc
+judged-is None false e = cc
 
-is-judged : (b : Bool) → flag_verdict (Known b) ≡ saying b
+is-judged : (b : Bool) → flag_verdict (Some b) ≡ saying b
 is-judged true = refl
 is-judged false = refl
 
@@ -63,7 +61,7 @@ possible s p (ending before i) a agrees =
 
 -- The theorem: for every accepted sheet and every block of it that ends in a conditional branch.
 pub blocks-forced : (s : List ℕ) (sheet : Sheet) → reading_of s ≡ reading.Accepted sheet → (number : ℕ) (known : State) (m : Mnemonic)
-    → end_on s number nothing_known ≡ record { known = known; jump = Conditional m }
+    → end_on s number nothing_known ≡ record { known = known; jump = Some m }
     → (b : Bool) → (verdict_on s number ≡ saying b) ↔ Forced known m b
 unfolding verdict_on end_on end_from
 blocks-forced s sheet read number known m e b =

@@ -1,5 +1,6 @@
 -- Blocks, by the answers that the contract of the block verdict speaks of: whatever the bytes, no run goes against a decision, and a decision is
 -- given exactly where what is known forces the branch.
+use Rattle.std.proofs.Common.{Some}
 use Prim.Native.Nat.{ℕ, ◌<◌}
 use mathlib.Core.Path.{◌≡◌, refl, sym, subst, ◌∙◌}
 use mathlib.Core.List.{List}
@@ -21,7 +22,6 @@ use Rattle.verdict.specs.Numbers.{verdict_numbers, answer_numbers}
 use Rattle.verdict.specs.Numbers.Numbers.{decision}
 use Rattle.verdict.specs.declared.Answer.TheVariants.{Given}
 use Rattle.verdict.proofs.Apart.{answers-apart}
-use Rattle.verdict_block.specs.declared.Jump.TheVariants.{Conditional}
 use Rattle.verdict_block.specs.Verdict.{Parts, apart, code_of, end_from, end_on, verdict_on}
 use Rattle.verdict_block.specs.Verdict.Parts.{none, ending}
 use Rattle.answer_block.specs.Block.{on_reading, block_answer}
@@ -91,7 +91,7 @@ not-saying false e = let z : ◌≡◌ {A = ℕ} 0 1 = cc in absurd (omega arith
 -- what is known at a block's end
 ends_on : (s : List ℕ) (sheet : Sheet) → reading_of s ≡ reading.Accepted sheet → (number : ℕ) (before : List Instruction) (last : Instruction)
     → EndsIn s number before last
-    → end_on s number nothing_known ≡ record { known = stepped_all nothing_known before; jump = Conditional last.mnemonic }
+    → end_on s number nothing_known ≡ record { known = stepped_all nothing_known before; jump = Some last.mnemonic }
 unfolding end_on end_from
 ends_on s sheet read number before last h = rw (ends-apart s sheet read number before last h, h.branch)
 

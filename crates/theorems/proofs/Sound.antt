@@ -1,5 +1,6 @@
 -- Blocks, whole runs: whatever the start state and whatever is free, no run of a block of an accepted sheet goes against
 -- its verdict.
+use Rattle.std.proofs.Common.{None, Option, Some}
 use Prim.Native.Nat.{ℕ, zero, suc}
 use mathlib.Core.Path.{◌≡◌, refl, ap}
 use mathlib.Core.List.{List, [], ◌∷◌, ◌++◌}
@@ -13,8 +14,6 @@ use Rattle.isa.specs.declared.Operand.TheVariants.{Absent, Reg, Imm, Mem}
 use Rattle.isa.specs.declared.Instruction.{Instruction}
 use Rattle.machine.specs.declared.State.{State}
 use Rattle.isa.specs.declared.Mnemonic.{Mnemonic}
-use Rattle.alu.specs.declared.Flag.{Flag}
-use Rattle.alu.specs.declared.Flag.TheVariants.{Known, Unknown}
 use Rattle.machine.specs.Registers.{nothing_known}
 use Rattle.machine.specs.Rules.{stepped_all}
 use Rattle.machine.specs.Conditions.{condition_of}
@@ -112,11 +111,11 @@ before_last (i ∷ l) a = go (apart l) (before_last l a.1)
     go (ending before last) rest = (a.0, rest)
 
 -- a branch: what is decided of it is forced
-branch-right : (s : State) (p : Processor) (m : Mnemonic) (last : Bool) → Agrees s p → (d : Flag) → condition_of s m ≡ d
+branch-right : (s : State) (p : Processor) (m : Mnemonic) (last : Bool) → Agrees s p → (d : Option Bool) → condition_of s m ≡ d
     → NotAgainst (flag_verdict d) (jumped (outcome m p last))
-branch-right s p m last agrees (Known true) e = ap jumped ((forced s p agrees m true).0 e p last agrees)
-branch-right s p m last agrees (Known false) e = ap jumped ((forced s p agrees m false).0 e p last agrees)
-branch-right s p m last agrees Unknown e = tt
+branch-right s p m last agrees (Some true) e = ap jumped ((forced s p agrees m true).0 e p last agrees)
+branch-right s p m last agrees (Some false) e = ap jumped ((forced s p agrees m false).0 e p last agrees)
+branch-right s p m last agrees None e = tt
 
 last-right : (s : State) (p : Processor) (i : Instruction) (last : Bool) → Agrees s p
     → NotAgainst (judged s (jump_of i)) (cond i.branch (jumped (outcome i.mnemonic p last)) nothing)
