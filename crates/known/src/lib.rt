@@ -67,52 +67,55 @@ fn merge(w: Width, offset: u8, old: Option<u64>, v: Option<u64>) -> Option<u64>
     }
 }
 
-// A register of which nothing is known.
-pub fn unknown() -> Slot
-    ensures { result ≡ unmarked }
-{
-    Slot { known: 0, value: 0 }
-}
-
-fn contents_of(s: Slot) -> Option<u64>
-    ensures { result ≡ contents s }
-{
-    if s.known == MARKS {
-        Some(s.value)
-    } else {
-        None
+impl Slot {
+    // A register of which nothing is known.
+    pub fn unknown() -> Self
+        ensures { result ≡ unmarked }
+    {
+        Slot { known: 0, value: 0 }
     }
-}
 
-fn slot_of(v: Option<u64>) -> Slot
-    ensures { result ≡ slot_of v }
-{
-    match v {
-        Some(value) => Slot {
-            known: MARKS,
-            value,
-        },
-        None => unknown(),
+    // A register known as a whole, or not at all.
+    fn of(v: Option<u64>) -> Self
+        ensures { result ≡ slot_of v }
+    {
+        match v {
+            Some(value) => Slot {
+                known: MARKS,
+                value,
+            },
+            None => Slot::unknown(),
+        }
     }
-}
 
-// What is known of a part of a register.
-#[tactic(auto, unfolding(crate::specs::Registers::part_of))]
-pub fn read(size: Option<Width>, offset: u8, s: Slot) -> Option<u64>
-    ensures { result ≡ part_of size offset s }
-{
-    let w = size?;
-    contents_of(s).map(|x| extract(w, offset, x))
-}
+    fn contents(self) -> Option<u64>
+        ensures { result ≡ contents self }
+    {
+        if self.known == MARKS {
+            Some(self.value)
+        } else {
+            None
+        }
+    }
 
-// What is known of a register after a write to a part of it.
-#[tactic(auto, unfolding(crate::specs::Registers::with_part))]
-pub fn write(size: Option<Width>, offset: u8, s: Slot, v: Option<u64>) -> Slot
-    ensures { result ≡ with_part size offset s v }
-{
-    match size {
-        Some(w) => slot_of(merge(w, offset, contents_of(s), v)),
-        None => unknown(),
+    // What is known of a part of a register.
+    #[tactic(auto, unfolding(crate::specs::Registers::part_of))]
+    pub fn read(self, size: Option<Width>, offset: u8) -> Option<u64>
+        ensures { result ≡ part_of size offset self }
+    {
+        let w = size?;
+        self.contents().map(|x| extract(w, offset, x))
+    }
+
+    // What is known of a register after a write to a part of it.
+    #[tactic(auto, unfolding(crate::specs::Registers::with_part))]
+    pub fn write(self, size: Option<Width>, offset: u8, v: Option<u64>) -> Self
+        ensures { result ≡ with_part size offset self v }
+    {
+        match size {
+            Some(w) => Slot::of(merge(w, offset, self.contents(), v)),
+            None => Slot::unknown(),
+        }
     }
 }
 

@@ -46,7 +46,7 @@ impl State {
                 value: self.registers[k],
             }
         } else {
-            known::unknown()
+            Slot::unknown()
         }
     }
 
@@ -68,7 +68,7 @@ impl State {
         ensures { result ≡ read_of self.now r }
     {
         if r.class == 1 {
-            known::read(alu::width_of(r.size), r.offset, self.slot_at(r.index))
+            self.slot_at(r.index).read(alu::width_of(r.size), r.offset)
         } else {
             None
         }
@@ -80,11 +80,10 @@ impl State {
         ensures { self.new ≡ written self.old r v }
     {
         if r.class == 1 {
-            let old = self.slot_at(r.index);
-            self.replace(
-                r.index,
-                known::write(alu::width_of(r.size), r.offset, old, v),
-            );
+            let new = self
+                .slot_at(r.index)
+                .write(alu::width_of(r.size), r.offset, v);
+            self.replace(r.index, new);
         }
     }
 
@@ -106,11 +105,12 @@ impl State {
         ensures { self.new ≡ forget_register self.old r }
     {
         if r.class == 1 {
-            self.replace(r.index, known::unknown());
+            self.replace(r.index, Slot::unknown());
         }
     }
 
-    // Forget what the instruction declares as written.
+    // Forget what the instruction declares as written. Inlined, as a call would have every instruction put into memory.
+    #[inline(always)]
     #[tactic(auto, unfolding(crate::specs::Registers::forgotten, crate::specs::Registers::forget_registers))]
     fn forget(&mut self, i: Instruction)
         ensures { self.new ≡ forgotten self.old i }
