@@ -11,12 +11,9 @@ use Rattle.isa.specs.declared.Condition.TheVariants.{E, Ne, L, Ge, Le, G, B, Ae,
 use Rattle.isa.specs.declared.Mnemonic.{Mnemonic}
 use Rattle.isa.specs.declared.Mnemonic.TheVariants.{Other, Carry, Mov, Not, TwoOperand, OneOperand, Jump, CountJump}
 use Rattle.isa.specs.declared.Instruction.{Instruction}
-use Rattle.alu.specs.declared.Flag.{Flag}
-use Rattle.alu.specs.declared.Flag.TheVariants as flag
 use Rattle.alu.specs.declared.Flags.{Flags}
 use Rattle.alu.specs.Flags as flags
-use Rattle.known.specs.declared.Value.{Value}
-use Rattle.known.specs.declared.Value.TheVariants.{Known, Unknown}
+use Rattle.std.proofs.Common.{Option, Some, None}
 use Rattle.known.specs.Operations.{no_flags}
 use Rattle.machine.specs.declared.State.{State}
 use Rattle.machine.specs.Registers.{nothing_known, read_of}
@@ -28,16 +25,16 @@ use Rattle.sentence.specs.Why.{Why, why_stepped, why_stepped_all, no_why}
 use Rattle.sentence.specs.Told.{Told, flag_told, opposite, differ, either, both, flags_told, condition_told, count_told, told_of, sentence_of}
 use Rattle.sentence.specs.Told.Told.{known, unknown}
 use Rattle.sentence.proofs.Decided.{without, told-without}
-use Rattle.sentence.proofs.Texts.{Some, not-empty, behind-any, joined-some, value-some}
+use Rattle.sentence.proofs.Texts.{NotEmpty, not-empty, behind-any, joined-some, value-some}
 use Rattle.sentence.proofs.Changes.{Way, Change, changed}
 use Rattle.sentence.proofs.Changes.Change.{unknown as becomes-unknown, set, stays, kept, round}
 
 -- ---- flags
 
 -- a text for a flag that is known
-pub data HasText : Flag → List ℕ → Type 0 where
-  given : {b : Bool} {text : List ℕ} → Some text → HasText (flag.Known b) text
-  no-need : {text : List ℕ} → HasText flag.Unknown text
+pub data HasText : Option Bool → List ℕ → Type 0 where
+  given : {b : Bool} {text : List ℕ} → NotEmpty text → HasText (Some b) text
+  no-need : {text : List ℕ} → HasText None text
 
 -- a text for each flag that is known
 pub record Filled (f : Flags) (w : Why) : Type 0 where
@@ -47,9 +44,9 @@ pub record Filled (f : Flags) (w : Why) : Type 0 where
   pub sf : HasText f.sf w.sf
   pub of : HasText f.of w.of
 
-has_some : (f : Flag) {text : List ℕ} → Some text → HasText f text
-has_some (flag.Known b) some = given some
-has_some flag.Unknown some = no-need
+has_some : (f : Option Bool) {text : List ℕ} → NotEmpty text → HasText f text
+has_some (Some b) some = given some
+has_some None some = no-need
 
 filled_none : (w : Why) → Filled no_flags w
 filled_none w = record { cf = no-need; pf = no-need; zf = no-need; sf = no-need; of = no-need }
@@ -57,7 +54,7 @@ filled_none w = record { cf = no-need; pf = no-need; zf = no-need; sf = no-need;
 -- ---- instructions
 
 -- what an instruction makes of a flag and its text
-has-still : {way : Way} {own : List ℕ} {lacks : Bool} {f g : Flag} {old new : List ℕ} → Change way own lacks f old g new → HasText f old → HasText g new
+has-still : {way : Way} {own : List ℕ} {lacks : Bool} {f g : Option Bool} {old new : List ℕ} → Change way own lacks f old g new → HasText f old → HasText g new
 unfolding ascii
 has-still becomes-unknown h = no-need
 has-still (set some) h = has_some _ some
@@ -90,10 +87,10 @@ from_start code = all-filled nothing_known no_why code (filled_none no_why)
 
 -- it has a text where it is known
 data SaysSome : Told → Type 0 where
-  tells : {b : Bool} {text : List ℕ} → Some text → SaysSome (known b text)
+  tells : {b : Bool} {text : List ℕ} → NotEmpty text → SaysSome (known b text)
   silent : SaysSome unknown
 
-flag-says : {f : Flag} {text : List ℕ} → HasText f text → SaysSome (flag_told f text)
+flag-says : {f : Option Bool} {text : List ℕ} → HasText f text → SaysSome (flag_told f text)
 flag-says (given some) = tells some
 flag-says no-need = silent
 
@@ -142,9 +139,9 @@ condition-says : (c : Condition) (f : Flags) (w : Why) → Filled f w → SaysSo
 unfolding condition_told
 condition-says c f w h = flags-say c (flag-says h.cf) (flag-says h.pf) (flag-says h.zf) (flag-says h.sf) (flag-says h.of)
 
-count-says : (r : Register) (v : Value) → SaysSome (count_told r v)
-count-says r (Known x) = tells (value-some r x)
-count-says r Unknown = silent
+count-says : (r : Register) (v : Option ℕ) → SaysSome (count_told r v)
+count-says r (Some x) = tells (value-some r x)
+count-says r None = silent
 
 -- What is told of a branch has a text where it is known.
 told-says : (s : State) (w : Why) (m : Mnemonic) → Filled s.flags w → SaysSome (told_of s w m)
@@ -159,9 +156,9 @@ told-says s w (Jump c) h = condition-says c s.flags w h
 told-says s w (CountJump c) h = count-says (count_register c) (read_of s (count_register c))
 
 -- So there is no sentence exactly where the condition is not known.
-pub empty-unknown : (s : State) (w : Why) (m : Mnemonic) → Filled s.flags w → (sentence_of (told_of s w m) ≡ []) ↔ (condition_of s m ≡ flag.Unknown)
+pub empty-unknown : (s : State) (w : Why) (m : Mnemonic) → Filled s.flags w → (sentence_of (told_of s w m) ≡ []) ↔ (condition_of s m ≡ None)
 empty-unknown s w m h = rw (← told-without s w m) (go (told-says s w m h))
   where
-    go : {t : Told} → SaysSome t → (sentence_of t ≡ []) ↔ (without t ≡ flag.Unknown)
+    go : {t : Told} → SaysSome t → (sentence_of t ≡ []) ↔ (without t ≡ None)
     go (tells some) = (λ e. absurd (some e), λ e. let z : ◌≡◌ {A = ℕ} 0 1 = cc in absurd (omega arith))
     go silent = (λ e. refl, λ e. refl)

@@ -9,8 +9,7 @@ use borrow.Author.Tests.{ltb-true, ltb-false, leb-true, leb-false, lt-ltb, le-lt
 use lib.Dec.{leb, ltb}
 use lib.ListN.{length, drop, get_or, length-append, length-drop}
 use lib.Seq.{take-append_seam, get_or-append-add, get_or-drop}
-use Rattle.alu.specs.declared.Flag.{Flag}
-use Rattle.alu.specs.declared.Flag.TheVariants as flag
+use Rattle.std.proofs.Common.{Option, Some, None}
 use Rattle.machine.specs.declared.State.{State}
 use Rattle.machine.specs.Registers.{nothing_known}
 use Rattle.machine.specs.Rules.{stepped_all}
@@ -24,7 +23,6 @@ use Rattle.verdict.specs.declared.Verdict.{Verdict}
 use Rattle.verdict.specs.declared.Verdict.TheVariants.{Always, Never, Undecided, NoBranch}
 use Rattle.verdict.specs.Numbers.{Numbers, verdict_numbers}
 use Rattle.verdict.specs.Numbers.Numbers.{undecided, no_branch, refused as refused_block}
-use Rattle.verdict_block.specs.declared.Jump.TheVariants.{Conditional, Nothing}
 use Rattle.verdict_block.specs.Verdict.{Parts, apart, code_of, end_at, end_from, end_on, verdict_at, verdict_on, judged, flag_verdict}
 use Rattle.verdict_block.specs.Verdict.Parts.{none, ending}
 use Rattle.sentence.specs.Why.{no_why, why_stepped_all}
@@ -51,15 +49,15 @@ Open v = (v ≡ Undecided) ⊎ (v ≡ NoBranch)
 abbrev NoVerdict : Numbers → Type 0
 NoVerdict a = (a ≡ undecided) ⊎ (a ≡ no_branch)
 
-not-open : {X : Type 0} (b : Bool) → Open (flag_verdict (flag.Known b)) → X
-not-open true (inl e) = let z : ◌≡◌ {A = ℕ} 0 1 = cc in absurd (omega arith)
-not-open true (inr e) = let z : ◌≡◌ {A = ℕ} 0 1 = cc in absurd (omega arith)
-not-open false (inl e) = let z : ◌≡◌ {A = ℕ} 0 1 = cc in absurd (omega arith)
-not-open false (inr e) = let z : ◌≡◌ {A = ℕ} 0 1 = cc in absurd (omega arith)
+not-open : {X : Type 0} (b : Bool) → Open (flag_verdict (Some b)) → X
+not-open true (inl e) = cc
+not-open true (inr e) = cc
+not-open false (inl e) = cc
+not-open false (inr e) = cc
 
-unknown-open : (f : Flag) → (f ≡ flag.Unknown) ↔ Open (flag_verdict f)
-unknown-open (flag.Known b) = (λ e. let z : ◌≡◌ {A = ℕ} 0 1 = cc in absurd (omega arith), not-open b)
-unknown-open flag.Unknown = (λ e. inl refl, λ o. refl)
+unknown-open : (f : Option Bool) → (f ≡ None) ↔ Open (flag_verdict f)
+unknown-open (Some b) = (λ e. cc, not-open b)
+unknown-open None = (λ e. inl refl, λ o. refl)
 
 empty-at : (parts : Parts) → (sentence_at nothing_known no_why parts ≡ []) ↔ Open (verdict_at (end_at nothing_known parts))
 empty-at none = (λ e. inr refl, λ o. refl)
@@ -69,15 +67,15 @@ empty-at (ending before last) = go last.branch
     known = stepped_all nothing_known before
 
     empty : (sentence_of (told_of known (why_stepped_all nothing_known no_why before) last.mnemonic) ≡ [])
-        ↔ (condition_of known last.mnemonic ≡ flag.Unknown)
+        ↔ (condition_of known last.mnemonic ≡ None)
     empty = empty-unknown known (why_stepped_all nothing_known no_why before) last.mnemonic (from_start before)
 
-    unknown : (condition_of known last.mnemonic ≡ flag.Unknown) ↔ Open (flag_verdict (condition_of known last.mnemonic))
+    unknown : (condition_of known last.mnemonic ≡ None) ↔ Open (flag_verdict (condition_of known last.mnemonic))
     unknown = unknown-open (condition_of known last.mnemonic)
 
     go : (b : Bool)
-        → (jump_sentence known (why_stepped_all nothing_known no_why before) (cond b (Conditional last.mnemonic) Nothing) ≡ [])
-        ↔ Open (judged known (cond b (Conditional last.mnemonic) Nothing))
+        → (jump_sentence known (why_stepped_all nothing_known no_why before) (cond b (Some last.mnemonic) None) ≡ [])
+        ↔ Open (judged known (cond b (Some last.mnemonic) None))
     go true = (λ e. unknown.0 (empty.0 e), λ o. empty.1 (unknown.1 o))
     go false = (λ e. inr refl, λ o. refl)
 
