@@ -83,3 +83,6 @@ byte-short n h = rw digits_long (places-most 10 2 n (omega arith) (omega arith))
 
 pub one-short : (n : ℕ) → n ≤ 9 → length (decimal n) ≤ 1
 one-short n h = rw (digits_long, places-few 10 n (omega arith)) (omega arith)
+
+-- how long the pieces of a text are
+pub ruleset short = (digits_long, word-short, byte-short)

@@ -1,14 +1,16 @@
 -- Text put into a buffer piece by piece.
 use Prim.Native.Nat.{ℕ, zero, suc, ◌+◌, ◌-◌, ◌/◌, ◌%◌, ◌≤◌, ◌<◌}
 use mathlib.Core.Path.{◌≡◌, refl, sym, ap, ◌∙◌}
-use mathlib.Core.List.{List, [], ◌∷◌, ◌++◌}
-use native.Mathlib.Numerals.{add-one, sub-one}
+use mathlib.Core.List.{List, [], ◌∷◌, ◌++◌, append_assoc}
+use native.Mathlib.Numerals.{sub-one}
 use native.Mathlib.Nat.{add-zero, zero-add, add-suc, suc-add}
 use native.Mathlib.Omega.{arith}
-use lib.ListN.{length, take, drop, set, get_or, length-append, length-set}
-use lib.Seq.{slice, sets, sets-eq, length-sets, set_comm, drop-cons, drop-length, drop_at, take-add, length-take-le}
+use lib.ListN.{length, take, drop, set, length-append, length-set}
+use lib.Seq.{slice, sets, sets-eq, length-sets, set_comm, drop_at, drop-drop, take-add, length-take-le}
+use borrow.Rule.Slice.PartMut.{put_mid}
 use Rattle.text.specs.Digits.{digit, digits, places_of}
-use Rattle.text.specs.Promises.{Put, Written}
+use Rattle.text.specs.declared.Writer.{Writer}
+use Rattle.text.specs.Promises.{Put, Puts, Written}
 use Rattle.text.proofs.Lengths.{digits_long}
 
 -- one text after the other
@@ -28,29 +30,35 @@ pub put_then : {old mid new : List ℕ} {at m n : ℕ} {a b : List ℕ} → Put 
 put_then {old} {mid} {new} {at} {m} {n} {a} {b} p q = record {
   is = q.is ∙ rw (p.is, p.end) (sets-append old at a b);
   end = omega (arith, p.end, q.end, length-append a b);
+  long = q.long ∙ p.long;
   inside = q.inside;
 }
 
-pub put-long : {old new : List ℕ} {at next : ℕ} {text : List ℕ} → Put old new at next text → length new ≡ length old
-put-long {old} {new} {at} {next} {text} p = ap length p.is ∙ length-sets old at text
+pub puts_then : {old mid new : Writer} {a b : List ℕ} → Puts old mid a → Puts mid new b → Puts old new (a ++ b)
+puts_then p q = record { same = q.same ∙ p.same; put = put_then p.put q.put }
 
 -- nothing put
 pub put-none : (l : List ℕ) (at : ℕ) → at ≤ length l → Put l l at at []
-put-none l at h = record { is = refl; end = sym (add-zero at); inside = h }
+put-none l at h = record { is = refl; end = sym (add-zero at); long = refl; inside = h }
 
 -- a text from the buffer's start on
 pub written : {old new : List ℕ} {count : ℕ} {text : List ℕ} → Put old new 0 count text → Written old new count text
 written {old} {new} {count} {text} p =
-    let fits : 0 + length text ≤ length old = omega (arith, p.end, p.inside, put-long p) in
+    let fits : 0 + length text ≤ length old = omega (arith, p.end, p.inside, p.long) in
     record {
       is = p.is ∙ sets-eq text old 0 fits ∙ rw (zero-add (length text));
       long = omega (arith, p.end);
     }
 
+-- what a writer has put since it was made is the text at its buffer's start
+pub puts_written : {start end : Writer} {old new text : List ℕ} → start.out.now ≡ old → start.at ≡ 0 → Puts start end text → new ≡ end.out.now
+    → Written old new end.at text
+puts_written {start} {end} {old} {new} {text} before none p after = rw after (written (rw (before, none) at p.put))
+
 -- what is left of the buffer, after a text of at most so many bytes
 pub room : {old new : List ℕ} {at next : ℕ} {text : List ℕ} (most more : ℕ) → Put old new at next text → length text ≤ most
     → at + (most + more) ≤ length old → next + more ≤ length new
-room most more p short fits = omega (arith, p.end, put-long p)
+room most more p short fits = omega (arith, p.end, p.long)
 
 -- a text that ends within so many bytes from a start, after one more piece
 pub end-within : {old new : List ℕ} {at next : ℕ} {text : List ℕ} (start most before : ℕ) → Put old new at next text → length text ≤ most
@@ -85,31 +93,17 @@ digits-next {n} {base} {width} {at} {old} {new} {rest} {x} (suc j) d some x-is =
 pub digits-done : {n base width at : ℕ} {old new : List ℕ} {rest : ℕ} (i : ℕ) → DigitsLeft n base width at old new i rest → i ≤ 0
     → at + width ≤ length old → Put old new at (at + width) (digits base width n)
 unfolding digits
-digits-done {n} {base} {width} {at} {old} {new} {rest} zero d none fits = record { is = d.left; end = rw digits_long; inside = omega (arith, d.long) }
+digits-done {n} {base} {width} {at} {old} {new} {rest} zero d none fits = record { is = d.left; end = rw digits_long; long = d.long; inside = omega (arith, d.long) }
 digits-done (suc j) d none fits = absurd (omega arith)
 
--- a word stored byte by byte
-pub record WordLeft (word : List ℕ) (at : ℕ) (old new : List ℕ) (i : ℕ) : Type 0 where
-  pub within : i ≤ length word
-  pub long : length new ≡ length old
-  pub left : sets new (at + i) (drop i word) ≡ sets old at word
-
-pub word-start : (word : List ℕ) (at : ℕ) (old : List ℕ) → WordLeft word at old old 0
-word-start word at old = record { within = omega arith; long = refl; left = rw add-zero }
-
-pub word_next : {word : List ℕ} {at : ℕ} {old new : List ℕ} {i : ℕ} → WordLeft word at old new i → i < length word
-    → WordLeft word at old (set new (at + i) (get_or word i 0)) (i + 1)
-word_next {word} {at} {old} {new} {i} w less = record {
-  within = omega arith;
-  long = length-set new (at + i) (get_or word i 0) ∙ w.long;
-  left = rw (add-one, add-suc) (sym (rw (drop-cons word i 0 less) at (sym w.left)));
-}
-
-pub word-done : {word : List ℕ} {at : ℕ} {old new : List ℕ} {i : ℕ} → WordLeft word at old new i → length word ≤ i
-    → at + length word ≤ length old → Put old new at (at + length word) word
-word-done {word} {at} {old} {new} {i} w end fits =
-    let all : i ≡ length word = omega (arith, w.within) in
-    record { is = rw (all, drop-length) at w.left; end = refl; inside = omega (arith, w.long) }
+-- a word in the place of the bytes from an offset on
+pub word-put : (old word part : List ℕ) (at : ℕ) → at + length word ≤ length old → part ≡ word
+    → Put old (put_mid at (at + length word - at) old part) at (at + length word) word
+word-put old word part at fits same =
+    let k : at + length word - at ≡ length word = omega arith in
+    let is : put_mid at (at + length word - at) old part ≡ sets old at word =
+    rw (k, same, drop-drop) (sym (append_assoc (take at old) word (drop (at + length word) old)) ∙ sym (sets-eq word old at fits)) in
+    record { is = is; end = refl; long = ap length is ∙ length-sets old at word; inside = rw (ap length is ∙ length-sets old at word) fits }
 
 -- a number by as many digits as it has
 pub put-places : {old new : List ℕ} {at next k : ℕ} (base n : ℕ) → k ≡ places_of base n → Put old new at next (digits base k n)

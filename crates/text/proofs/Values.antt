@@ -3,13 +3,13 @@ use Prim.Native.Nat.{ℕ, zero, suc, ◌+◌, ◌*◌, ◌/◌, ◌%◌, ◌^◌
 use mathlib.Core.Path.{◌≡◌, refl, sym, ◌∙◌}
 use mathlib.Core.Bool.{Bool, true, false, cond}
 use mathlib.Core.List.{List, [], ◌∷◌, ◌++◌}
-use native.Mathlib.Nat.{pow-zero, pow-suc, mul-pos, one-mul, mod-lt, mod-one, mod-eq_of_lt, div-lt_iff_lt-mul}
+use native.Mathlib.Nat.{pow-zero, pow-suc, pow-succ', pow-le-pow_right, mul-pos, one-mul, mod-lt, mod-one, mod-eq_of_lt, div-lt_iff_lt-mul}
 use native.Mathlib.Omega.{arith}
 use lib.Arith.{mod-mul}
-use lib.Dec.{ltb}
-use borrow.Author.Tests.{ltb-true, ltb-false, lt-ltb, le-ltb}
+use lib.Dec.{leb, ltb}
+use borrow.Author.Tests.{leb-true, leb-false, ltb-true, ltb-false, lt-ltb, le-ltb}
 use Rattle.text.specs.Digits.{digit, digits, places_within, places_of}
-use Rattle.text.proofs.Lengths.{falls}
+use Rattle.text.proofs.Lengths.{falls, places-most}
 use Rattle.text.specs.Numbers.{digit_value, number_after, number_of}
 
 pow-positive : (base k : ℕ) → 0 < base → 0 < base ^ k
@@ -51,6 +51,17 @@ within-enough base (suc times) n two h =
 -- a number's digits make it; with places-most, so many digits and no fewer do
 pub places-enough : (base n : ℕ) → 2 ≤ base → n < base ^ places_of base n
 places-enough base n two = within-enough base n n two (omega arith)
+
+-- the whole part of a logarithm is one less than the number of digits
+pub places-log : (base k n : ℕ) → 2 ≤ base → base ^ k ≤ n → n < base * base ^ k → suc k ≡ places_of base n
+places-log base k n two low high =
+    let most : places_of base n ≤ suc k = places-most base k n (omega arith) (rw pow-succ' high) in
+    go (leb (places_of base n) k) refl most
+  where
+    go : (few : Bool) → leb (places_of base n) k ≡ few → places_of base n ≤ suc k → suc k ≡ places_of base n
+    go true e most =
+        absurd (omega (arith, pow-le-pow_right {n = base} (omega arith) (leb-true (places_of base n) k e), places-enough base n two, low))
+    go false e most = omega (arith, leb-false (places_of base n) k e, most)
 
 pub number_is : (base n : ℕ) → 2 ≤ base → base ≤ 16 → number_of base (digits base (places_of base n) n) ≡ n
 number_is base n two most = digits_number base (places_of base n) n (omega arith) most ∙ mod-eq_of_lt (places-enough base n two)

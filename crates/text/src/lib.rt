@@ -4,28 +4,66 @@
 ghost use Rattle.std.specs.Prelude.{◌≡◌, ◌+◌, ◌-◌, ◌<◌, ◌≤◌, length};
 ghost use Rattle.std.proofs.Math.Seq.{slice};
 ghost use Rattle.text.specs.Digits.{digit as digit_of, digits, places_of, decimal};
-ghost use Rattle.text.specs.Promises.{Put};
+ghost use Rattle.text.specs.Promises.{Puts};
 
-pub fn put_word(word: &[u8], out: &mut [u8], at: usize) -> usize
-    requires { at + length word.now ≤ length out.old }
-    ensures { Put out.old out.new at result word.now }
-{
-    let mut i = 0;
-    while i < word.len() {
-        out[at + i] = word[i];
-        i += 1;
-    }
-    at + word.len()
+// A buffer that text is put into, and the offset that the next text goes to.
+#[derive(Drop)]
+pub struct Writer<'a> {
+    pub out: &'a mut [u8],
+    pub at: usize,
 }
 
-// Puts a part of a word.
-pub fn put_part(word: &[u8], from: usize, to: usize, out: &mut [u8], at: usize) -> usize
-    requires from_le_to { from ≤ to }
-    requires to_in_bounds { to ≤ length word.now }
-    requires from_in_bounds { at + (to - from) ≤ length out.old }
-    ensures { Put out.old out.new at result (slice from to word.now) }
-{
-    put_word(&word[from..to], out, at)
+impl<'a> Writer<'a> {
+    // A writer at the buffer's start.
+    pub fn new(out: &'a mut [u8]) -> Writer<'a>
+        ensures same { result.out.ghost_name ≡ out.entry.ghost_name }
+        ensures out { result.out.now ≡ out.old }
+        ensures at { result.at ≡ 0 }
+    {
+        Writer { out, at: 0 }
+    }
+
+    pub fn put_word(&mut self, word: &[u8])
+        requires { self.old.at + length word.now ≤ length self.old.out.now }
+        ensures { Puts self.old self.new word.now }
+    {
+        let end = self.at + word.len();
+        self.out[self.at..end].copy_from_slice(word);
+        self.at = end;
+    }
+
+    // Puts a part of a word.
+    pub fn put_part(&mut self, word: &[u8], from: usize, to: usize)
+        requires from_le_to { from ≤ to }
+        requires to_in_bounds { to ≤ length word.now }
+        requires part_in_bounds { self.old.at + (to - from) ≤ length self.old.out.now }
+        ensures { Puts self.old self.new (slice from to word.now) }
+    {
+        self.put_word(&word[from..to]);
+    }
+
+    // Puts the last digits of n in a base, as many as the width.
+    pub fn put_digits(&mut self, n: u64, base: u64, width: usize)
+        requires base_nonzero { 0 < base }
+        requires base_bound { base ≤ 16 }
+        requires width_in_bounds { self.old.at + width ≤ length self.old.out.now }
+        ensures { Puts self.old self.new (digits base width n) }
+    {
+        let mut rest = n;
+        for i in (0..width).rev() {
+            self.out[self.at + i] = digit(rest % base);
+            rest /= base;
+        }
+        self.at += width;
+    }
+
+    // Puts n in base ten.
+    pub fn put_decimal(&mut self, n: u64)
+        requires { self.old.at + length (decimal n) ≤ length self.old.out.now }
+        ensures { Puts self.old self.new (decimal n) }
+    {
+        self.put_digits(n, 10, places(n, 10));
+    }
 }
 
 // The digit's code.
@@ -33,24 +71,11 @@ fn digit(d: u64) -> u8
     requires { d < 16 }
     ensures { result ≡ digit_of d }
 {
-    if d < 10 { 48 + d as u8 } else { 87 + d as u8 }
-}
-
-// Puts the last digits of n in a base, as many as the width, and gives the offset after them.
-pub fn put_digits(n: u64, base: u64, width: usize, out: &mut [u8], at: usize) -> usize
-    requires base_nonzero { 0 < base }
-    requires base_bound { base ≤ 16 }
-    requires width_in_bounds { at + width ≤ length out.old }
-    ensures { Put out.old out.new at result (digits base width n) }
-{
-    let mut i = width;
-    let mut rest = n;
-    while i > 0 {
-        i -= 1;
-        out[at + i] = digit(rest % base);
-        rest /= base;
+    if d < 10 {
+        b'0' + d as u8
+    } else {
+        b'a' - 10 + d as u8
     }
-    at + width
 }
 
 // How many digits n has in a base.
@@ -58,19 +83,5 @@ pub fn places(n: u64, base: u64) -> usize
     requires { 2 ≤ base }
     ensures { result ≡ places_of base n }
 {
-    let mut k: usize = 1;
-    let mut rest = n;
-    while rest >= base {
-        rest /= base;
-        k += 1;
-    }
-    k
-}
-
-// Puts n in base ten.
-pub fn put_decimal(n: u64, out: &mut [u8], at: usize) -> usize
-    requires { at + length (decimal n) ≤ length out.old }
-    ensures { Put out.old out.new at result (decimal n) }
-{
-    put_digits(n, 10, places(n, 10), out, at)
+    if n == 0 { 1 } else { n.ilog(base) as usize + 1 }
 }

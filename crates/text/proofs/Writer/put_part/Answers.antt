@@ -1,5 +1,5 @@
 use Rattle.text.proofs.Puts.{part-is}
-use Rattle.text.proofs.put_part.Goals as goal
+use Rattle.text.proofs.Writer.put_part.Goals as goal
 
 pub returns : goal.returns
 returns c =
