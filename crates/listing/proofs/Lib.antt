@@ -1,5 +1,3 @@
--- what a read gave
-pub mod Given
 -- entries that lines were written to
 pub mod Entries
 -- the text of the listing's answer

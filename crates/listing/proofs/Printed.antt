@@ -1,12 +1,11 @@
 -- The text of the listing's answer on a list that is long enough is what the program writes.
 use Prim.Native.Nat.{ℕ, ◌*◌, ◌≤◌, ◌<◌}
-use mathlib.Core.Path.{◌≡◌, refl, sym, ap, ◌∙◌}
+use mathlib.Core.Path.{◌≡◌, refl, sym, ◌∙◌}
 use mathlib.Core.Bool.{Bool, true, false}
 use mathlib.Core.List.{List, [], ◌∷◌}
 use native.Mathlib.Omega.{arith}
 use lib.Dec.{leb}
-use lib.ListN.{length, take, drop, length-append}
-use lib.Seq.{length-take-le, take_at}
+use lib.ListN.{length, length-append}
 use borrow.Author.Tests.{leb-false, lt-ltb, le-ltb}
 use Rattle.isa.specs.declared.Instruction.{Instruction}
 use Rattle.verdict.specs.declared.Verdict.{Verdict}
@@ -28,10 +27,7 @@ use Rattle.answer_listing.specs.Listing.{Listing, listed_numbers, written, on_ju
 use Rattle.answer_listing.specs.Listing.ListedNumbers.{lines, refused}
 use Rattle.listing_text.specs.Text.{branches_text, refusal_text, entries_text}
 use Rattle.text.specs.Promises.{Written}
-use Rattle.listing.specs.declared.Ending.{Ending}
-use Rattle.listing.specs.declared.Ending.TheVariants as ending
 use Rattle.listing.specs.Program.{lines_text, judged_text, read_text, printed}
-use Rattle.listing.specs.Promises.{Ended}
 use Rattle.listing.proofs.Entries.{entries-lines}
 
 -- at most one line for each instruction
@@ -93,9 +89,6 @@ pub printed_long : (s : List ℕ) → 65536 < length s → printed s ≡ refusal
 unfolding printed
 printed_long s long = rw (lt-ltb 65536 (length s) long)
 
-pub too_long_lem : (s : List ℕ) {old new : List ℕ} {r : ℕ} → 65536 < length s → Written old new r (refusal_text 1 65536) → Written old new r (printed s)
-too_long_lem s long w = rw (printed_long s long) w
-
 -- at most 65,536 bytes are read
 pub within : (s : List ℕ) → length s ≤ 65536 → printed s ≡ read_text (reading_of s) s
 unfolding printed
@@ -121,20 +114,3 @@ module _ (s list : List ℕ) (room : length list ≡ 36864) where
       → listed_numbers r ≡ (listing_of s list).answer → r ≡ listed.Refused k p
       → Written old new count (refusal_text k p) → Written old new count (printed s)
   refusal-text {k = k} {p} short is refusal w = rw (within s short, says.of-refusal k p (sym is ∙ rw refusal)) w
-
--- the text lies within its buffer
-pub text-within : {old new : List ℕ} {r : ℕ} {text : List ℕ} → Written old new r text → r ≤ length new
-text-within {old} {new} {r} {text} w = omega (arith, w.long, ap length w.is, length-append text (drop (length text) old))
-
-pub text-counted : {old new : List ℕ} {r : ℕ} {text : List ℕ} → Written old new r text → r ≡ length (take r new)
-text-counted {old} {new} {r} w = sym (length-take-le r new (text-within w))
-
-pub text-front : {old new : List ℕ} {r : ℕ} {text : List ℕ} → Written old new r text → take r new ≡ text
-text-front {old} {new} {r} {text} w = rw (w.long, w.is) (take_at text (drop (length text) old) (length text) refl)
-
--- the program's end: with the text for what was read, or with nothing read
-pub ended : (e : Ending) (input : List ℕ) {old new : List ℕ} {n r : ℕ} → n ≤ length input → Written old new r (printed (take n input)) → Ended e input old new
-ended e input {n = n} within w = record { prepared = λ read. record { count = n; within = within; text = record { is = w.is; long = refl } } }
-
-pub unread : (input old new : List ℕ) → Ended ending.Unread input old new
-unread input old new = record { prepared = λ read. absurd (read refl) }

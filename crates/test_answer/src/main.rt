@@ -10,8 +10,13 @@ use answer_sentence::Told;
 use evaluate_node::Evaluation;
 use sheet::{Reading, Sheet};
 use std::io::Read;
-use test_io::{Ending, Next};
+use test_io::Early;
 use verdict::{Answer, Reason, Verdict};
+
+// How many bytes the longest frame that is read has, and the longest sentence of a block.
+const LONGEST_FRAME: usize = 1048576;
+
+const LONGEST_SENTENCE: usize = 49182;
 
 fn refused(output: &impl Print, k: u64, at: usize) -> bool {
     test_io::word(output, b"refused")
@@ -75,7 +80,7 @@ fn say_answer(output: &impl Print, a: Answer, past: bool) -> bool {
 
 // A bar and the sentence of the block of that number, nothing where it has none.
 fn say_sentence(output: &impl Print, s: &[u8], number: u64, past: bool) -> bool {
-    let mut text = test_io::text();
+    let mut text = [0u8; LONGEST_SENTENCE];
     let told = answer_sentence::block_sentence(s, number, &mut text);
     match told {
         Told::Length(n) => test_io::word(output, b"|") & test_io::start(output, &text, n),
@@ -110,10 +115,8 @@ fn say_name(output: &impl Print, said: Said) -> bool {
 
 fn say_all(output: &impl Print, s: &[u8], said: Said, n: u64) -> bool {
     let mut written = say_name(output, said);
-    let mut i: u64 = 0;
-    while i < n {
-        written = written & say_one(output, s, said, i, false);
-        i += 1;
+    for i in 0..n {
+        written &= say_one(output, s, said, i, false);
     }
     written & say_one(output, s, said, n, true)
 }
@@ -123,7 +126,7 @@ fn count_of(sheet: Sheet, said: Said) -> u64 {
     let nodes = sheet.nodes;
     match said {
         Said::Nodes => nodes.count,
-        _ => blocks.count,
+        Said::Blocks | Said::Sentences => blocks.count,
     }
 }
 
@@ -152,61 +155,33 @@ fn say_evaluation(output: &impl Print, e: Evaluation) -> bool {
 }
 
 // Ends the line.
-fn line(output: &impl Print, written: bool) -> Ending {
+fn line(output: &impl Print, written: bool) -> Result<(), Early> {
     if written & test_io::word(output, b"\n") {
-        Ending::Whole
+        Ok(())
     } else {
-        Ending::Unwritten
+        Err(Early::Unwritten)
     }
 }
 
-// A value and the offset after it, or the end of the bytes.
-#[derive(Clone, Copy)]
-enum Taken {
-    Value(u64, usize),
-    Cut,
+// The value that the bytes begin with, and the bytes after it; none where they end before.
+fn take_value(s: &[u8]) -> Option<(u64, &[u8])> {
+    let (n, rest) = s.split_first()?;
+    if *n > 8 {
+        return None;
+    }
+    let (value, rest) = rest.split_at_checked(*n as usize)?;
+    Some((test_io::eight(value), rest))
 }
 
-// The value at that offset.
-fn take_value(s: &[u8], at: usize) -> Taken {
-    if at >= s.len() {
-        return Taken::Cut;
+// Fills the list with the values that the bytes begin with, and gives the bytes after them.
+fn take_set<'a>(s: &'a [u8], values: &mut [u64]) -> Option<&'a [u8]> {
+    let mut rest = s;
+    for place in values {
+        let (value, next) = take_value(rest)?;
+        *place = value;
+        rest = next;
     }
-    let n = test_io::byte(s, at) as usize;
-    let from = at + 1;
-    if n > 8 {
-        return Taken::Cut;
-    }
-    if n > s.len() - from {
-        return Taken::Cut;
-    }
-    let next = from + n;
-    Taken::Value(test_io::eight(&s[from..next]), next)
-}
-
-// Where a set that was read ends.
-#[derive(Clone, Copy)]
-enum Set {
-    To(usize),
-    Cut,
-}
-
-// Fills the list with the values from that offset on.
-fn take_set(s: &[u8], from: usize, values: &mut [u64]) -> Set {
-    let mut at = from;
-    let mut i: usize = 0;
-    while i < values.len() {
-        let taken = take_value(s, at);
-        match taken {
-            Taken::Cut => return Set::Cut,
-            Taken::Value(v, next) => {
-                values[i] = v;
-                at = next;
-            }
-        }
-        i += 1;
-    }
-    Set::To(at)
+    Some(rest)
 }
 
 // The evaluation on each set, all on one line.
@@ -217,111 +192,71 @@ fn say_sets(
     sets: &[u8],
     count: u32,
     values: &mut [u64],
-) -> Ending {
-    let mut at: usize = 0;
-    let mut i: u32 = 0;
-    while i < count {
-        let set = take_set(sets, at, values);
-        match set {
-            Set::Cut => return Ending::Cut,
-            Set::To(next) => at = next,
-        }
+) -> Result<(), Early> {
+    let mut rest = sets;
+    for i in 0..count {
+        rest = take_set(rest, values).ok_or(Early::Cut)?;
         if !(comma(output, i)
             & say_evaluation(output, answer_evaluation::evaluation(sheet, node, values)))
         {
-            return Ending::Unwritten;
+            return Err(Early::Unwritten);
         }
-        i += 1;
     }
-    if at < sets.len() {
-        return Ending::TooLong;
+    if !rest.is_empty() {
+        return Err(Early::TooLong);
     }
     line(output, true)
 }
 
 // The frame of an evaluation, after the operation's number.
-fn answer_evaluation(output: &impl Print, s: &[u8], values: &mut [u64]) -> Ending {
+fn answer_evaluation(output: &impl Print, s: &[u8], values: &mut [u64]) -> Result<(), Early> {
     if s.len() < 16 {
-        return Ending::Cut;
+        return Err(Early::Cut);
     }
     let node = test_io::four(s) as u64;
     let each = test_io::four(&s[4..]) as usize;
     let count = test_io::four(&s[8..]);
-    let end = 16 + test_io::four(&s[12..]) as usize;
-    if values.len() < each {
-        return Ending::TooManyValues;
-    }
-    if s.len() < end {
-        return Ending::Cut;
-    }
-    say_sets(
-        output,
-        &s[16..end],
-        node,
-        &s[end..],
-        count,
-        &mut values[..each],
-    )
+    let length = test_io::four(&s[12..]) as usize;
+    let values = values.get_mut(..each).ok_or(Early::TooManyValues)?;
+    let (sheet, sets) = s[16..].split_at_checked(length).ok_or(Early::Cut)?;
+    say_sets(output, sheet, node, sets, count, values)
 }
 
-fn answer(output: &impl Print, s: &[u8], values: &mut [u64]) -> Ending {
-    if s.len() == 0 {
-        return Ending::Cut;
-    }
-    match s[0] {
-        0 => line(output, say_reading(output, &s[1..])),
-        1 => line(output, say_records(output, &s[1..], Said::Blocks)),
-        2 => answer_evaluation(output, &s[1..], values),
-        3 => line(output, say_records(output, &s[1..], Said::Nodes)),
-        4 => line(output, say_records(output, &s[1..], Said::Sentences)),
-        _ => Ending::NoOperation,
+fn answer(output: &impl Print, frame: &[u8], values: &mut [u64]) -> Result<(), Early> {
+    let (operation, s) = frame.split_first().ok_or(Early::Cut)?;
+    match *operation {
+        0 => line(output, say_reading(output, s)),
+        1 => line(output, say_records(output, s, Said::Blocks)),
+        2 => answer_evaluation(output, s, values),
+        3 => line(output, say_records(output, s, Said::Nodes)),
+        4 => line(output, say_records(output, s, Said::Sentences)),
+        _ => Err(Early::NoOperation),
     }
 }
 
-// Answers the next frame. The rest is over where there is none, or where it has no answer.
-fn answer_next<R: Read>(
-    input: &mut R,
-    output: &impl Print,
-    buf: &mut [u8],
-    values: &mut [u64],
-) -> Next {
-    let next = test_io::next_frame(input, buf);
-    match next {
-        Next::Over(e) => Next::Over(e),
-        Next::Frame(n) => {
-            let e = answer(output, &buf[..n], values);
-            match e {
-                Ending::Whole => Next::Frame(n),
-                _ => Next::Over(e),
-            }
-        }
-    }
-}
-
+// Answers the frames up to the input's end, or up to one that has no answer.
 fn answer_all<R: Read>(
     input: &mut R,
     output: &impl Print,
     buf: &mut [u8],
     values: &mut [u64],
-) -> Ending {
-    let mut turns = u64::MAX;
-    while turns > 0 {
-        let next = answer_next(input, output, buf, values);
-        if let Next::Over(e) = next {
-            return e;
+) -> Result<(), Early> {
+    for _ in 0..u64::MAX {
+        match test_io::next_frame(input, buf)? {
+            None => return Ok(()),
+            Some(n) => answer(output, &buf[..n], values)?,
         }
-        turns -= 1;
     }
-    Ending::Whole
+    Ok(())
 }
 
 // It always ends with status 0, so one that ends too early says so on standard output too, where the lines are compared.
 fn main(rt: HostRuntime) {
-    let mut buf = test_io::room();
+    let mut buf = [0u8; LONGEST_FRAME];
     let mut values = [0u64; 256];
     let output = rt.stdout();
-    let ending = answer_all(&mut rt.stdin(), &output, &mut buf, &mut values);
-    if test_io::is_early(&rt.stderr(), ending) {
+    let end = answer_all(&mut rt.stdin(), &output, &mut buf, &mut values);
+    if test_io::is_early(&rt.stderr(), end) {
         test_io::word(&output, b"ended too early\n");
     }
 }

@@ -2,16 +2,15 @@
 // bytes and that many bytes; every number has its lowest byte first.
 #![tactic(auto)]
 
-ghost use Rattle.std.specs.Prelude.{◌≡◌, ◌≤◌, length};
-ghost use Rattle.test_io.specs.Frame.{Fits, is_early};
+ghost use Rattle.std.specs.Prelude.{◌≡◌, ◌≤◌, length, is_err, IfOk};
+ghost use Rattle.test_io.specs.Frame.{Fits};
 
+use std::fmt;
 use std::io::Read;
 
-// How a program ends.
-#[derive(Clone, Copy)]
-pub enum Ending {
-    // every frame was answered
-    Whole,
+// Why a program ends before every frame is answered.
+#[derive(Clone, Copy, PartialEq, Eq, Debug)]
+pub enum Early {
     // the input ends inside a frame, or a frame inside what it must have
     Cut,
     // a frame is longer than the buffer for it, or than what it must have
@@ -24,11 +23,17 @@ pub enum Ending {
     Unwritten,
 }
 
-// What comes next: a frame of that length at the start of the buffer, or the end.
-#[derive(Clone, Copy)]
-pub enum Next {
-    Frame(usize),
-    Over(Ending),
+impl fmt::Display for Early {
+    fn fmt<W: fmt::Write>(&self, f: &mut fmt::Formatter<W>) -> fmt::Result {
+        f.write_str(match self {
+            Early::Cut => "the input is cut",
+            Early::TooLong => "a frame is too long",
+            Early::TooManyValues => "a frame has too many values",
+            Early::NoOperation => "a frame names no operation",
+            Early::Unread => "the input cannot be read",
+            Early::Unwritten => "the output cannot be written",
+        })
+    }
 }
 
 // Whether all of it was written.
@@ -38,10 +43,7 @@ pub fn word(output: &impl Print, text: &[u8]) -> bool {
 
 // The first n bytes of the text, if it has as many.
 pub fn start(output: &impl Print, text: &[u8], n: usize) -> bool {
-    if text.len() < n {
-        return false;
-    }
-    word(output, &text[..n])
+    text.get(..n).is_some_and(|start| word(output, start))
 }
 
 pub fn digits(output: &impl Print, n: u64) -> bool {
@@ -53,78 +55,37 @@ pub fn number(output: &impl Print, n: u64) -> bool {
     word(output, b" ") & digits(output, n)
 }
 
-fn complain(errors: &impl Print, text: &[u8]) {
-    let _ = errors.write_all(text);
-}
-
 // Whether a program ends too early; if it does, says why.
-pub fn is_early(errors: &impl Print, e: Ending) -> bool
-    ensures { result ≡ is_early e }
+pub fn is_early(errors: &impl Print, end: Result<(), Early>) -> bool
+    ensures { result ≡ is_err end }
 {
-    match e {
-        Ending::Whole => false,
-        Ending::Cut => {
-            complain(errors, b"the input is cut\n");
-            true
-        }
-        Ending::TooLong => {
-            complain(errors, b"a frame is too long\n");
-            true
-        }
-        Ending::TooManyValues => {
-            complain(errors, b"a frame has too many values\n");
-            true
-        }
-        Ending::NoOperation => {
-            complain(errors, b"a frame names no operation\n");
-            true
-        }
-        Ending::Unread => {
-            complain(errors, b"the input cannot be read\n");
-            true
-        }
-        Ending::Unwritten => {
-            complain(errors, b"the output cannot be written\n");
+    match end {
+        Ok(()) => false,
+        Err(early) => {
+            let _ = errors.println(early);
             true
         }
     }
 }
 
-// A buffer for the longest frame that is read.
-pub fn room() -> [u8; 1048576]
-    ensures { 1048576 ≡ length result }
+// The first bytes, and 0 past the end.
+fn first<const N: usize>(s: &[u8]) -> [u8; N]
+    requires { N ≤ 8 }
 {
-    [0; 1048576]
-}
-
-// A buffer for the longest sentence of a block.
-pub fn text() -> [u8; 49182]
-    ensures { 49182 ≡ length result }
-{
-    [0; 49182]
-}
-
-// The byte at that offset, and 0 past the end.
-pub fn byte(s: &[u8], at: usize) -> u8 {
-    if at < s.len() { s[at] } else { 0 }
+    let mut bytes = [0; N];
+    let n = s.len().min(N);
+    bytes[..n].copy_from_slice(&s[..n]);
+    bytes
 }
 
 // The first four bytes, as a number.
 pub fn four(s: &[u8]) -> u32 {
-    let a = byte(s, 0) as u32;
-    let b = byte(s, 1) as u32;
-    let c = byte(s, 2) as u32;
-    let d = byte(s, 3) as u32;
-    a + 256 * (b + 256 * (c + 256 * d))
+    u32::from_le_bytes(first(s))
 }
 
 // The first eight bytes.
 pub fn eight(s: &[u8]) -> u64 {
-    let low = four(s) as u64;
-    if s.len() < 4 {
-        return low;
-    }
-    low + 4294967296 * (four(&s[4..]) as u64)
+    u64::from_le_bytes(first(s))
 }
 
 // Reads until the buffer is full, the input ends or a read fails, and gives how many bytes it put at the buffer's start.
@@ -134,55 +95,47 @@ fn read_full<R: Read>(input: &mut R, buf: &mut [u8]) -> usize
     let mut had: usize = 0;
     while had < buf.len() {
         match input.read(&mut buf[had..]) {
-            Err(_) => return had,
-            Ok(n) => {
-                if n == 0 {
-                    return had;
-                }
-                had += n;
-            }
+            Ok(0) | Err(_) => return had,
+            Ok(n) => had += n,
         }
     }
     had
 }
 
-// The frame of that length, at the start of the buffer.
-fn body<R: Read>(input: &mut R, buf: &mut [u8], n: usize) -> Next
-    ensures { Fits result (length buf.new) }
+// Reads a frame of that length to the start of the buffer.
+fn body<R: Read>(input: &mut R, buf: &mut [u8], n: usize) -> Result<usize, Early>
+    ensures { IfOk result (λ n. n ≤ length buf.new) }
 {
     if buf.len() < n {
-        return Next::Over(Ending::TooLong);
+        return Err(Early::TooLong);
     }
-    let had = read_full(input, &mut buf[..n]);
-    if had < n {
-        return Next::Over(Ending::Cut);
+    if read_full(input, &mut buf[..n]) < n {
+        return Err(Early::Cut);
     }
-    Next::Frame(n)
+    Ok(n)
 }
 
-// Fills the head, as a frame whose length is known. The input may end before its first byte, and not after.
-fn fill<R: Read>(input: &mut R, head: &mut [u8]) -> Next {
+// Fills the head of a frame, unless the input ends before its first byte: whether it was filled.
+fn fill<R: Read>(input: &mut R, head: &mut [u8]) -> Result<bool, Early> {
     match input.read(head) {
-        Err(_) => Next::Over(Ending::Unread),
+        Err(_) => Err(Early::Unread),
+        Ok(0) => Ok(false),
         Ok(n) => {
-            if n == 0 {
-                return Next::Over(Ending::Whole);
-            }
             if read_full(input, &mut head[n..]) < head.len() - n {
-                return Next::Over(Ending::Cut);
+                return Err(Early::Cut);
             }
-            Next::Frame(head.len())
+            Ok(true)
         }
     }
 }
 
-pub fn next_frame<R: Read>(input: &mut R, buf: &mut [u8]) -> Next
+// The length of the next frame, which then stands at the start of the buffer, or none at the input's end.
+pub fn next_frame<R: Read>(input: &mut R, buf: &mut [u8]) -> Result<Option<usize>, Early>
     ensures { Fits result (length buf.new) }
 {
     let mut head = [0u8; 4];
-    let filled = fill(input, &mut head);
-    match filled {
-        Next::Over(e) => Next::Over(e),
-        Next::Frame(_) => body(input, buf, four(&head) as usize),
+    if !fill(input, &mut head)? {
+        return Ok(None);
     }
+    Ok(Some(body(input, buf, four(&head) as usize)?))
 }

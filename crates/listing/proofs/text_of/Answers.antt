@@ -5,7 +5,7 @@ use Rattle.listing.proofs.text_of.Goals as goal
 pub write_branches-requires : goal.write_branches-requires
 write_branches-requires c =
     let few = count-few c.args.s.now c.args.list.now c.requires.list_len c.listing-listed.ensures.0 c.in-Lines.is in
-    record { count_in_bounds = omega (arith, few, c.requires.list_len, c.listing-listed.auto); count_in_bounds_2 = omega (arith, few, c.requires.in_bounds) }
+    record { count_in_bounds = omega (arith, few, c.requires.list_len, c.listing-listed.auto); lines_in_bounds = omega (arith, few, c.requires.in_bounds) }
 
 pub returns-in-Lines : goal.returns-in-Lines
 returns-in-Lines c =
