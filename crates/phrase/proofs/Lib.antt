@@ -1,4 +1,2 @@
--- a value put into a buffer
-pub mod Valued
--- the texts of causes
+-- the last letters of causes' texts
 pub mod Causes

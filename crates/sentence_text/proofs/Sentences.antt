@@ -1,4 +1,4 @@
--- Sentences by two parts of a buffer. Assumes nothing.
+-- Sentences by two parts of a buffer.
 use Prim.Native.Nat.{ℕ, zero, suc, ◌+◌, ◌-◌, ◌*◌, ◌≤◌, ◌<◌}
 use mathlib.Core.Path.{◌≡◌, refl, sym, ap, ap₂, ◌∙◌}
 use mathlib.Core.Bool.{true, false, cond, ◌&&◌}
@@ -12,15 +12,15 @@ use Rattle.laws.specs.Words.{same_words}
 use Rattle.laws.proofs.Booleans.{and_left, and_right, by_test}
 use Rattle.laws.proofs.SameWords.{words-true}
 use Rattle.text.specs.Promises.{Put, Written}
-use Rattle.text.proofs.Puts.{put_then, put-long, written}
+use Rattle.text.proofs.Puts.{put_then, written}
 use Rattle.phrase.specs.declared.Cause.{Cause}
 use Rattle.phrase.specs.Promises.{cause_text}
 use Rattle.sentence_text.specs.declared.Composed.{Composed}
 use Rattle.sentence_text.specs.declared.Said.TheVariants.{Joined}
 use Rattle.sentence_text.specs.declared.Said.{Said}
 use Rattle.sentence_text.specs.Sentence.{conjunction, joined, turned, turned_times}
+use Rattle.sentence_text.proofs.Turns.{turns_long}
 use Rattle.sentence_text.specs.Promises.{in_parts, Composes, said_text, turns_of}
-use Rattle.sentence_text.proofs.Turns.{turns-long}
 
 -- two texts as one
 joined_once : (a b : List ℕ) → same_words a b ≡ true → joined a b ≡ a
@@ -125,42 +125,25 @@ module _ {old m₁ m₂ new : List ℕ} {head next end : ℕ} {a b : List ℕ} (
   }
 
   -- the second text counts where it says something else
-  pub both : ((x : List ℕ) → b ≡ x ++ turned → ⊥) → {last : ℕ} → last ≡ cond (eqb n 0 && same_words (take head new) (slice next end new)) head end
+  both : ((x : List ℕ) → b ≡ x ++ turned → ⊥) → {last : ℕ} → last ≡ cond (eqb n 0 && same_words (take head new) (slice next end new)) head end
       → Composes (joined (a ++ turned_times n) b) n new (record { head = head; turns = n; end = last })
   both ends {last} e =
       by_test (eqb n 0 && same_words a b)
       (λ once. rw (e, same-is, once) (both-once once))
       (λ apart'. rw (e, same-is, apart') (both-apart ends apart'))
 
--- the length of a sentence, and the sentence written, if a text can hold it
-module _ (buffer : List ℕ) (head turns end : ℕ) (order : head ≤ end) (within : end ≤ length buffer) where
-  head-long : length (take head buffer) ≡ head
-  head-long = length-take-le head buffer (omega arith)
+  pub both_in : ((x : List ℕ) → b ≡ x ++ turned → ⊥) → {buffer : List ℕ} {last : ℕ}
+      → last ≡ cond (eqb n 0 && same_words (take head buffer) (slice next end buffer)) head end → buffer ≡ new
+      → Composes (joined (a ++ turned_times n) b) n buffer (record { head = head; turns = n; end = last })
+  both_in ends e same = rw same (both ends (rw same at e))
 
-  tail-long : length (slice head end buffer) ≡ end - head
-  tail-long = length-slice head end buffer within
+-- in a buffer that stays as it is
+pub composes_in : {text m new : List ℕ} {n : ℕ} {c : Composed} → Composes text n m c → new ≡ m → Composes text n new c
+composes_in is same = rw same is
 
-  parts-long : end + 24 * turns ≡ length (in_parts buffer head turns end)
-  parts-long =
-      sym (length-append (take head buffer ++ turned_times turns) (slice head end buffer)
-      ∙ omega (arith, length-append (take head buffer) (turned_times turns), head-long, turns-long turns, tail-long))
-
-  pub too_long_lem : (old : List ℕ) → length old < end + 24 * turns
-      → (end + 24 * turns ≡ length (in_parts buffer head turns end)) × (length old < length (in_parts buffer head turns end)) × (old ≡ old)
-  too_long_lem old h = (parts-long, omega (arith, parts-long), refl)
-
-  module _ (old : List ℕ) (fits : end + 24 * turns ≤ length old) where
-    module _ (m₁ : List ℕ) (k : ℕ) (p : Put old m₁ 0 k (take head buffer)) where
-      pub turns_fit : k + 24 * turns ≤ length m₁
-      turns_fit = omega (arith, head-long, p.end, put-long p)
-
-      module _ (m₂ : List ℕ) (l : ℕ) (q : Put m₁ m₂ k l (turned_times turns)) where
-        pub tail-fits : l + (end - head) ≤ length m₂
-        tail-fits = omega (arith, head-long, p.end, put-long p, q.end, put-long q, turns-long turns)
-
-        pub told : (m₃ : List ℕ) (count : ℕ) → Put m₂ m₃ l count (slice head end buffer)
-            → (length (in_parts buffer head turns end) ≤ length old) × Written old m₃ count (in_parts buffer head turns end)
-        told m₃ count r = (omega (arith, parts-long), written (put_then (put_then p q) r))
+-- how long two texts are with what cmc adds between them
+pub parts-long : (first : List ℕ) (turns : ℕ) (rest : List ℕ) → length (first ++ turned_times turns ++ rest) ≡ length first + 24 * turns + length rest
+parts-long first turns rest = rw (length-append, length-append, turns_long turns)
 
 -- the sentence of two causes
 pub said-both : {said : Said} {cause second : Cause} {n : ℕ} {new : List ℕ} {c : Composed} → said ≡ Joined cause n second

@@ -1,13 +1,12 @@
 -- What a sentence is made of, and what the functions that write it promise.
-use Rattle.std.specs.Prelude.{ℕ, ◌≤◌, ◌<◌, ◌≡◌, List, [], ◌++◌, length, take}
+use Rattle.std.specs.Prelude.{ℕ, ◌≤◌, ◌<◌, ◌≡◌, List, [], ◌++◌, length, take, Result, Ok, Err}
 use Rattle.std.proofs.Math.Seq.{slice}
 use Rattle.text.specs.Promises.{Written}
 use Rattle.phrase.specs.Promises.{cause_text}
 use Rattle.sentence_text.specs.declared.Said.{Said}
 use Rattle.sentence_text.specs.declared.Said.TheVariants.{Nothing, One, Joined}
 use Rattle.sentence_text.specs.declared.Composed.{Composed}
-use Rattle.sentence_text.specs.declared.Fit.{Fit}
-use Rattle.sentence_text.specs.declared.Fit.TheVariants.{Whole, Short}
+use Rattle.sentence_text.specs.declared.TooShort.{TooShort}
 use Rattle.sentence_text.specs.Sentence.{joined, turned_times}
 
 -- the sentence that is said (W7, W12)
@@ -34,7 +33,7 @@ pub record Composes (text : List ℕ) (turns : ℕ) (new : List ℕ) (c : Compos
   pub within : c.end ≤ length new
 
 -- What writing a text to a buffer's start gives: it is written, and its length is the answer; or the buffer is shorter than the text, and as it was,
--- and the answer is the length needed.
-abbrev pub Fits : Fit → (text old new : List ℕ) → Type 0
-Fits (Whole n) text old new = (length text ≤ length old) × Written old new n text
-Fits (Short n) text old new = (n ≡ length text) × (length old < length text) × (new ≡ old)
+-- and the error has the length needed.
+abbrev pub Fits : Result ℕ TooShort → (text old new : List ℕ) → Type 0
+Fits (Ok n) text old new = (length text ≤ length old) × Written old new n text
+Fits (Err e) text old new = (e.needed ≡ length text) × (length old < length text) × (new ≡ old)

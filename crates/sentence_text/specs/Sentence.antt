@@ -1,11 +1,10 @@
 -- How the texts of causes make a sentence.
-use Rattle.std.specs.Prelude.{ℕ, zero, suc, cond, List, [], ◌++◌}
+use Rattle.std.specs.Prelude.{ℕ, zero, suc, cond, List, [], ◌++◌, codes}
 use Rattle.laws.specs.Words.{same_words}
-use Rattle.text.specs.Ascii.{ascii}
 
 -- between two texts (W12)
 abbrev pub conjunction : List ℕ
-conjunction = ascii ", and "
+conjunction = codes ", and "
 
 -- Two texts as one: once where they are the same (W12).
 unfoldable pub joined : List ℕ → List ℕ → List ℕ
@@ -13,7 +12,7 @@ joined a b = cond (same_words a b) a (a ++ conjunction ++ b)
 
 -- what cmc adds (W7)
 abbrev pub turned : List ℕ
-turned = ascii ", and cmc turns it round"
+turned = codes ", and cmc turns it round"
 
 -- what several cmc add (W7)
 unfoldable pub turned_times : ℕ → List ℕ

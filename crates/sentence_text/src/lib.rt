@@ -4,12 +4,13 @@
 ghost use Rattle.std.specs.Prelude.{◌≡◌, ◌++◌, cond, ◌&&◌, ◌+◌, ◌*◌, ◌≤◌, eqb, length, take};
 ghost use Rattle.std.proofs.Math.Seq.{slice};
 ghost use Rattle.laws.specs.Words.{same_words};
-ghost use Rattle.text.specs.Promises.{Put};
+ghost use Rattle.text.specs.Promises.{Puts};
 ghost use Rattle.phrase.specs.Promises.{cause_text};
 ghost use Rattle.sentence_text.specs.Sentence.{joined, turned_times};
 ghost use Rattle.sentence_text.specs.Promises.{said_text, turns_of, in_parts, Composes, Fits};
 
 use phrase::Cause;
+use text::Writer;
 
 // What a sentence says. A number is how many cmc came after the cause before it.
 #[derive(Clone, Copy)]
@@ -23,16 +24,15 @@ pub enum Said {
 // A sentence by two parts of a buffer, up to `head` and from there up to `end`, with what so many cmc add between them.
 #[derive(Clone, Copy)]
 struct Composed {
-    pub head: usize,
-    pub turns: u64,
-    pub end: usize,
+    head: usize,
+    turns: u64,
+    end: usize,
 }
 
-// Whether a text was written, and its length.
-#[derive(Clone, Copy)]
-pub enum Fit {
-    Whole(usize),
-    Short(usize),
+// The text that was lent is shorter than the sentence, which needs so many bytes.
+#[derive(Clone, Copy, PartialEq, Eq, Debug)]
+pub struct TooShort {
+    pub needed: usize,
 }
 
 // Where a buffer ends that has one text up to `head` and another from `from` up to `end`: after the first, where no cmc follows it and both are the
@@ -46,38 +46,36 @@ fn joined_end(buffer: &[u8], turns: u64, head: usize, from: usize, end: usize) -
     if turns != 0 {
         return end;
     }
-    if head != end - from {
-        return end;
+    if buffer[..head] == buffer[from..end] {
+        head
+    } else {
+        end
     }
-    let mut i = 0;
-    while i < head {
-        if buffer[i] != buffer[from + i] {
-            return end;
-        }
-        i += 1;
-    }
-    head
 }
 
 // Puts two causes, with ", and " between them.
-fn put_both(cause: Cause, turns: u64, second: Cause, out: &mut [u8]) -> Composed
-    requires { 210 ≤ length out.old }
-    ensures { Composes (joined (cause_text cause ++ turned_times turns) (cause_text second)) turns out.new result }
+fn put_both(cause: Cause, turns: u64, second: Cause, buffer: &mut [u8]) -> Composed
+    requires { 210 ≤ length buffer.old }
+    ensures { Composes (joined (cause_text cause ++ turned_times turns) (cause_text second)) turns buffer.new result }
 {
-    let head = phrase::put_cause(cause, out, 0);
-    let next = text::put_word(b", and ", out, head);
-    let end = phrase::put_cause(second, out, next);
+    let mut out = Writer::new(buffer);
+    phrase::put_cause(cause, &mut out);
+    let head = out.at;
+    out.put_word(b", and ");
+    let from = out.at;
+    phrase::put_cause(second, &mut out);
+    let end = out.at;
     Composed {
         head,
         turns,
-        end: joined_end(out, turns, head, next, end),
+        end: joined_end(buffer, turns, head, from, end),
     }
 }
 
 // Puts the parts of a sentence into a buffer.
-fn compose(said: Said, out: &mut [u8]) -> Composed
-    requires { 210 ≤ length out.old }
-    ensures { Composes (said_text said) (turns_of said) out.new result }
+fn compose(said: Said, buffer: &mut [u8]) -> Composed
+    requires { 210 ≤ length buffer.old }
+    ensures { Composes (said_text said) (turns_of said) buffer.new result }
 {
     match said {
         Said::Nothing => Composed {
@@ -86,54 +84,53 @@ fn compose(said: Said, out: &mut [u8]) -> Composed
             end: 0,
         },
         Said::One(cause, turns) => {
-            let end = phrase::put_cause(cause, out, 0);
+            let mut out = Writer::new(buffer);
+            phrase::put_cause(cause, &mut out);
             Composed {
-                head: end,
+                head: out.at,
                 turns,
-                end,
+                end: out.at,
             }
         }
-        Said::Joined(cause, turns, second) => put_both(cause, turns, second, out),
+        Said::Joined(cause, turns, second) => put_both(cause, turns, second, buffer),
     }
 }
 
 // Puts what so many cmc add.
-fn put_turns(turns: u64, out: &mut [u8], at: usize) -> usize
-    requires { at + 24 * turns ≤ length out.old }
-    ensures { Put out.old out.new at result (turned_times turns) }
+#[tactic(auto, using(crate::proofs::Turns::turns_long))]
+fn put_turns(turns: u64, out: &mut Writer)
+    requires { out.old.at + 24 * turns ≤ length out.old.out.now }
+    ensures { Puts out.old out.new (turned_times turns) }
 {
-    let mut next = at;
-    let mut i: u64 = 0;
-    while i < turns {
-        next = text::put_word(b", and cmc turns it round", out, next);
-        i += 1;
+    for _turn in 0..turns {
+        out.put_word(b", and cmc turns it round");
     }
-    next
 }
 
-// Writes two parts of a buffer to the start of a text that can hold them, with what so many cmc add between them.
-fn write(buffer: &[u8], head: usize, turns: u64, end: usize, text: &mut [u8]) -> Fit
-    requires head_le_end { head ≤ end }
-    requires end_in_bounds { end ≤ length buffer.now }
-    requires buffer_len_bound { length buffer.now ≤ 210 }
+// Writes two texts to the start of one that can hold them, with what so many cmc add between them.
+#[tactic(auto, using(crate::proofs::Turns::turns_long))]
+fn write(first: &[u8], turns: u64, rest: &[u8], text: &mut [u8]) -> Result<usize, TooShort>
+    requires first_len_bound { length first.now + length rest.now ≤ 210 }
     requires turns_bound { turns ≤ 65536 }
-    ensures { Fits result (in_parts buffer.now head turns end) text.old text.new }
+    ensures { Fits result (first.now ++ turned_times turns ++ rest.now) text.old text.new }
 {
-    let needed = end + 24 * turns as usize;
+    let needed = first.len() + 24 * turns as usize + rest.len();
     if text.len() < needed {
-        return Fit::Short(needed);
+        return Err(TooShort { needed });
     }
-    let first = text::put_part(buffer, 0, head, text, 0);
-    let next = put_turns(turns, text, first);
-    Fit::Whole(text::put_part(buffer, head, end, text, next))
+    let mut out = Writer::new(text);
+    out.put_word(first);
+    put_turns(turns, &mut out);
+    out.put_word(rest);
+    Ok(out.at)
 }
 
-// Writes the sentence to the start of the text, where the text can hold it.
-pub fn tell(said: Said, text: &mut [u8]) -> Fit
+// Writes the sentence to the start of the text, where the text can hold it, and gives its length.
+pub fn tell(said: Said, text: &mut [u8]) -> Result<usize, TooShort>
     requires { turns_of said ≤ 65536 }
     ensures { Fits result (said_text said) text.old text.new }
 {
-    let mut buffer = [0u8; 210];
+    let mut buffer = [0; 210];
     let c = compose(said, &mut buffer);
-    write(&buffer, c.head, c.turns, c.end, text)
+    write(&buffer[..c.head], c.turns, &buffer[c.head..c.end], text)
 }

@@ -1,4 +1,6 @@
--- fixed texts by their numbers
-pub mod Texts
+-- names in tables
+pub mod Names
+-- how long names are
+pub mod Lengths
 -- values as text
 pub mod Numerals

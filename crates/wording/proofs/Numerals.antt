@@ -1,7 +1,8 @@
 -- Values as text, for any modulus.
 use Prim.Native.Nat.{ℕ, ◌+◌, ◌-◌, ◌%◌, ◌^◌, ◌≤◌, ◌<◌}
-use mathlib.Core.Path.{◌≡◌, refl, ap}
-use mathlib.Core.List.{List, [], ◌++◌}
+use mathlib.Core.Path.{◌≡◌, ap}
+use mathlib.Core.List.{List, ◌++◌}
+use lib.Chars.{codes}
 use native.Mathlib.Nat.{mod-eq_of_lt, mod-lt}
 use native.Mathlib.Omega.{arith}
 use borrow.Author.Tests.{le-leb, lt-leb}
@@ -9,10 +10,8 @@ use lib.Pow.{pow_pos}
 use Rattle.alu.specs.declared.Width.{Width}
 use Rattle.alu.specs.declared.Width.TheVariants.{Byte, Word, Double, Quad}
 use Rattle.alu.specs.Width.{bits}
-use Rattle.text.specs.Ascii.{ascii}
 use Rattle.text.specs.Digits.{digits, places_of, decimal}
-use Rattle.text.proofs.Lengths.{places-few, places-most}
-use Rattle.wording.specs.Texts.{fixed, starts, Shows}
+use Rattle.text.proofs.Lengths.{places-few as one-place, places-most}
 use Rattle.wording.specs.Values.{signed_below}
 
 -- a digit below ten is the same in both bases
@@ -21,42 +20,28 @@ unfolding digits
 same-digit n h =
     let ten : n < 10 = omega arith in
     let sixteen : n < 16 = omega arith in
-    rw (places-few 10 n ten, mod-eq_of_lt sixteen, mod-eq_of_lt ten)
+    rw (one-place 10 n ten, mod-eq_of_lt sixteen, mod-eq_of_lt ten)
 
-pub small : (modulus x : ℕ) → x ≤ 9 → Shows record { front = 78; number = x; digits = 1 } (ascii " is " ++ signed_below modulus x)
-unfolding fixed starts ascii signed_below
-small modulus x h = record {
-  short = omega arith;
-  few = omega arith;
-  is = rw (le-leb x 9 h) (ap (λ (l : List ℕ). ascii " is " ++ l) (same-digit x h));
-}
+pub small : (modulus x : ℕ) → x ≤ 9 → digits 16 1 x ≡ signed_below modulus x
+unfolding signed_below
+small modulus x h = rw (le-leb x 9 h) (same-digit x h)
 
 pub negative : (modulus x most : ℕ) → most ≡ modulus - 1 → 9 < x → x < modulus → most - x ≤ 8
-    → Shows record { front = 79; number = most - x + 1; digits = 1 } (ascii " is " ++ signed_below modulus x)
-unfolding fixed starts ascii signed_below
+    → codes "-" ++ digits 16 1 (most - x + 1) ≡ signed_below modulus x
+unfolding signed_below
 negative modulus x most most-is more less near =
     let left : most - x + 1 ≡ modulus - x = omega arith in
-    record {
-      short = omega arith;
-      few = omega arith;
-      is =
-          rw (lt-leb x 9 more, le-leb modulus (x + 9) (omega arith), left)
-          (ap (λ (l : List ℕ). ascii " is -" ++ l) (same-digit (modulus - x) (omega arith)));
-    }
+    rw (lt-leb x 9 more, le-leb modulus (x + 9) (omega arith), left)
+    (ap (λ (l : List ℕ). codes "-" ++ l) (same-digit (modulus - x) (omega arith)))
 
-pub pattern : (modulus x most places : ℕ) → most ≡ modulus - 1 → 9 < x → x < modulus → 8 < most - x → x < 2 ^ 64 → places ≡ places_of 16 x
-    → Shows record { front = 80; number = x; digits = places } (ascii " is " ++ signed_below modulus x)
-unfolding fixed starts ascii signed_below
-pattern modulus x most places most-is more less far fits places_is = record {
-  short = omega arith;
-  few = rw places_is (places-most 16 15 x (omega arith) fits);
-  is = rw (lt-leb x 9 more, lt-leb modulus (x + 9) (omega arith), places_is);
-}
+pub pattern : (modulus x most places : ℕ) → most ≡ modulus - 1 → 9 < x → x < modulus → 8 < most - x → places ≡ places_of 16 x
+    → codes "0x" ++ digits 16 places x ≡ signed_below modulus x
+unfolding signed_below
+pattern modulus x most places most-is more less far places_is =
+    rw (lt-leb x 9 more, lt-leb modulus (x + 9) (omega arith), places_is)
 
--- no value
-pub no_value : Shows record { front = 78; number = 0; digits = 0 } (ascii " is " ++ [])
-unfolding fixed starts ascii digits
-no_value = record { short = omega arith; few = omega arith; is = refl }
+pub few-places : (x places : ℕ) → x < 2 ^ 64 → places ≡ places_of 16 x → places ≤ 16
+few-places x places fits is = rw is (places-most 16 15 x (omega arith) fits)
 
 -- what is left of a value is below the width's modulus, and of the greatest number it is one less than that
 pub left_below : (w : Width) (value x : ℕ) → x ≡ value % 2 ^ bits w → x < 2 ^ bits w

@@ -1,47 +1,36 @@
-use Rattle.phrase.proofs.Causes.{plain-cause}
-use Rattle.phrase.proofs.Valued.{values-put}
-use Rattle.phrase.specs.Promises.{cause_text}
-use Rattle.wording.proofs.Texts.{text-short}
-use Rattle.wording.specs.Texts.{fixed, starts}
-use Rattle.text.proofs.Puts.{put_then, put-long}
-use Rattle.text.specs.Ascii.{ascii}
-use native.Mathlib.Omega.{arith}
-use Rattle.std.proofs.Common.{rules}
+use Rattle.text.proofs.Puts.{puts_then}
+use Rattle.phrase.specs.Causes.{value_text, itself_text, carry_text, overflow_text}
+use Rattle.phrase.proofs.Causes.{puts_both}
 use Rattle.phrase.proofs.put_cause.Goals as goal
 
-pub put_value-requires : goal.put_value-requires
-unfolding fixed starts ascii
-put_value-requires c =
-    record { behind_len_bound = omega arith; at_in_bounds = omega (arith, c.requires) }
+pub returns-in-Stc-clause-put : goal.returns-in-Stc-clause-put
+returns-in-Stc-clause-put c =
+    rw c.in-Stc.is c.put_word.ensures
 
-pub put_value-next-requires : goal.put_value-next-requires
-unfolding fixed starts ascii
-put_value-next-requires c =
-    record { behind_len_bound = omega arith; at_in_bounds = omega (arith, c.requires) }
+pub returns-in-Clc-clause-put : goal.returns-in-Clc-clause-put
+returns-in-Clc-clause-put c =
+    rw c.in-Clc.is c.put_word-in-Clc.ensures
 
-pub put_value-requires-in-Values : goal.put_value-requires-in-Values
-unfolding fixed starts ascii
-put_value-requires-in-Values c =
-    record { behind_len_bound = omega arith; at_in_bounds = omega (arith, c.requires, c.put_value-next.ensures.upper_bound, put-long c.put_value-next.ensures.put) }
+pub returns-in-Value-clause-put : goal.returns-in-Value-clause-put
+unfolding value_text
+returns-in-Value-clause-put c =
+    rw c.in-Value.is c.put_value.ensures.put
 
-pub put_fixed-next-requires : goal.put_fixed-next-requires
-put_fixed-next-requires c =
-    omega (arith, text-short c.plain-words.result.name, c.requires)
+pub returns-in-Values-clause-put : goal.returns-in-Values-clause-put
+returns-in-Values-clause-put c =
+    rw c.in-Values.is (puts_both _ _ _ _ c.put_value-in-Values.ensures.put c.put_value-in-Values-2.ensures.put)
 
-pub put_fixed-requires : goal.put_fixed-requires
-put_fixed-requires c =
-    omega (arith, text-short c.plain-words.result.name, text-short c.plain-words.result.rest, c.put_fixed-next.ensures.end, put-long c.put_fixed-next.ensures, c.requires)
+pub returns-in-Itself-clause-put : goal.returns-in-Itself-clause-put
+unfolding itself_text
+returns-in-Itself-clause-put c =
+    rw c.in-Itself.is (puts_then (rw c.name.ensures at c.put_word-in-Itself.ensures) c.put_word-in-Itself-2.ensures)
 
-pub returns-in-Value : goal.returns-in-Value
-unfolding cause_text fixed starts ascii
-returns-in-Value c =
-    record { put = rw c.in-Value.is c.put_value.ensures.put; upper_bound = omega (arith, c.put_value.ensures.upper_bound) }
+pub returns-in-ClearsCarry-clause-put : goal.returns-in-ClearsCarry-clause-put
+unfolding carry_text
+returns-in-ClearsCarry-clause-put c =
+    rw c.in-ClearsCarry.is (puts_then (rw c.mnemonic.ensures at c.put_word-in-ClearsCarry.ensures) c.put_word-in-ClearsCarry-2.ensures)
 
-pub returns-in-Values : goal.returns-in-Values
-unfolding cause_text fixed starts ascii
-returns-in-Values c =
-    record { put = values-put c.in-Values.is c.put_value-next.ensures.put c.put_value-in-Values.ensures.put; upper_bound = omega (arith, c.put_value-next.ensures.upper_bound, c.put_value-in-Values.ensures.upper_bound) }
-
-pub returns-in_default : goal.returns-in_default
-returns-in_default c =
-    record { put = rw (c.plain-words.ensures, plain-cause c.args.cause (search rules)) at (put_then c.put_fixed-next.ensures c.put_fixed.ensures); upper_bound = omega (arith, c.put_fixed-next.ensures.end, c.put_fixed.ensures.end, text-short c.plain-words.result.name, text-short c.plain-words.result.rest) }
+pub returns-in-ClearsOverflow-clause-put : goal.returns-in-ClearsOverflow-clause-put
+unfolding overflow_text
+returns-in-ClearsOverflow-clause-put c =
+    rw c.in-ClearsOverflow.is (puts_then (rw c.mnemonic-in-ClearsOverflow.ensures at c.put_word-in-ClearsOverflow.ensures) c.put_word-in-ClearsOverflow-2.ensures)

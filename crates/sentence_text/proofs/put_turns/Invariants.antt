@@ -1,9 +1,6 @@
-use Prim.Native.Nat.{◌-◌}
-use Rattle.sentence_text.proofs.Turns.{Turning}
+use Rattle.text.specs.Promises.{Puts}
+use Rattle.sentence_text.specs.Sentence.{turned_times}
 use Rattle.sentence_text.proofs.put_turns.Given as goal
 
-abbrev pub invariant-loop-i : goal.invariant-loop-i
-invariant-loop-i l = Turning l.turns l.initial.out l.at l.out l.next l.i
-
-abbrev pub decreases-loop-i : goal.decreases-loop-i
-decreases-loop-i l = l.turns - l.i
+abbrev pub invariant-loop-turn : goal.invariant-loop-turn
+invariant-loop-turn l = Puts l.initial.out l.out (turned_times l._turn)
