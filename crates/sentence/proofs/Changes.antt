@@ -21,15 +21,9 @@ use Rattle.isa.specs.Modelled.{is_register, modelled, declares_result, declares_
 use Rattle.isa.proofs.First.{RegisterFirst, register-first}
 use Rattle.machine.proofs.Declared.{DeclaresResult, result_parts}
 use Rattle.alu.specs.declared.Width.{Width}
-use Rattle.alu.specs.declared.Size.{Size}
-use Rattle.alu.specs.declared.Size.TheVariants.{Of, NoWidth}
 use Rattle.alu.specs.Width.{width_of}
-use Rattle.alu.specs.declared.Flag.{Flag}
-use Rattle.alu.specs.declared.Flag.TheVariants as flag
 use Rattle.alu.specs.declared.Flags.{Flags}
 use Rattle.alu.specs.Flags as flags
-use Rattle.known.specs.declared.Value.{Value}
-use Rattle.known.specs.declared.Value.TheVariants.{Known, Unknown}
 use Rattle.known.specs.Operations.{carry_rule, with_carry, is_idiom, no_flags, of_unknown, on_operands, arith_effect, unary_effect, unknown_carry, forget_flag, forget_flags}
 use Rattle.machine.specs.declared.State.{State}
 use Rattle.machine.specs.Registers.{nothing_known, read_of, operand_of, written, forgotten}
@@ -37,13 +31,13 @@ use Rattle.machine.specs.Finish.{finished}
 use Rattle.machine.specs.Rules.{same_register, carry_step, arith_step, unary_unknown, unary_on, unary_step, register_step, on_first, modelled_step, stepped}
 use Rattle.machine.proofs.Kept.{written-flags, forgetting-flags}
 use Rattle.laws.proofs.Booleans.{and_left, by_test}
-use Rattle.text.specs.Ascii.{ascii}
+use Rattle.std.specs.Prelude.{Option, Some, None}
 use Rattle.phrase.specs.Causes.{value_text, carry_text, overflow_text}
 use Rattle.sentence_text.specs.Sentence.{turned}
 use Rattle.sentence.specs.Why.{Why, every, carry_why, itself_why, operands_text, unknown_why, on_values, arith_why, alone_why, on_value, unary_why, arith_first, unary_first, modelled_why, why_stepped}
 use Rattle.sentence.specs.Promises.{Sets, carry_sets, unary_sets, mnemonic_sets, sets_of, carry_own, values_own, arith_own, arith_first_own, value_own, value_first_own, own_text}
 use Rattle.sentence.specs.Promises.Sets.{sets-none, sets-carry, turns-carry, sets-result, sets-all}
-use Rattle.sentence.proofs.Texts.{Some, not-empty, value-some, carry-some, overflow-some, idiom-some, operands-some}
+use Rattle.sentence.proofs.Texts.{NotEmpty, not-empty, value-some, carry-some, overflow-some, idiom-some, operands-some}
 
 -- ---- one flag
 
@@ -70,14 +64,14 @@ result_way sets-all = sets
 
 -- From a flag and its text to those after an instruction, with the text that it gives where it sets the flag. `lacks` is the fault of inc, dec, neg that do
 -- not declare their flags, which may then stay.
-pub data Change : Way → (own : List ℕ) (lacks : Bool) (f : Flag) (old : List ℕ) (g : Flag) (new : List ℕ) → Type 0 where
-  unknown : {way : Way} {own : List ℕ} {lacks : Bool} {f : Flag} {old new : List ℕ} → Change way own lacks f old flag.Unknown new
-  set : {own : List ℕ} {lacks : Bool} {f : Flag} {old : List ℕ} {g : Flag} → Some own → Change sets own lacks f old g own
-  stays : {own : List ℕ} {f : Flag} {old : List ℕ} → Change sets own true f old f old
-  kept : {own : List ℕ} {lacks : Bool} {f : Flag} {old : List ℕ} → Change keeps own lacks f old f old
-  round : {own : List ℕ} {lacks : Bool} {f : Flag} {old : List ℕ} → Change turns own lacks f old (flags.opposite f) (old ++ turned)
+pub data Change : Way → (own : List ℕ) (lacks : Bool) (f : Option Bool) (old : List ℕ) (g : Option Bool) (new : List ℕ) → Type 0 where
+  unknown : {way : Way} {own : List ℕ} {lacks : Bool} {f : Option Bool} {old new : List ℕ} → Change way own lacks f old None new
+  set : {own : List ℕ} {lacks : Bool} {f : Option Bool} {old : List ℕ} {g : Option Bool} → NotEmpty own → Change sets own lacks f old g own
+  stays : {own : List ℕ} {f : Option Bool} {old : List ℕ} → Change sets own true f old f old
+  kept : {own : List ℕ} {lacks : Bool} {f : Option Bool} {old : List ℕ} → Change keeps own lacks f old f old
+  round : {own : List ℕ} {lacks : Bool} {f : Option Bool} {old : List ℕ} → Change turns own lacks f old (flags.opposite f) (old ++ turned)
 
-forgot : (declared : Bool) {own : List ℕ} {lacks : Bool} {f : Flag} {old : List ℕ} → Change keeps own lacks f old (forget_flag declared f) old
+forgot : (declared : Bool) {own : List ℕ} {lacks : Bool} {f : Option Bool} {old : List ℕ} → Change keeps own lacks f old (forget_flag declared f) old
 forgot true = unknown
 forgot false = kept
 
@@ -97,7 +91,7 @@ module _ {lacks : Bool} {f : Flags} {w : Why} where
   same : {result carry : List ℕ} → Changes sets-none result carry lacks f w f w
   same = record { cf = kept; pf = kept; zf = kept; sf = kept; of = kept }
 
-  all_set : (text : List ℕ) {g : Flags} → Some text → Changes sets-all text text lacks f w g (every text)
+  all_set : (text : List ℕ) {g : Flags} → NotEmpty text → Changes sets-all text text lacks f w g (every text)
   all_set text some = record { cf = set some; pf = set some; zf = set some; sf = set some; of = set some }
 
   forgot-all : (d : ℕ) {result carry : List ℕ} → Changes sets-none result carry lacks f w (forget_flags d f) w
@@ -113,7 +107,6 @@ module _ {lacks : Bool} {f : Flags} {w : Why} where
   -- ---- instructions
 
   carry-changes : (c : CarryChange) {result : List ℕ} → Changes (carry_sets c) result (carry_own c) lacks f w (with_carry f (carry_rule c f.cf)) (carry_why w c)
-  unfolding ascii
   carry-changes Stc = record { cf = set not-empty; pf = kept; zf = kept; sf = kept; of = kept }
   carry-changes Clc = record { cf = set not-empty; pf = kept; zf = kept; sf = kept; of = kept }
   carry-changes Cmc = record { cf = round; pf = kept; zf = kept; sf = kept; of = kept }
@@ -127,38 +120,38 @@ module _ {lacks : Bool} {f : Flags} {w : Why} where
   unknown-changes Xor = record { cf = set (carry-some Xor); pf = unknown; zf = unknown; sf = unknown; of = set (overflow-some Xor) }
   unknown-changes Test = record { cf = set (carry-some Test); pf = unknown; zf = unknown; sf = unknown; of = set (overflow-some Test) }
 
-  operands-changes : (op : Binary) (width : Width) (d : Register) (o : Operand) (a b : Value)
+  operands-changes : (op : Binary) (width : Width) (d : Register) (o : Operand) (a b : Option ℕ)
       → Changes sets-all (values_own op d o a b false) (values_own op d o a b true) lacks f w (on_operands op width a b).flags (on_values w op d o a b)
-  operands-changes op width d o (Known a) (Known b) = all_set (operands_text d a o b) (operands-some d a o b)
-  operands-changes op width d o (Known a) Unknown = unknown-changes op
-  operands-changes op width d o Unknown b = unknown-changes op
+  operands-changes op width d o (Some a) (Some b) = all_set (operands_text d a o b) (operands-some d a o b)
+  operands-changes op width d o (Some a) None = unknown-changes op
+  operands-changes op width d o None b = unknown-changes op
 
-  effect-changes : (op : Binary) (size : Size) (d : Register) (o : Operand) (a b : Value)
+  effect-changes : (op : Binary) (size : Option Width) (d : Register) (o : Operand) (a b : Option ℕ)
       → Changes sets-all (cond (is_idiom op && same_register d o) (itself_why op d) (values_own op d o a b false))
       (cond (is_idiom op && same_register d o) (itself_why op d) (values_own op d o a b true)) lacks f w
       (arith_effect op size (same_register d o) a b).flags
       (cond (is_idiom op && same_register d o) (every (itself_why op d)) (on_values w op d o a b))
   unfolding arith_effect
-  effect-changes op (Of width) d o a b =
+  effect-changes op (Some width) d o a b =
       by_test (is_idiom op && same_register d o)
       (λ t. rw t (all_set (itself_why op d) (idiom-some op d (and_left (is_idiom op) _ t))))
       (λ t. rw t (operands-changes op width d o a b))
-  effect-changes op NoWidth d o a b = none-known
+  effect-changes op None d o a b = none-known
 
-  alone-changes : (op : Unary) (size : Size) (d : Register) (a : ℕ)
+  alone-changes : (op : Unary) (size : Option Width) (d : Register) (a : ℕ)
       → Changes (unary_sets op) (value_text d a) (value_text d a) lacks f w (unary_effect op size f.cf a).flags (alone_why w op (value_text d a))
   unfolding unary_effect
-  alone-changes Inc (Of width) d a =
+  alone-changes Inc (Some width) d a =
       let some = value-some d a in
       record { cf = kept; pf = set some; zf = set some; sf = set some; of = set some }
-  alone-changes Dec (Of width) d a =
+  alone-changes Dec (Some width) d a =
       let some = value-some d a in
       record { cf = kept; pf = set some; zf = set some; sf = set some; of = set some }
-  alone-changes Neg (Of width) d a = all_set (value_text d a) (value-some d a)
-  alone-changes op NoWidth d a = none-known
+  alone-changes Neg (Some width) d a = all_set (value_text d a) (value-some d a)
+  alone-changes op None d a = none-known
 
 -- a flag that inc, dec, neg of an unknown register should declare
-lost : (lacks declared : Bool) → (lacks ≡ false → declared ≡ true) → {own : List ℕ} {f : Flag} {old : List ℕ}
+lost : (lacks declared : Bool) → (lacks ≡ false → declared ≡ true) → {own : List ℕ} {f : Option Bool} {old : List ℕ}
     → Change sets own lacks f old (forget_flag declared f) old
 lost true true h = unknown
 lost true false h = stays
@@ -170,7 +163,7 @@ own-declared Inc d h = not-false (declares_result d) h
 own-declared Dec d h = not-false (declares_result d) h
 own-declared Neg d h = and_left (declares_result d) (declares d CF) (not-false (declares_own Neg d) h)
 
-lost-result : (op : Unary) (d : ℕ) (k : Sets) {f : Flags} {w : Why} {text carry : List ℕ} {g : Flag} → result_way k ≡ sets
+lost-result : (op : Unary) (d : ℕ) (k : Sets) {f : Flags} {w : Why} {text carry : List ℕ} {g : Option Bool} → result_way k ≡ sets
     → Change (carry_way k) carry (not (declares_own op d)) f.cf w.cf g w.cf
     → Changes k text carry (not (declares_own op d)) f w (with_carry (forget_flags d f) g) w
 unfolding forget_flags
@@ -201,14 +194,14 @@ module _ (s : State) (w : Why) (i : Instruction) where
   unfolding forgotten
   forgotten-changes = rw forgetting-flags (forgot-all i.flags)
 
-  written-changes : (d : Register) (v : Value) {result carry : List ℕ} {lacks : Bool} → Changes sets-none result carry lacks s.flags w (written s d v).flags w
+  written-changes : (d : Register) (v : Option ℕ) {result carry : List ℕ} {lacks : Bool} → Changes sets-none result carry lacks s.flags w (written s d v).flags w
   written-changes d v = rw written-flags same
 
-  unary-changes : (op : Unary) (d : Register) (v : Value)
+  unary-changes : (op : Unary) (d : Register) (v : Option ℕ)
       → Changes (unary_sets op) (value_own d v) (value_own d v) (not (declares_own op i.flags)) s.flags w (unary_on s i op d v).flags (on_value w op d v)
   unfolding finished unary_unknown forgotten
-  unary-changes op d (Known a) = alone-changes op (width_of d.size) d a
-  unary-changes op d Unknown = rw forgetting-flags (unknown-unary op i.flags)
+  unary-changes op d (Some a) = alone-changes op (width_of d.size) d a
+  unary-changes op d None = rw forgetting-flags (unknown-unary op i.flags)
 
   mov-changes : (o : Operand) {result carry : List ℕ} {lacks : Bool} → Changes sets-none result carry lacks s.flags w (on_first s i Mov o).flags w
   unfolding register_step

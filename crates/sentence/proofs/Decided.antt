@@ -1,6 +1,6 @@
 -- What is told of a jump, without the text, is the machine's condition of it.
 use mathlib.Core.Path.{◌≡◌, refl, ◌∙◌}
-use mathlib.Core.Bool.{true, false}
+use mathlib.Core.Bool.{Bool, true, false}
 use mathlib.Core.List.{List}
 use Prim.Native.Nat.{ℕ}
 use Rattle.isa.specs.declared.Condition.{Condition}
@@ -8,12 +8,9 @@ use Rattle.isa.specs.declared.Condition.TheVariants.{E, Ne, L, Ge, Le, G, B, Ae,
 use Rattle.isa.specs.declared.Register.{Register}
 use Rattle.isa.specs.declared.Mnemonic.{Mnemonic}
 use Rattle.isa.specs.declared.Mnemonic.TheVariants.{Other, Carry, Mov, Not, TwoOperand, OneOperand, Jump, CountJump}
-use Rattle.alu.specs.declared.Flag.{Flag}
-use Rattle.alu.specs.declared.Flag.TheVariants.{Known, Unknown}
+use Rattle.std.specs.Prelude.{Option, Some, None}
 use Rattle.alu.specs.declared.Flags.{Flags}
 use Rattle.alu.specs.Flags as flags
-use Rattle.known.specs.declared.Value.{Value}
-use Rattle.known.specs.declared.Value.TheVariants as value
 use Rattle.known.specs.Conditions.{flag_condition, is_zero}
 use Rattle.machine.specs.declared.State.{State}
 use Rattle.machine.specs.Registers.{read_of}
@@ -23,13 +20,13 @@ use Rattle.sentence.specs.Told.{Told, flag_told, opposite, differ, either, flags
 use Rattle.sentence.specs.Told.Told.{known, unknown}
 
 -- without the text
-abbrev pub without : Told → Flag
-without (known b text) = Known b
-without unknown = Unknown
+abbrev pub without : Told → Option Bool
+without (known b text) = Some b
+without unknown = None
 
-flag-without : (f : Flag) (text : List ℕ) → without (flag_told f text) ≡ f
-flag-without (Known b) text = refl
-flag-without Unknown text = refl
+flag-without : (f : Option Bool) (text : List ℕ) → without (flag_told f text) ≡ f
+flag-without (Some b) text = refl
+flag-without None text = refl
 
 opposite-without : (t : Told) → without (opposite t) ≡ flags.opposite (without t)
 opposite-without (known b text) = refl
@@ -78,9 +75,9 @@ condition-without c f w =
     (flag_told f.of w.of)
     ∙ simp flag-without
 
-count-without : (r : Register) (v : Value) → without (count_told r v) ≡ is_zero v
-count-without r (value.Known x) = refl
-count-without r value.Unknown = refl
+count-without : (r : Register) (v : Option ℕ) → without (count_told r v) ≡ is_zero v
+count-without r (Some x) = refl
+count-without r None = refl
 
 -- So it is for every branch, whatever is known and whatever the texts are.
 pub told-without : (s : State) (w : Why) (m : Mnemonic) → without (told_of s w m) ≡ condition_of s m

@@ -1,10 +1,9 @@
 -- The sentence of a branch from the texts of its two causes: that of CF, and the one that the other flags share.
 use Prim.Native.Nat.{ℕ}
 use mathlib.Core.Path.{◌≡◌, refl, ◌∙◌}
-use mathlib.Core.Bool.{true, false}
+use mathlib.Core.Bool.{Bool, true, false}
 use mathlib.Core.List.{List}
-use Rattle.alu.specs.declared.Flag.{Flag}
-use Rattle.alu.specs.declared.Flag.TheVariants.{Known, Unknown}
+use Rattle.std.specs.Prelude.{Option, Some, None, unwrap_or}
 use Rattle.alu.specs.declared.Flags.{Flags}
 use Rattle.alu.specs.Flags as flags
 use Rattle.isa.specs.declared.Register.{Register}
@@ -12,8 +11,6 @@ use Rattle.isa.specs.declared.Condition.{Condition}
 use Rattle.isa.specs.declared.Condition.TheVariants.{E, Ne, L, Ge, Le, G, B, Ae, Be, A, S, Ns, P, Np, O, No}
 use Rattle.isa.specs.declared.Mnemonic.{Mnemonic}
 use Rattle.isa.specs.declared.Mnemonic.TheVariants.{Other, Carry, Mov, Not, TwoOperand, OneOperand, Jump, CountJump}
-use Rattle.known.specs.declared.Value.{Value}
-use Rattle.known.specs.declared.Value.TheVariants as value
 use Rattle.known.specs.Conditions.{flag_condition}
 use Rattle.machine.specs.declared.State.{State}
 use Rattle.machine.specs.Registers.{read_of}
@@ -24,7 +21,7 @@ use Rattle.sentence.specs.declared.Telling.TheVariants as telling
 use Rattle.sentence.specs.Why.{Why}
 use Rattle.sentence.specs.Told.{Told, flag_told, opposite, differ, either, both, flags_told, condition_told, count_told, told_of, sentence_of}
 use Rattle.sentence.specs.Told.Told.{known, unknown}
-use Rattle.sentence.specs.Promises.{where_known, is_set, below_telling, flags_telling, count_telling, telling_of, telling_text, Share}
+use Rattle.sentence.specs.Promises.{where_known, below_telling, flags_telling, count_telling, telling_of, telling_text, Share}
 
 -- the opposite has the same sentence, and so has what is both, of two opposites
 same-sentence : (t : Told) → sentence_of t ≡ sentence_of (opposite t)
@@ -49,42 +46,42 @@ module _ (text : List ℕ) where
   unfolding joined
   once = rw (words-refl text)
 
-  opposite-shared : (f : Flag) → opposite (flag_told f text) ≡ flag_told (flags.opposite f) text
-  opposite-shared (Known b) = refl
-  opposite-shared Unknown = refl
+  opposite-shared : (f : Option Bool) → opposite (flag_told f text) ≡ flag_told (flags.opposite f) text
+  opposite-shared (Some b) = refl
+  opposite-shared None = refl
 
-  differ-shared : (f g : Flag) → differ (flag_told f text) (flag_told g text) ≡ flag_told (flags.differ f g) text
-  differ-shared (Known a) (Known b) = rw once
-  differ-shared (Known a) Unknown = refl
-  differ-shared Unknown g = refl
+  differ-shared : (f g : Option Bool) → differ (flag_told f text) (flag_told g text) ≡ flag_told (flags.differ f g) text
+  differ-shared (Some a) (Some b) = rw once
+  differ-shared (Some a) None = refl
+  differ-shared None g = refl
 
-  either-shared : (f g : Flag) → either (flag_told f text) (flag_told g text) ≡ flag_told (flags.either f g) text
-  either-shared (Known true) (Known b) = refl
-  either-shared (Known true) Unknown = refl
-  either-shared (Known false) (Known true) = refl
-  either-shared (Known false) (Known false) = rw once
-  either-shared (Known false) Unknown = refl
-  either-shared Unknown (Known true) = refl
-  either-shared Unknown (Known false) = refl
-  either-shared Unknown Unknown = refl
+  either-shared : (f g : Option Bool) → either (flag_told f text) (flag_told g text) ≡ flag_told (flags.either f g) text
+  either-shared (Some true) (Some b) = refl
+  either-shared (Some true) None = refl
+  either-shared (Some false) (Some true) = refl
+  either-shared (Some false) (Some false) = rw once
+  either-shared (Some false) None = refl
+  either-shared None (Some true) = refl
+  either-shared None (Some false) = refl
+  either-shared None None = refl
 
-  told-alone : (f : Flag) (c : List ℕ) → telling_text (where_known f telling.Result) c text ≡ sentence_of (flag_told f text)
-  told-alone (Known b) c = refl
-  told-alone Unknown c = refl
+  told-alone : (f : Option Bool) (c : List ℕ) → telling_text (where_known f telling.Result) c text ≡ sentence_of (flag_told f text)
+  told-alone (Some b) c = refl
+  told-alone None c = refl
 
-told-carry : (f : Flag) (c r : List ℕ) → telling_text (where_known f telling.Carry) c r ≡ sentence_of (flag_told f c)
-told-carry (Known b) c r = refl
-told-carry Unknown c r = refl
+told-carry : (f : Option Bool) (c r : List ℕ) → telling_text (where_known f telling.Carry) c r ≡ sentence_of (flag_told f c)
+told-carry (Some b) c r = refl
+told-carry None c r = refl
 
-told_below : (cf zf : Flag) (c r : List ℕ) → telling_text (below_telling (flags.either cf zf) (is_set cf)) c r ≡ sentence_of (either (flag_told cf c) (flag_told zf r))
-told_below (Known true) (Known b) c r = refl
-told_below (Known true) Unknown c r = refl
-told_below (Known false) (Known true) c r = refl
-told_below (Known false) (Known false) c r = refl
-told_below (Known false) Unknown c r = refl
-told_below Unknown (Known true) c r = refl
-told_below Unknown (Known false) c r = refl
-told_below Unknown Unknown c r = refl
+told_below : (cf zf : Option Bool) (c r : List ℕ) → telling_text (below_telling (flags.either cf zf) (unwrap_or cf false)) c r ≡ sentence_of (either (flag_told cf c) (flag_told zf r))
+told_below (Some true) (Some b) c r = refl
+told_below (Some true) None c r = refl
+told_below (Some false) (Some true) c r = refl
+told_below (Some false) (Some false) c r = refl
+told_below (Some false) None c r = refl
+told_below None (Some true) c r = refl
+told_below None (Some false) c r = refl
+told_below None None c r = refl
 
 -- ---- conditions
 
@@ -115,9 +112,9 @@ condition-text : (f : Flags) (w : Why) {c r : List ℕ} → Share f w c r → (k
 unfolding condition_told
 condition-text f w {c} {r} share k = rw (share.cf, share.pf, share.zf, share.sf, share.of) (flags-text f c r k)
 
-count-text : (register : Register) (v : Value) (c r : List ℕ) → telling_text (count_telling register v) c r ≡ sentence_of (count_told register v)
-count-text register (value.Known x) c r = refl
-count-text register value.Unknown c r = refl
+count-text : (register : Register) (v : Option ℕ) (c r : List ℕ) → telling_text (count_telling register v) c r ≡ sentence_of (count_told register v)
+count-text register (Some x) c r = refl
+count-text register None c r = refl
 
 -- The causes that tell of a branch have its sentence.
 pub telling-text : (s : State) (w : Why) {c r : List ℕ} → Share s.flags w c r → (m : Mnemonic) → telling_text (telling_of s m) c r ≡ sentence_of (told_of s w m)

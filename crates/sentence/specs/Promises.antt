@@ -1,7 +1,6 @@
 -- What the code gives: the instructions that are the causes of the flags' values, what each of them says, and which of them tell of a jump.
-use Rattle.std.specs.Prelude.{ℕ, ◌+◌, ◌≡◌, Bool, false, cond, ◌&&◌, List, []}
-use Rattle.alu.specs.declared.Flag.{Flag}
-use Rattle.alu.specs.declared.Flag.TheVariants as flag
+use Rattle.std.specs.Prelude.{ℕ, ◌+◌, ◌≡◌, Bool, false, cond, ◌&&◌, List, [], Option, Some, None, unwrap_or}
+use Rattle.std.specs.Option.{option_map}
 use Rattle.alu.specs.declared.Flags.{Flags}
 use Rattle.alu.specs.Flags.{either}
 use Rattle.isa.specs.declared.Register.{Register}
@@ -18,8 +17,6 @@ use Rattle.isa.specs.declared.Mnemonic.{Mnemonic}
 use Rattle.isa.specs.declared.Mnemonic.TheVariants.{Other, Carry, Mov, Not, TwoOperand, OneOperand, Jump, CountJump}
 use Rattle.isa.specs.declared.Instruction.{Instruction}
 use Rattle.isa.specs.Modelled.{modelled}
-use Rattle.known.specs.declared.Value.{Value}
-use Rattle.known.specs.declared.Value.TheVariants.{Known, Unknown}
 use Rattle.known.specs.Operations.{is_idiom}
 use Rattle.known.specs.Conditions.{flag_condition}
 use Rattle.machine.specs.declared.State.{State}
@@ -83,10 +80,10 @@ carry_own Stc = stc_text
 carry_own Clc = clc_text
 carry_own Cmc = []
 
-abbrev pub values_own : Binary → Register → Operand → Value → Value → (carry : Bool) → List ℕ
-values_own op d o (Known a) (Known b) carry = operands_text d a o b
-values_own op d o (Known a) Unknown carry = cleared_text op carry
-values_own op d o Unknown b carry = cleared_text op carry
+abbrev pub values_own : Binary → Register → Operand → Option ℕ → Option ℕ → (carry : Bool) → List ℕ
+values_own op d o (Some a) (Some b) carry = operands_text d a o b
+values_own op d o (Some a) None carry = cleared_text op carry
+values_own op d o None b carry = cleared_text op carry
 
 unfoldable pub arith_own : State → Binary → Register → Operand → (carry : Bool) → List ℕ
 arith_own s op d o carry =
@@ -98,9 +95,9 @@ arith_first_own s op (Reg d) o carry = arith_own s op d o carry
 arith_first_own s op (Imm x) o carry = []
 arith_first_own s op Mem o carry = []
 
-abbrev pub value_own : Register → Value → List ℕ
-value_own d (Known a) = value_text d a
-value_own d Unknown = []
+abbrev pub value_own : Register → Option ℕ → List ℕ
+value_own d (Some a) = value_text d a
+value_own d None = []
 
 abbrev pub value_first_own : State → Operand → List ℕ
 value_first_own s Absent = []
@@ -120,22 +117,15 @@ own_text s (CountJump c) first second carry = []
 
 -- ---- the causes that tell of a jump
 
-abbrev pub where_known : Flag → Telling → Telling
-where_known (flag.Known b) t = t
-where_known flag.Unknown t = telling.Nothing
-
--- known to be set
-abbrev pub is_set : Flag → Bool
-is_set (flag.Known b) = b
-is_set flag.Unknown = false
+abbrev pub where_known : Option Bool → Telling → Option Telling
+where_known f t = option_map (λ b. t) f
 
 -- CF and ZF, where it is known whether one of them is set: the first that is; both where they are clear (W14)
-abbrev pub below_telling : Flag → (carry : Bool) → Telling
-below_telling (flag.Known b) carry = cond carry telling.Carry (cond b telling.Result telling.Both)
-below_telling flag.Unknown carry = telling.Nothing
+abbrev pub below_telling : Option Bool → (carry : Bool) → Option Telling
+below_telling f carry = option_map (λ b. cond carry telling.Carry (cond b telling.Result telling.Both)) f
 
 -- a condition is told as its opposite (W13)
-unfoldable pub flags_telling : Condition → Flags → Telling
+unfoldable pub flags_telling : Condition → Flags → Option Telling
 flags_telling E f = where_known (flag_condition E f) telling.Result
 flags_telling Ne f = where_known (flag_condition Ne f) telling.Result
 flags_telling L f = where_known (flag_condition L f) telling.Result
@@ -144,8 +134,8 @@ flags_telling Le f = where_known (flag_condition Le f) telling.Result
 flags_telling G f = where_known (flag_condition G f) telling.Result
 flags_telling B f = where_known f.cf telling.Carry
 flags_telling Ae f = where_known f.cf telling.Carry
-flags_telling Be f = below_telling (either f.cf f.zf) (is_set f.cf)
-flags_telling A f = below_telling (either f.cf f.zf) (is_set f.cf)
+flags_telling Be f = below_telling (either f.cf f.zf) (unwrap_or f.cf false)
+flags_telling A f = below_telling (either f.cf f.zf) (unwrap_or f.cf false)
 flags_telling S f = where_known (flag_condition S f) telling.Result
 flags_telling Ns f = where_known (flag_condition Ns f) telling.Result
 flags_telling P f = where_known (flag_condition P f) telling.Result
@@ -153,27 +143,26 @@ flags_telling Np f = where_known (flag_condition Np f) telling.Result
 flags_telling O f = where_known (flag_condition O f) telling.Result
 flags_telling No f = where_known (flag_condition No f) telling.Result
 
-abbrev pub count_telling : Register → Value → Telling
-count_telling r (Known x) = telling.Value r x
-count_telling r Unknown = telling.Nothing
+abbrev pub count_telling : Register → Option ℕ → Option Telling
+count_telling r v = option_map (λ x. telling.Value r x) v
 
-unfoldable pub telling_of : State → Mnemonic → Telling
-telling_of s Other = telling.Nothing
-telling_of s (Carry c) = telling.Nothing
-telling_of s Mov = telling.Nothing
-telling_of s Not = telling.Nothing
-telling_of s (TwoOperand op) = telling.Nothing
-telling_of s (OneOperand op) = telling.Nothing
+unfoldable pub telling_of : State → Mnemonic → Option Telling
+telling_of s Other = None
+telling_of s (Carry c) = None
+telling_of s Mov = None
+telling_of s Not = None
+telling_of s (TwoOperand op) = None
+telling_of s (OneOperand op) = None
 telling_of s (Jump c) = flags_telling c s.flags
 telling_of s (CountJump c) = count_telling (count_register c) (read_of s (count_register c))
 
 -- the sentence, by the texts of the two causes (W12, W14, W15)
-abbrev pub telling_text : Telling → (carry result : List ℕ) → List ℕ
-telling_text telling.Nothing c r = []
-telling_text telling.Carry c r = c
-telling_text telling.Result c r = r
-telling_text telling.Both c r = joined c r
-telling_text (telling.Value register x) c r = value_text register x
+abbrev pub telling_text : Option Telling → (carry result : List ℕ) → List ℕ
+telling_text None c r = []
+telling_text (Some telling.Carry) c r = c
+telling_text (Some telling.Result) c r = r
+telling_text (Some telling.Both) c r = joined c r
+telling_text (Some (telling.Value register x)) c r = value_text register x
 
 -- the texts of the flags that are known: one for CF, and one that the others share
 pub record Share (f : Flags) (w : Why) (carry result : List ℕ) : Type 0 where

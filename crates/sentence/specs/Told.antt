@@ -1,15 +1,11 @@
 -- What the flags say of a jump, with the text: what the Rust's `holds` and `in_flags` yield.
-use Rattle.std.specs.Prelude.{ℕ, Bool, true, false, not, ◌&&◌, ◌||◌, List, [], eqb}
+use Rattle.std.specs.Prelude.{ℕ, Bool, true, false, not, ◌&&◌, ◌||◌, List, [], eqb, Option, Some, None}
 use Rattle.isa.specs.declared.Condition.{Condition}
 use Rattle.isa.specs.declared.Condition.TheVariants.{E, Ne, L, Ge, Le, G, B, Ae, Be, A, S, Ns, P, Np, O, No}
 use Rattle.isa.specs.declared.Register.{Register}
 use Rattle.isa.specs.declared.Mnemonic.{Mnemonic}
 use Rattle.isa.specs.declared.Mnemonic.TheVariants.{Other, Carry, Mov, Not, TwoOperand, OneOperand, Jump, CountJump}
-use Rattle.alu.specs.declared.Flag.{Flag}
-use Rattle.alu.specs.declared.Flag.TheVariants as flag
 use Rattle.alu.specs.declared.Flags.{Flags}
-use Rattle.known.specs.declared.Value.{Value}
-use Rattle.known.specs.declared.Value.TheVariants as value
 use Rattle.machine.specs.declared.State.{State}
 use Rattle.machine.specs.Registers.{read_of}
 use Rattle.machine.specs.Conditions.{count_register}
@@ -23,9 +19,9 @@ pub data Told : Type 0 where
   unknown : Told
 
 -- a flag with its text
-abbrev pub flag_told : Flag → List ℕ → Told
-flag_told (flag.Known b) text = known b text
-flag_told flag.Unknown text = unknown
+abbrev pub flag_told : Option Bool → List ℕ → Told
+flag_told (Some b) text = known b text
+flag_told None text = unknown
 
 -- the opposite has the same text (W13)
 abbrev pub opposite : Told → Told
@@ -77,9 +73,9 @@ condition_told c f w =
     (flag_told f.of w.of)
 
 -- A count-register jump tells the value that it reads, under the name of that part (W15).
-abbrev pub count_told : Register → Value → Told
-count_told r (value.Known x) = known (eqb x 0) (value_text r x)
-count_told r value.Unknown = unknown
+abbrev pub count_told : Register → Option ℕ → Told
+count_told r (Some x) = known (eqb x 0) (value_text r x)
+count_told r None = unknown
 
 -- What is told of a conditional branch; one that has no jump's mnemonic is never decided (W13, W15).
 unfoldable pub told_of : State → Why → Mnemonic → Told

@@ -1,5 +1,5 @@
 -- Why each flag has its value, as text, and how instructions change that: what the Rust's `step` and `arith` note beside each flag.
-use Rattle.std.specs.Prelude.{ℕ, Bool, true, false, cond, ◌&&◌, List, [], ◌∷◌, ◌++◌}
+use Rattle.std.specs.Prelude.{ℕ, Bool, true, false, cond, ◌&&◌, List, [], ◌∷◌, ◌++◌, Option, Some, None}
 use Rattle.isa.specs.declared.Register.{Register}
 use Rattle.isa.specs.declared.Operand.{Operand}
 use Rattle.isa.specs.declared.Operand.TheVariants.{Absent, Reg, Imm, Mem}
@@ -13,8 +13,6 @@ use Rattle.isa.specs.declared.Mnemonic.{Mnemonic}
 use Rattle.isa.specs.declared.Mnemonic.TheVariants.{Other, Carry, Mov, Not, TwoOperand, OneOperand, Jump, CountJump}
 use Rattle.isa.specs.declared.Instruction.{Instruction}
 use Rattle.isa.specs.Modelled.{modelled}
-use Rattle.known.specs.declared.Value.{Value}
-use Rattle.known.specs.declared.Value.TheVariants.{Known, Unknown}
 use Rattle.known.specs.Operations.{is_idiom}
 use Rattle.machine.specs.declared.State.{State}
 use Rattle.machine.specs.Registers.{read_of, operand_of}
@@ -77,10 +75,10 @@ abbrev pub unknown_why : Why → Binary → Why
 unknown_why w op =
     cond (is_logical op) (record { cf = carry_text op; pf = w.pf; zf = w.zf; sf = w.sf; of = overflow_text op }) w
 
-abbrev pub on_values : Why → Binary → Register → Operand → Value → Value → Why
-on_values w op d o (Known a) (Known b) = every (operands_text d a o b)
-on_values w op d o (Known a) Unknown = unknown_why w op
-on_values w op d o Unknown b = unknown_why w op
+abbrev pub on_values : Why → Binary → Register → Operand → Option ℕ → Option ℕ → Why
+on_values w op d o (Some a) (Some b) = every (operands_text d a o b)
+on_values w op d o (Some a) None = unknown_why w op
+on_values w op d o None b = unknown_why w op
 
 -- add to test, with a register first (W5, W8, W9).
 unfoldable pub arith_why : State → Why → Binary → Register → Operand → Why
@@ -93,9 +91,9 @@ alone_why w Inc text = with_carry_text (every text) w.cf
 alone_why w Dec text = with_carry_text (every text) w.cf
 alone_why w Neg text = every text
 
-abbrev pub on_value : Why → Unary → Register → Value → Why
-on_value w op d (Known a) = alone_why w op (value_text d a)
-on_value w op d Unknown = w
+abbrev pub on_value : Why → Unary → Register → Option ℕ → Why
+on_value w op d (Some a) = alone_why w op (value_text d a)
+on_value w op d None = w
 
 unfoldable pub unary_why : State → Why → Unary → Register → Why
 unary_why s w op d = on_value w op d (read_of s d)

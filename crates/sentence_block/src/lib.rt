@@ -22,9 +22,8 @@ use isa::Mnemonic;
 use machine::State;
 use phrase::Cause;
 use sentence::{Setters, Telling};
-use sentence_text::{Fit, Said};
+use sentence_text::{Said, TooShort};
 use sheet::Sheet;
-use verdict_block::Jump;
 
 // The causes of the flags' values after the instructions of an accepted sheet from number `first` up to `end`, where nothing is known at their start.
 fn setters_in(s: &[u8], sheet: Sheet, places: &[u64], first: usize, end: usize) -> Setters
@@ -38,11 +37,9 @@ fn setters_in(s: &[u8], sheet: Sheet, places: &[u64], first: usize, end: usize) 
         carry: first,
         turns: 0,
     };
-    let mut i = first;
-    while i < end {
+    for i in first..end {
         let it = sheet::nth_instruction(s, sheet, places, i);
         setters = sentence::setters_after(setters, i, it);
-        i += 1;
     }
     setters
 }
@@ -61,15 +58,10 @@ fn cause_at(
     requires number_in_bounds { number < length places.now }
     ensures { (d : Instruction) → cause_text result ≡ own_at (sheet_at s.now).instructions.list first carry number d }
 {
-    let start = State::unknown();
-    let mut registers = start.registers;
-    let known = start.flags;
-    let flags = verdict_block::step_over(s, sheet, places, first, number, &mut registers, known);
+    let mut state = State::unknown();
+    verdict_block::step_over(s, sheet, places, first, number, &mut state);
     let it = sheet::nth_instruction(s, sheet, places, number);
-    let mnemonic = it.mnemonic;
-    let operand = it.first;
-    let second = it.second;
-    sentence::cause_of(&registers, mnemonic, operand, second, carry)
+    sentence::cause_of(&state, it.mnemonic, it.first, it.second, carry)
 }
 
 // What the causes say that tell of a branch.
@@ -79,7 +71,7 @@ fn said_by(
     places: &[u64],
     first: usize,
     setters: Setters,
-    telling: Telling,
+    telling: Option<Telling>,
 ) -> Said
     requires s_value { reading_of s.now ≡ Accepted sheet }
     requires places_value { places.now ≡ (sheet_at s.now).instructions.places }
@@ -87,10 +79,12 @@ fn said_by(
     ensures result_value { (d : Instruction) → said_text result ≡ telling_text telling (carry_at (sheet_at s.now).instructions.list first setters d) (result_at (sheet_at s.now).instructions.list first setters d) }
     ensures result_bound { turns_of result ≤ setters.turns }
 {
+    let Some(telling) = telling else {
+        return Said::Nothing;
+    };
     let carry = setters.carry;
     let result = setters.result;
     match telling {
-        Telling::Nothing => Said::Nothing,
         Telling::Carry => Said::One(
             cause_at(s, sheet, places, first, carry, true),
             setters.turns,
@@ -101,7 +95,7 @@ fn said_by(
             setters.turns,
             cause_at(s, sheet, places, first, result, false),
         ),
-        Telling::Value(register, value) => Said::One(phrase::value_of(register, value), 0),
+        Telling::Value(register, value) => Said::One(Cause::Value(register, value), 0),
     }
 }
 
@@ -113,17 +107,15 @@ fn telling_at(
     first: usize,
     end: usize,
     mnemonic: Mnemonic,
-) -> Telling
+) -> Option<Telling>
     requires s_value { reading_of s.now ≡ Accepted sheet }
     requires places_value { places.now ≡ (sheet_at s.now).instructions.places }
     requires end_in_bounds { end ≤ length places.now }
     ensures { result ≡ telling_of (stepped_all nothing_known (slice first end (sheet_at s.now).instructions.list)) mnemonic }
 {
-    let start = State::unknown();
-    let mut registers = start.registers;
-    let known = start.flags;
-    let flags = verdict_block::step_over(s, sheet, places, first, end, &mut registers, known);
-    sentence::jump_telling(&registers, flags, mnemonic)
+    let mut state = State::unknown();
+    verdict_block::step_over(s, sheet, places, first, end, &mut state);
+    sentence::jump_telling(&state, mnemonic)
 }
 
 // The sentence at the end of the instructions of an accepted sheet from number `first` up to `end`.
@@ -138,9 +130,8 @@ fn said_in(s: &[u8], sheet: Sheet, places: &[u64], first: usize, end: usize) -> 
         return Said::Nothing;
     }
     let last = end - 1;
-    let jump = verdict_block::jump_at(s, sheet, places, last);
-    match jump {
-        Jump::Conditional(mnemonic) => said_by(
+    match verdict_block::jump_at(s, sheet, places, last) {
+        Some(mnemonic) => said_by(
             s,
             sheet,
             places,
@@ -148,7 +139,7 @@ fn said_in(s: &[u8], sheet: Sheet, places: &[u64], first: usize, end: usize) -> 
             setters_in(s, sheet, places, first, last),
             telling_at(s, sheet, places, first, last, mnemonic),
         ),
-        Jump::Nothing => Said::Nothing,
+        None => Said::Nothing,
     }
 }
 
@@ -160,7 +151,7 @@ pub fn sentence_on(
     places: &[u64],
     number: u64,
     text: &mut [u8],
-) -> Fit
+) -> Result<usize, TooShort>
     requires s_value { reading_of s.now ≡ Accepted sheet }
     requires number_lt_count { number < sheet.blocks.count }
     requires addresses_value { addresses.now ≡ addresses_of (sheet_at s.now).instructions.list }
