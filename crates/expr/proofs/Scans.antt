@@ -77,7 +77,6 @@ module _ (p : ℕ → Bool) (q : Expr → Bool) (agree : (e : Expr) → q e ≡ 
 
   -- the same of Wf words and their tree
   pub any-tree : (ws : List ℕ) → Wf ws → any_tag p ws ≡ any_node q (tree_of ws)
-  unfolding Wf
   any-tree ws h = ap (any_tag p) (sym h) ∙ any-flat (tree_of ws)
 
 -- the tests of trees and of tags agree

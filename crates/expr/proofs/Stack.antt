@@ -39,7 +39,7 @@ fed-flat (ternary c a b) st rest h =
     simp append_assoc (fed-flat c st _ (fed-flat a (c ∷ st) _ (fed-flat b (a ∷ c ∷ st) _ (fed-own (ternary c a b) st rest h))))
 
 pub fed-tree : (ws : List ℕ) → Wf ws → Fed [] ws
-unfolding Wf Fed
+unfolding Fed
 fed-tree ws h = subst (Fed []) (append-nil (flat (tree_of ws)) ∙ h) (fed-flat (tree_of ws) [] [] tt)
 
 -- the next record of fed words l, and what is behind it

@@ -1,9 +1,11 @@
 // Expression records: what the words of a tree say, read off the words themselves.
 #![tactic(auto)]
 
-ghost use Rattle.std.specs.Prelude.{◌≡◌, ◌≤◌, length, get_or};
+ghost use Rattle.std.specs.Prelude.{◌≡◌, ◌+◌, ◌≤◌, length, get_or};
 ghost use Rattle.expr.specs.Codes.{signed8};
-ghost use Rattle.expr.specs.Tree.{kind_of, argument_of, arity_of, Wf, Trees, tree_of, tree_count, last_start};
+ghost use Rattle.expr.specs.Tree.{kind_of, argument_of, arity_of, tag_of, value_of, Wf, Trees, tree_of, tree_count, last_start};
+ghost use Rattle.expr.specs.Tree.Expr.{constant as constant_tree, cast as cast_tree, binary as binary_tree, ternary as ternary_tree};
+ghost use Rattle.expr.specs.Root.{root_of, root_argument};
 ghost use Rattle.expr.specs.Scan.{has_own_value, has_load, plain_expr, reads as reads_of, any_tag, of_kind, same_tree};
 ghost use Rattle.expr.specs.Types.{bits, promoted as promoted_of, common as common_of, plain_type, same_type, together, constant_type, binary_type, record_type, type_of};
 
@@ -339,4 +341,160 @@ pub fn last_start(rs: &[u64]) -> usize
         left = left - 1 + arity(rs[at]);
     }
     at
+}
+
+// What the root of a tree is.
+#[derive(Clone, Copy, PartialEq, Eq, Debug)]
+pub enum Root {
+    Variable,
+    Constant,
+    True,
+    False,
+    Effect,
+    Load,
+    Cast,
+    Binary,
+    Ternary,
+}
+
+// Words that are exactly one tree.
+#[derive(Clone, Copy)]
+pub struct Tree<'a> {
+    pub words: &'a [u64],
+    pub ghost wf: { Wf words.now },
+}
+
+impl<'a> Tree<'a> {
+    pub fn new(words: &'a [u64]) -> Tree<'a>
+        requires { Wf words.now }
+        ensures { result.words.now ≡ words.now }
+    {
+        Tree { words }
+    }
+
+    // The tag word of the root.
+    pub fn tag(self) -> u64
+        ensures { result ≡ tag_of (tree_of self.entry.words.now) }
+    {
+        self.words[self.words.len() - 2]
+    }
+
+    // What the root is.
+    pub fn root(self) -> Root
+        ensures { result ≡ root_of (tree_of self.entry.words.now) }
+    {
+        match kind(self.tag()) {
+            VARIABLE => Root::Variable,
+            CONSTANT => Root::Constant,
+            TRUE => Root::True,
+            FALSE => Root::False,
+            EFFECT => Root::Effect,
+            LOAD => Root::Load,
+            CAST => Root::Cast,
+            BINARY => Root::Binary,
+            TERNARY => Root::Ternary,
+            _ => unreachable!(),
+        }
+    }
+
+    // The root's argument: a variable's number, a constant's width, a type or an operator.
+    pub fn argument(self) -> u64
+        ensures { result ≡ root_argument (tree_of self.entry.words.now) }
+    {
+        argument(self.tag())
+    }
+
+    // A constant's value; 0 for any other root.
+    pub fn value(self) -> u64
+        ensures { result ≡ value_of (tree_of self.entry.words.now) }
+    {
+        self.words[self.words.len() - 1]
+    }
+
+    // What is cast.
+    pub fn child(self) -> Tree<'a>
+        requires { root_of (tree_of self.words.now) ≡ Root.Cast }
+        ensures tree { tree_of self.entry.words.now ≡ cast_tree (root_argument (tree_of self.entry.words.now)) (tree_of result.words.now) }
+        ensures size { length result.words.now + 2 ≡ length self.entry.words.now }
+    {
+        Tree {
+            words: &self.words[..self.words.len() - 2],
+        }
+    }
+
+    // An operator's sides.
+    pub fn sides(self) -> (Tree<'a>, Tree<'a>)
+        requires { root_of (tree_of self.words.now) ≡ Root.Binary }
+        ensures tree { tree_of self.entry.words.now ≡ binary_tree (root_argument (tree_of self.entry.words.now)) (tree_of result.0.words.now) (tree_of result.1.words.now) }
+        ensures size { length result.0.words.now + length result.1.words.now + 2 ≡ length self.entry.words.now }
+    {
+        let n = self.words.len() - 2;
+        let m = last_start(&self.words[..n]);
+        (
+            Tree {
+                words: &self.words[..m],
+            },
+            Tree {
+                words: &self.words[m..n],
+            },
+        )
+    }
+
+    // A ternary's condition and its two arms.
+    pub fn arms(self) -> (Tree<'a>, Tree<'a>, Tree<'a>)
+        requires { root_of (tree_of self.words.now) ≡ Root.Ternary }
+        ensures tree { tree_of self.entry.words.now ≡ ternary_tree (tree_of result.0.words.now) (tree_of result.1.words.now) (tree_of result.2.words.now) }
+        ensures size { length result.0.words.now + length result.1.words.now + length result.2.words.now + 2 ≡ length self.entry.words.now }
+    {
+        let n = self.words.len() - 2;
+        let m = last_start(&self.words[..n]);
+        let l = last_start(&self.words[..m]);
+        (
+            Tree {
+                words: &self.words[..l],
+            },
+            Tree {
+                words: &self.words[l..m],
+            },
+            Tree {
+                words: &self.words[m..n],
+            },
+        )
+    }
+
+    // Whether something with a value of its own at each occurrence stands in the tree.
+    pub fn has_own_value(self) -> bool
+        ensures { result ≡ has_own_value (tree_of self.entry.words.now) }
+    {
+        has_own_value(self.words)
+    }
+
+    // Whether the variables alone give the tree's value.
+    pub fn is_plain(self) -> bool
+        ensures { result ≡ plain_expr (tree_of self.entry.words.now) }
+    {
+        is_plain(self.words)
+    }
+
+    // Whether the variable of number v stands in the tree, under a load too.
+    pub fn reads(self, v: u64) -> bool
+        ensures { result ≡ reads_of v (tree_of self.entry.words.now) }
+    {
+        reads(self.words, v)
+    }
+
+    // The static type of the tree, given its variables' types.
+    pub fn static_type(self, types: &[u8]) -> u64
+        requires { length self.words.now ≤ 256 }
+        ensures { result ≡ type_of types.now (tree_of self.entry.words.now) }
+    {
+        static_type(self.words, types)
+    }
+
+    // Whether two trees are the same, record for record.
+    pub fn same(self, other: Tree) -> bool
+        ensures { result ≡ same_tree (tree_of self.entry.words.now) (tree_of other.entry.words.now) }
+    {
+        self.words == other.words
+    }
 }
