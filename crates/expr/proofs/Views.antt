@@ -6,12 +6,12 @@ use native.Mathlib.Omega.{arith}
 use lib.Dec.{lit<}
 use lib.ListN.{length, get_or, take, drop, length-take}
 use lib.Seq.{take_at, drop_at}
-use Rattle.expr.specs.Tree.{Expr, flat, own, kind_of, argument_of, tag_of, value_of, tree_of, last_start, Trees, tree_count, Wf, Formed}
+use Rattle.expr.specs.Tree.{Expr, flat, own, kind_of, argument_of, tag_of, value_of, child, tree_of, last_start, Trees, tree_count, Wf, Formed}
 use Rattle.expr.specs.Tree.Expr.{variable, constant, condition_true, condition_false, effect, load, cast, binary, ternary}
 use Rattle.expr.specs.Root.{root_of, root_argument}
 use Rattle.expr.specs.declared.Root.{Root}
 use Rattle.expr.specs.declared.Root.TheVariants.{Variable, Constant, True, False, Effect, Load, Cast, Binary, Ternary}
-use Rattle.expr.proofs.Laws.{kind-of, argument-of, wf-two}
+use Rattle.expr.proofs.Laws.{kids, kind-of, argument-of, wf-two}
 use Rattle.expr.proofs.Parts.{root, root-place}
 use Rattle.expr.proofs.Children.{OneChild, TwoChildren, ThreeChildren, cast-child, binary-children, ternary-front, ternary-children, has-children, root-formed}
 
@@ -134,15 +134,33 @@ sides-standing ws l r o w u v h =
     let words : ws ≡ l ++ (r ++ rest) = sym w ∙ ap flat h ∙ ap₂ (λ (j k : List ℕ). j ++ (k ++ rest)) u v in
     subst (λ (ws : List ℕ). Standing ws l r) (sym words) (standing l r rest)
 
--- a constant is told by its root's record
+-- a tree by its root: the root's kind, argument and value, and the trees below it, the last one first
+abbrev pub made : Root → ℕ → ℕ → List Expr → Expr
+made Variable n x st = variable n
+made Constant n x st = constant n x
+made True n x st = condition_true
+made False n x st = condition_false
+made Effect n x st = effect n
+made Load n x st = load n (child st 0)
+made Cast n x st = cast n (child st 0)
+made Binary n x st = binary n (child st 1) (child st 0)
+made Ternary n x st = ternary (child st 2) (child st 1) (child st 0)
+
+made-again : (e : Expr) → e ≡ made (root_of e) (root_argument e) (value_of e) (kids e)
+unfolding root_of root_argument value_of kids
+made-again (variable n) = refl
+made-again (constant w x) = refl
+made-again condition_true = refl
+made-again condition_false = refl
+made-again (effect t) = refl
+made-again (load t a) = refl
+made-again (cast t a) = refl
+made-again (binary o a b) = refl
+made-again (ternary c a b) = refl
+
+-- a tree whose root's kind is known
+pub by-root : (e : Expr) (r : Root) → root_of e ≡ r → e ≡ made r (root_argument e) (value_of e) (kids e)
+by-root e r h = made-again e ∙ ap (λ (q : Root). made q (root_argument e) (value_of e) (kids e)) h
+
 pub constant-root : (e : Expr) → root_of e ≡ Constant → e ≡ constant (root_argument e) (value_of e)
-unfolding root_of root_argument value_of
-constant-root (variable n) h = cc
-constant-root (constant w x) h = refl
-constant-root condition_true h = cc
-constant-root condition_false h = cc
-constant-root (effect t) h = cc
-constant-root (load t a) h = cc
-constant-root (cast t a) h = cc
-constant-root (binary o a b) h = cc
-constant-root (ternary c a b) h = cc
+constant-root e h = by-root e Constant h

@@ -262,7 +262,7 @@ pub fn binary_type(operator: u64, a: u64, b: u64) -> u64
 }
 
 // The type of the variable of this number.
-fn variable_type(types: &[u8], number: u64) -> u64
+pub fn variable_type(types: &[u8], number: u64) -> u64
     ensures { result ≡ get_or types.now number signed8 }
 {
     let i = number as usize;

@@ -1,27 +1,27 @@
 -- `value::arithmetic` meets its contract: each number reads its entry of the table.
 -- Assumes nothing.
+use Rattle.std.specs.Prelude.{Some}
 use mathlib.Core.Path.{ap, sym}
 use lib.ListN.{get_or-eq_default}
 use Rattle.std.proofs.Common.{rules}
 use Rattle.value.proofs.Laws.{past-four}
 use Rattle.value.specs.Operators.{arithmetics, Operation, no_operation}
-use Rattle.value.specs.declared.Value.TheVariants.{Of}
 use Rattle.value.proofs.arithmetic.Goals as goal
 
 pub returns-in-0 : goal.returns-in-0
 unfolding arithmetics
 returns-in-0 c =
-    rw c.in-0.is (ap Of c.sum.ensures)
+    rw c.in-0.is (ap Some c.sum.ensures)
 
 pub returns-in-1 : goal.returns-in-1
 unfolding arithmetics
 returns-in-1 c =
-    rw c.in-1.is (ap Of c.difference.ensures)
+    rw c.in-1.is (ap Some c.difference.ensures)
 
 pub returns-in-2 : goal.returns-in-2
 unfolding arithmetics
 returns-in-2 c =
-    rw c.in-2.is (ap Of c.product.ensures)
+    rw c.in-2.is (ap Some c.product.ensures)
 
 pub returns-in-3 : goal.returns-in-3
 unfolding arithmetics
