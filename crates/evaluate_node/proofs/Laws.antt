@@ -29,7 +29,6 @@ use Rattle.evaluate_node.specs.declared.Progress.{Progress}
 use Rattle.evaluate_node.specs.declared.Progress.TheVariants.{Went, Stopped, NotPlain}
 use Rattle.evaluate_node.specs.declared.Step.{Step}
 use Rattle.value.specs.Evaluation.{evaluated}
-use Rattle.value.specs.Promises.{Ready}
 
 -- ---- values
 
@@ -100,11 +99,6 @@ module _ (types s : List ℕ) (p : Place) {f : StatementReading} {before after :
     (on : WentOn (statement_at types s p).next) (plain : plain_statement (statement_of (statement_at types s p)) ≡ true) where
   is-assigned : f.assigned ≡ true
   is-assigned = took.assigned ∙ plain-assigned (statement_at types s p) plain
-
-  pub taken-ready : Ready (take (2 * f.records) after)
-  taken-ready =
-      let a = took-assigned types s p took on is-assigned in
-      record { wf = a.tree; few = a.short; plain = rw (took-words took on) (plain-words (statement_at types s p) plain) }
 
   -- an assignment that is made
   pub made : (values : List ℕ) {v : Option ℕ} → v ≡ evaluated types values (tree_of (take (2 * f.records) after))

@@ -94,7 +94,8 @@ run-from types c condition i (assignment v e ∷ rest) values p d q =
     go None is rest-is =
         stops types c condition i values v e rest (is_plain e (and_left (plain_expr e) (plain_all rest) p)) is ∙ rw (is, stays types rest values)
 
-module _ (s : List ℕ) (node : NodeReading) (place : ℕ) (types values words : List ℕ) (r : Running s node types words) where
+module _ (s : List ℕ) (node : NodeReading) (place : ℕ) (types values words : List ℕ) (r : Running s node types words)
+    (plain : plain_expr (tree_of words) ≡ true) where
   abbrev L : List Statement
   L = (statements_from types s node.body node.statements).list
 
@@ -114,7 +115,7 @@ module _ (s : List ℕ) (node : NodeReading) (place : ℕ) (types values words :
 
   module _ (p : plain_all L ≡ true) where
     plain-is : evaluation_of (node_of s node) place values ≡ on_fit (unfit_from 0 types values) (on_truth place (run types L C (on_values values)))
-    plain-is = evaluation-is ∙ rw (p, r.ready.plain)
+    plain-is = evaluation-is ∙ rw (p, plain)
 
     -- the run from the borrowed values is the one from the buffer that holds them
     the-run : {start : List ℕ} → start ≡ take (length types) values ++ drop (length types) (replicate 32 0) → length types ≤ length values
@@ -124,10 +125,10 @@ module _ (s : List ℕ) (node : NodeReading) (place : ℕ) (types values words :
         let long : length types ≤ length start = rw (is, length-append, length-take) (omega arith) in
         let all : AllBelow (length types) L = rw r.types_are reads.statements in
         let own : Below (length types) C = rw (r.types_are, r.words_are) reads.condition in
-        same-run types (length types) (on_values values) (on_values values) C 0 L (lent values) (lent start) p r.ready.plain all own
+        same-run types (length types) (on_values values) (on_values values) C 0 L (lent values) (lent start) p plain all own
         (λ v below. sym (rw is (get_or-append (take (length types) values) _ 0 v (rw (length-take-le (length types) values enough) below) ∙ get_or-take (length types) values v 0 below)))
         ∙ run-from types (on_values values) C 0 L start p
-        (declared-more (length types) _ L long (declared-all types s node.body node.statements r.statements.1)) r.ready.plain
+        (declared-more (length types) _ L long (declared-all types s node.body node.statements r.statements.1)) plain
 
     module _ {fit : Fit} (fit_is : fit ≡ unfit_from 0 types values) (fits : Bool) (start : List ℕ)
         (started : Started fits fit (length types) values (replicate 32 0) start) {after : List ℕ} where

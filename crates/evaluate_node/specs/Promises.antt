@@ -8,7 +8,6 @@ use Rattle.sheet_expression.specs.Expression.{expression_at}
 use Rattle.sheet_node.specs.declared.NodeReading.{NodeReading}
 use Rattle.sheet_node.specs.Node.{StatementRead, statement_of, statements_from, node_at}
 use Rattle.value.specs.Evaluation.{evaluated}
-use Rattle.value.specs.Promises.{Ready}
 use Rattle.evaluate_node.specs.declared.Fit.{Fit}
 use Rattle.evaluate_node.specs.declared.Fit.TheVariants.{AllFit, Unfit}
 use Rattle.evaluate_node.specs.declared.Progress.{Progress}
@@ -75,6 +74,5 @@ pub record Running (s : List ℕ) (node : NodeReading) (types words : List ℕ) 
   pub on : WentOn node.next
   pub types_are : types ≡ take node.variables (drop (start_of node.types) s)
   pub words_are : words ≡ (expression_at node.variables s node.condition).words
-  pub ready : Ready words
   pub few : length types ≤ 32
   pub statements : WentOn (statements_from types s node.body node.statements).next
