@@ -1,12 +1,12 @@
 -- A tree's root and what stands below it, read off the tree's words: what the methods of `Tree` rest on. Assumes nothing.
 use mathlib.Core.Path.{◌≡◌, refl, sym, ap, ap₂, subst, ◌∙◌}
 use mathlib.Core.List.{List, [], ◌∷◌, ◌++◌}
-use Prim.Native.Nat.{ℕ, ◌+◌, ◌/◌, ◌%◌, ◌-◌, ◌≤◌, ◌<◌}
+use Prim.Native.Nat.{ℕ, ◌+◌, ◌/◌, ◌%◌, ◌-◌, ◌≤◌}
 use native.Mathlib.Omega.{arith}
 use lib.Dec.{lit<}
-use lib.ListN.{length, get_or, take, drop, length-take}
+use lib.ListN.{length, get_or, take, drop}
 use lib.Seq.{take_at, drop_at}
-use Rattle.expr.specs.Tree.{Expr, flat, own, kind_of, argument_of, tag_of, value_of, child, tree_of, last_start, Trees, tree_count, Wf, Formed}
+use Rattle.expr.specs.Tree.{Expr, flat, own, kind_of, argument_of, tag_of, value_of, child, tree_of, last_start, Trees, tree_count, Wf}
 use Rattle.expr.specs.Tree.Expr.{variable, constant, condition_true, condition_false, effect, load, cast, binary, ternary}
 use Rattle.expr.specs.Root.{root_of, root_argument}
 use Rattle.expr.specs.declared.Root.{Root}

@@ -119,60 +119,6 @@ pub fn arity(tag: u64) -> u64
     (ARITIES >> (2 * kind(tag))) % 4
 }
 
-// Whether a record of this kind stands among the words.
-fn has_kind(rs: &[u64], k: u64) -> bool
-    ensures { result ≡ any_tag (of_kind k) rs.now }
-{
-    let mut i = 0;
-    while i < rs.len() {
-        if kind(rs[i]) == k {
-            return true;
-        }
-        i += 2;
-    }
-    false
-}
-
-// Whether something with a value of its own at each occurrence stands in the tree.
-pub fn has_own_value(rs: &[u64]) -> bool
-    requires { Wf rs.now }
-    ensures { result ≡ has_own_value (tree_of rs.now) }
-{
-    has_kind(rs, EFFECT)
-}
-
-// Whether a load stands in the tree.
-fn has_load(rs: &[u64]) -> bool
-    requires { Wf rs.now }
-    ensures { result ≡ has_load (tree_of rs.now) }
-{
-    has_kind(rs, LOAD)
-}
-
-// Whether the variables alone give the tree's value.
-pub fn is_plain(rs: &[u64]) -> bool
-    requires { Wf rs.now }
-    ensures { result ≡ plain_expr (tree_of rs.now) }
-{
-    !(has_own_value(rs) | has_load(rs))
-}
-
-// Whether the variable of number v stands in the tree, under a load too.
-pub fn reads(rs: &[u64], v: u64) -> bool
-    requires { Wf rs.now }
-    ensures { result ≡ reads_of v (tree_of rs.now) }
-{
-    let mut i = 0;
-    while i < rs.len() {
-        let tag = rs[i];
-        if (kind(tag) == VARIABLE) & (argument(tag) == v) {
-            return true;
-        }
-        i += 2;
-    }
-    false
-}
-
 // How many bits a value of the type has.
 pub fn width(t: u64) -> u64
     ensures { result ≡ bits t }
@@ -286,46 +232,6 @@ pub fn record_type(tag: u64, types: &[u8], a: u64, b: u64) -> u64
         TRUE | FALSE => SIGNED_32,
         _ => NO_TYPE,
     }
-}
-
-// The static type of the tree, given its variables' types: one pass over the records, with the types of the trees that are complete so far
-// on a stack above two empty entries.
-pub fn static_type(rs: &[u64], types: &[u8]) -> u64
-    requires wf { Wf rs.now }
-    requires rs_len_bound { length rs.now ≤ 256 }
-    ensures { result ≡ type_of types.now (tree_of rs.now) }
-{
-    let mut stack: [u64; 130] = [0; 130];
-    let mut top: usize = 2;
-    let mut i: usize = 0;
-    while i < rs.len() {
-        let tag = rs[i];
-        let t = record_type(tag, types, stack[top - 2], stack[top - 1]);
-        let at = top - arity(tag) as usize;
-        stack[at] = t;
-        top = at + 1;
-        i += 2;
-    }
-    stack[2]
-}
-
-// Whether two trees are the same, record for record.
-pub fn same(a: &[u64], b: &[u64]) -> bool
-    requires wf { Wf a.now }
-    requires wf_2 { Wf b.now }
-    ensures { result ≡ same_tree (tree_of a.now) (tree_of b.now) }
-{
-    if a.len() != b.len() {
-        return false;
-    }
-    let mut i = 0;
-    while i < a.len() {
-        if a[i] != b[i] {
-            return false;
-        }
-        i += 1;
-    }
-    true
 }
 
 // Where the last tree of a list of trees starts: from the end back, with the number of trees that are still to be passed.
@@ -462,33 +368,68 @@ impl<'a> Tree<'a> {
         )
     }
 
+    // Whether a record of this kind stands in the tree.
+    fn has_kind(self, k: u64) -> bool
+        ensures { result ≡ any_tag (of_kind k) self.entry.words.now }
+    {
+        for record in self.words.chunks_exact(2) {
+            if kind(record[0]) == k {
+                return true;
+            }
+        }
+        false
+    }
+
     // Whether something with a value of its own at each occurrence stands in the tree.
     pub fn has_own_value(self) -> bool
         ensures { result ≡ has_own_value (tree_of self.entry.words.now) }
     {
-        has_own_value(self.words)
+        self.has_kind(EFFECT)
+    }
+
+    // Whether a load stands in the tree.
+    fn has_load(self) -> bool
+        ensures { result ≡ has_load (tree_of self.entry.words.now) }
+    {
+        self.has_kind(LOAD)
     }
 
     // Whether the variables alone give the tree's value.
     pub fn is_plain(self) -> bool
         ensures { result ≡ plain_expr (tree_of self.entry.words.now) }
     {
-        is_plain(self.words)
+        !(self.has_own_value() | self.has_load())
     }
 
     // Whether the variable of number v stands in the tree, under a load too.
     pub fn reads(self, v: u64) -> bool
         ensures { result ≡ reads_of v (tree_of self.entry.words.now) }
     {
-        reads(self.words, v)
+        for record in self.words.chunks_exact(2) {
+            let tag = record[0];
+            if (kind(tag) == VARIABLE) & (argument(tag) == v) {
+                return true;
+            }
+        }
+        false
     }
 
-    // The static type of the tree, given its variables' types.
+    // The static type of the tree, given its variables' types: one pass over the records, with the types of the trees that are complete so far
+    // on a stack above two empty entries.
     pub fn static_type(self, types: &[u8]) -> u64
         requires { length self.words.now ≤ 256 }
         ensures { result ≡ type_of types.now (tree_of self.entry.words.now) }
     {
-        static_type(self.words, types)
+        let mut stack: [u64; 130] = [0; 130];
+        let mut top: usize = 2;
+        for record in self.words.chunks_exact(2) {
+            let tag = record[0];
+            let t = record_type(tag, types, stack[top - 2], stack[top - 1]);
+            let at = top - arity(tag) as usize;
+            stack[at] = t;
+            top = at + 1;
+        }
+        stack[2]
     }
 
     // Whether two trees are the same, record for record.
@@ -497,4 +438,33 @@ impl<'a> Tree<'a> {
     {
         self.words == other.words
     }
+}
+
+pub fn has_own_value(rs: &[u64]) -> bool
+    requires { Wf rs.now }
+    ensures { result ≡ has_own_value (tree_of rs.now) }
+{
+    Tree { words: rs }.has_own_value()
+}
+
+pub fn is_plain(rs: &[u64]) -> bool
+    requires { Wf rs.now }
+    ensures { result ≡ plain_expr (tree_of rs.now) }
+{
+    Tree { words: rs }.is_plain()
+}
+
+pub fn reads(rs: &[u64], v: u64) -> bool
+    requires { Wf rs.now }
+    ensures { result ≡ reads_of v (tree_of rs.now) }
+{
+    Tree { words: rs }.reads(v)
+}
+
+pub fn same(a: &[u64], b: &[u64]) -> bool
+    requires wf { Wf a.now }
+    requires wf_2 { Wf b.now }
+    ensures { result ≡ same_tree (tree_of a.now) (tree_of b.now) }
+{
+    Tree { words: a }.same(Tree { words: b })
 }
