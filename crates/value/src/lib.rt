@@ -9,8 +9,8 @@ ghost use Rattle.expr.specs.Tree.{tree_of};
 ghost use Rattle.expr.specs.Tree.Expr.{cast as cast_tree, binary as binary_tree, ternary as ternary_tree};
 ghost use Rattle.expr.specs.Types.{binary_type, type_of};
 ghost use Rattle.expr.specs.declared.Root.TheVariants as root;
-ghost use Rattle.arith.specs.Numbers.{bits, quotient, remainder};
-ghost use Rattle.value.specs.Operators.{Typed, Typed-prop, integer_of, chosen as chosen_of, flag, taken as taken_at, divides, arithmetics, shifts, comparisons, no_operation, operators, no_operator, strict as strict_of, is_logic as is_logic_of, connect};
+ghost use Rattle.arith.specs.Numbers.{bits};
+ghost use Rattle.value.specs.Operators.{Typed, Typed-prop, integer_of, chosen as chosen_of, flag, taken as taken_at, arithmetics, shifts, comparisons, no_operation, operators, no_operator, strict as strict_of, is_logic as is_logic_of, connect};
 ghost use Rattle.value.specs.Evaluation.{evaluated, settled};
 
 use expr::{Root, Tree};
@@ -88,23 +88,6 @@ fn flagged(b: bool) -> Option<u64>
     Some(u64::from(b))
 }
 
-// The quotient, or what is left of the dividend; nothing where the divisor is zero.
-fn ratio(whole: bool, t: u64, a: u64, b: u64) -> Option<u64>
-    requires a_bound { a < 2 ^ bits t }
-    requires b_bound { b < 2 ^ bits t }
-    ensures { result ≡ divides b (cond whole (quotient t a b) (remainder t a b)) }
-{
-    if b == 0 {
-        return None;
-    }
-    let d = arith::divided(t, a, b);
-    if whole {
-        Some(d.quotient)
-    } else {
-        Some(d.remainder)
-    }
-}
-
 // + - × / % & | ^ on two values of type t.
 fn arithmetic(operator: u64, t: u64, a: u64, b: u64) -> Option<u64>
     requires a_bound { a < 2 ^ bits t }
@@ -115,8 +98,8 @@ fn arithmetic(operator: u64, t: u64, a: u64, b: u64) -> Option<u64>
         expr::ADD => Some(arith::sum(t, a, b)),
         expr::SUB => Some(arith::difference(t, a, b)),
         expr::MUL => Some(arith::product(t, a, b)),
-        expr::DIV => ratio(true, t, a, b),
-        expr::MOD => ratio(false, t, a, b),
+        expr::DIV => arith::checked_div(t, a, b),
+        expr::MOD => arith::checked_rem(t, a, b),
         expr::AND => Some(a & b),
         expr::OR => Some(a | b),
         expr::XOR => Some(a ^ b),

@@ -26,12 +26,12 @@ returns-in-2 c =
 pub returns-in-3 : goal.returns-in-3
 unfolding arithmetics
 returns-in-3 c =
-    rw c.in-3.is c.ratio.ensures
+    rw c.in-3.is c.checked_div.ensures
 
 pub returns-in-4 : goal.returns-in-4
 unfolding arithmetics
 returns-in-4 c =
-    rw c.in-4.is c.ratio-in-4.ensures
+    rw c.in-4.is c.checked_rem.ensures
 
 pub returns-in-5 : goal.returns-in-5
 unfolding arithmetics
