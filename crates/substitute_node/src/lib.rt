@@ -28,6 +28,7 @@ struct Step {
 
 // What the substitution of a node of up to N variables works in: what is held for each, the words of the records that are read, and of those that are
 // written.
+#[derive(Drop)]
 pub struct Room<const N: usize> {
     held: Held<N>,
     words: [u64; 256],

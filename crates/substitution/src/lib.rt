@@ -35,6 +35,7 @@ fn put_before(list: &mut [u64], at: usize, words: &[u64]) -> Option<usize>
 }
 
 // What is held for each of N variables.
+#[derive(Drop)]
 pub struct Held<const N: usize> {
     slots: [Slot; N],
 }
