@@ -81,13 +81,13 @@ module _ (s : List ℕ) (node : NodeReading) (read : ReadNode s node) {front : N
     pub judged-into : (place : ℕ) {r : JudgedNode} (c : Expr) {end : ℕ} → with_assignments passed.list (tree_of condition.words) ≡ into c
         → At end ≡ condition.next → r.answer ≡ on_substituted place (into c)
         → r.addresses ≡ (count_at 0 16 s (At end)).value → r.sites ≡ (count_at 0 16 s (At end)).next → JudgedIs r s node place
-    judged-into place c made end-is answer addresses sites =
-        let after : At end ≡ (expression_at (length (types_in s node)) s (statements_from (types_in s node) s node.body node.statements).next).next = ? in
-        record {
-          answer = answer ∙ ap (on_substituted place) (sym made) ∙ sym (verdict-here place);
-          addresses = λ v given. addresses ∙ ?;
-          sites = λ v given. sites ∙ ?;
-        }
+    judged-into place c made end-is answer addresses sites = record {
+      answer = answer ∙ ap (on_substituted place) (sym made) ∙ sym (verdict-here place);
+      addresses = λ v given. addresses ∙ ap (λ (p : Place). (count_at 0 16 s p).value) end-is
+          ∙ rw (these, front-is, (parts s node read).body) (parts s node read).addresses;
+      sites = λ v given. sites ∙ ap (λ (p : Place). (count_at 0 16 s p).next) end-is
+          ∙ rw (these, front-is, (parts s node read).body) (parts s node read).sites;
+    }
 
     -- refusal 10
     pub judged_long : (place : ℕ) {r : JudgedNode} → with_assignments passed.list (tree_of condition.words) ≡ too_long → r.answer ≡ Refused RECORDS place
@@ -100,6 +100,14 @@ module _ (s : List ℕ) (node : NodeReading) (read : ReadNode s node) {front : N
       where
         refused : (v : Verdict) → r.answer ≡ Given v → ⊥
         refused v given = let z : ◌≡◌ {A = ℕ} 0 1 = cc in omega arith
+
+-- a condition in the words that its reader left
+pub record PlainRead (t : Taken) (records last : ℕ) (after : List ℕ) : Type 0 where
+  pub few : records ≤ 128
+  pub tree : Wf (take (2 * records) after)
+  pub short : length (take (2 * records) after) ≤ 256
+  pub words : take (2 * records) after ≡ t.words
+  pub place : At last ≡ t.next
 
 -- a node without statements: its condition stands as it was read
 module _ (s : List ℕ) (node : NodeReading) (read : ReadNode s node) {front : NodeFront} (front-is : front ≡ front_of node) (none : front.statements ≡ 0) where
@@ -129,22 +137,23 @@ module _ (s : List ℕ) (node : NodeReading) (read : ReadNode s node) {front : N
     pub plain-on : WentOn (expression_at front.variables s (At start)).next
     plain-on = rw body_at stands_on
 
-    pub plain-took : {records : ℕ} {next : Place} {before after : List ℕ} → Took records next before after (expression_at front.variables s (At start))
-        → Took records next before after (expression_at front.variables s front.body)
-    plain-took took = rw (← body_at) took
+    -- its words, as its reader left them
+    pub plain-read : {records last : ℕ} {before after : List ℕ}
+        → ((variables : ℕ) → WentOn (expression_at variables s (At start)).next → Took records (At last) before after (expression_at variables s (At start)))
+        → PlainRead stands records last after
+    plain-read {records} {last} {before} {after} reader =
+        let took : Took records (At last) before after stands = rw (← body_at) (reader front.variables plain-on) in
+        let words = took-tree front.variables s front.body took stands_on in
+        record { few = took.few; tree = words.0; short = words.1; words = took-front took stands_on; place = took.place }
 
   nothing-passed : (passed s node read front-is {types = types_in s node} refl).list ≡ []
   unfolding statements_from
   nothing-passed = rw none
 
-  module _ {records : ℕ} {next : Place} {before after : List ℕ} (took : Took records next before after stands) where
-    pub plain-words : Wf (take (2 * records) after) × (length (take (2 * records) after) ≤ 256)
-    plain-words = took-tree front.variables s front.body took stands_on
-
-    pub judged-plain : (place : ℕ) {r : JudgedNode} {end : ℕ} → next ≡ At end → r.answer ≡ on_substituted place (into (tree_of (take (2 * records) after)))
-        → r.addresses ≡ (count_at 0 16 s (At end)).value → r.sites ≡ (count_at 0 16 s (At end)).next → JudgedIs r s node place
-    judged-plain place end-is answer addresses sites =
-        let words : take (2 * records) after ≡ stands.words = took-front took stands_on in
-        judged-into s node read front-is {types = types_in s node} refl place (tree_of (take (2 * records) after))
-        (rw (nothing-passed, ← stands-there, words) (nothing-assigned stands.words (rw words at plain-words.0) (rw words at plain-words.1)))
-        (sym end-is ∙ took.place ∙ ap (λ (t : Taken). t.next) stands-there) answer addresses sites
+  pub judged-plain : (place : ℕ) {r : JudgedNode} {records last : ℕ} {after : List ℕ} → PlainRead stands records last after
+      → r.answer ≡ on_substituted place (into (tree_of (take (2 * records) after)))
+      → r.addresses ≡ (count_at 0 16 s (At last)).value → r.sites ≡ (count_at 0 16 s (At last)).next → JudgedIs r s node place
+  judged-plain place {records = records} {after = after} p answer addresses sites =
+      judged-into s node read front-is {types = types_in s node} refl place (tree_of (take (2 * records) after))
+      (rw (nothing-passed, ← stands-there, ← p.words) (nothing-assigned (take (2 * records) after) p.tree p.short))
+      (p.place ∙ ap (λ (t : Taken). t.next) stands-there) answer addresses sites

@@ -58,6 +58,7 @@ fn verdict_among<const N: usize>(s: &[u8], at: usize, front: NodeFront) -> Judge
     requires went_on { WentOn (node_at s.now (At at)).next }
     requires front_value { front ≡ front_of (node_at s.now (At at)) }
     requires few { front.variables ≤ N }
+    requires places { N ≤ 32 }
     ensures { JudgedIs result s.now (node_at s.now (At at)) at }
 {
     let from = sheet_field::start(front.types);
