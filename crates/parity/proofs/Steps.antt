@@ -20,7 +20,7 @@ use Rattle.expr.proofs.Laws.{kind-of, wf-two}
 use Rattle.expr.proofs.Parts.{root}
 use Rattle.expr.proofs.Children.{root-kind}
 use Rattle.poly.specs.Terms.{Written, sum, product, sum_product}
-use Rattle.poly.proofs.Running.{length-times, times-one, written-ordered}
+use Rattle.poly.proofs.Running.{length-times, times_one, written-ordered}
 use Rattle.poly.proofs.Values.{ascending-sum}
 use Rattle.parity.specs.Parity.{constant_of, entered, few, few_pairs, joined, constant_poly, place, number_in, noted, atom_low}
 use Rattle.parity.specs.Parity.Entry.{adds, atom}
@@ -157,7 +157,7 @@ length-behind terms n k h = length-take-le k (drop n terms) (omega (arith, lengt
 
 -- a sum has no more terms than its two parts
 pub length-sum : (p q : List ℕ) → length (sum p q) ≤ length p + length q
-length-sum p q = rw (sym (times-one p q)) (length-times p 0 q)
+length-sum p q = rw (sym (times_one p q)) (length-times p 0 q)
 
 -- a polynomial at the start, its count held to the limit
 pub limited-made : {poly old new : List ℕ} {count room atoms : ℕ} {r : Size} → Written poly count room old new
