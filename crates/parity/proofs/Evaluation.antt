@@ -4,7 +4,7 @@ use Prim.Native.Nat.{ℕ, zero, suc, ◌%◌, ◌^◌, ◌<◌, ◌≤◌}
 use mathlib.Core.Path.{◌≡◌, refl, sym, ap, ◌∙◌}
 use mathlib.Core.Bool.{Bool, true, false, cond, not, xor, ◌&&◌, ◌||◌}
 use mathlib.Core.List.{List, []}
-use mathlib.Core.Option.{Option, none, some}
+use Rattle.std.specs.Prelude.{Option, Some, None}
 use native.Mathlib.Omega.{arith}
 use native.Mathlib.Nat.{mod-eq_of_lt, pow-le-pow_right}
 use lib.Bits.{bit_and, bit_or, bit_xor}
@@ -24,7 +24,9 @@ use Rattle.value.proofs.Independence.{without-own-value}
 use Rattle.arith.proofs.Laws.{convert-lt, count-is, cut-lt}
 use Rattle.parity.proofs.TypeLaws.{promoted-taken, together-taken, constant_wide}
 use Rattle.parity.specs.Parity.{constant_of, on_remainder, on_shift, entered}
-use Rattle.parity.specs.Parity.Entry.{keeps, clears, atom}
+use Rattle.parity.specs.declared.Entry.{Entry}
+use Rattle.parity.specs.declared.Entry.TheVariants.{Both, Keeps, Clears, Atom}
+use Rattle.parity.specs.declared.Pair.TheVariants.{Sum, Product, Or}
 use Rattle.parity.specs.LowBit.{bit, atom_bit, low_bit, low, Has, shared_bits, own_bits}
 use Rattle.parity.proofs.Entries.{bit_of, beyond, rule-entry}
 use Rattle.parity.proofs.LowBits.{width_low, convert-low, sum_low, difference_low, product-low, xor_low, and_low, or-low, remainder-low, shift_none, shift-some}
@@ -39,7 +41,7 @@ data View : ℕ → Type 0 where
   or : View 6
   exclusive : View 7
   left : View 8
-  other : {o : ℕ} → ((b : Expr) → entered o b ≡ atom) → View o
+  other : {o : ℕ} → ((b : Expr) → entered o b ≡ Atom) → View o
 
 view : (o : ℕ) → View o
 unfolding entered
@@ -162,17 +164,17 @@ shift-low s t (Of x) y p q less h = record { first = tt; keeps' = shift-keeps s 
 shift-low s t NoValue y p q less h = absurd (shift-none-value s t y h)
 
 -- a part that is a constant as written
-option-apart : (k : ℕ) → none ≡ some k → ⊥
+option-apart : (k : ℕ) → None ≡ Some k → ⊥
 option-apart k e = let z : ◌≡◌ {A = ℕ} 0 1 = cc in omega arith
 
-some-injective : {x y : ℕ} → some x ≡ some y → x ≡ y
+some-injective : {x y : ℕ} → Some x ≡ Some y → x ≡ y
 some-injective e = cc
 
 record Constant (b : Expr) (k : ℕ) : Type 0 where
   width : ℕ
   is : b ≡ constant width k
 
-constant-is : (b : Expr) (k : ℕ) → constant_of b ≡ some k → Constant b k
+constant-is : (b : Expr) (k : ℕ) → constant_of b ≡ Some k → Constant b k
 constant-is (variable n) k e = absurd (option-apart k e)
 constant-is (constant w x) k e = record { width = w; is = ap (constant w) (some-injective e) }
 constant-is condition_true k e = absurd (option-apart k e)
@@ -242,20 +244,20 @@ module _ (types : List ℕ) (ρ σ : Values) (m : Contents) where
         d.is ∙ rw (p d.first, q d.second)
 
     -- a constant on the right
-    constant-side : (k : ℕ) → constant_of b ≡ some k → (8 ≤ bits t) × (v ≡ Of (k % 2 ^ bits t))
+    constant-side : (k : ℕ) → constant_of b ≡ Some k → (8 ≤ bits t) × (v ≡ Of (k % 2 ^ bits t))
     unfolding type_of ev
     constant-side k is =
         let c = constant-is b k is in
         (rw c.is (constant_wide c.width), rw c.is)
 
     on-rest : (c : Option ℕ) → constant_of b ≡ c → Has (operate 4 s t u v) → low (operate 4 s t u v) ≡ z → low (operate 4 s t u v) ≡ bit_of (on_remainder c) x y z
-    on-rest none is h own = own
-    on-rest (some k) is h own = go (eqb k 0) (eqb (k % 2) 0) refl
+    on-rest None is h own = own
+    on-rest (Some k) is h own = go (eqb k 0) (eqb (k % 2) 0) refl
       where
         r : ℕ
         r = k % 2 ^ bits t
 
-        go : (c d : Bool) → eqb (k % 2) 0 ≡ d → low (operate 4 s t u v) ≡ bit_of (cond (not c && d) keeps atom) x y z
+        go : (c d : Bool) → eqb (k % 2) 0 ≡ d → low (operate 4 s t u v) ≡ bit_of (cond (not c && d) Keeps Atom) x y z
         go true d test = own
         go false false test = own
         go false true test =
@@ -266,8 +268,8 @@ module _ (types : List ℕ) (ρ σ : Values) (m : Contents) where
             rw side.1 (kept.is ∙ p kept.first)
 
     on-shift : (c : Option ℕ) → constant_of b ≡ c → Has (operate 8 s t u v) → low (operate 8 s t u v) ≡ z → low (operate 8 s t u v) ≡ bit_of (on_shift c) x y z
-    on-shift none is h own = own
-    on-shift (some k) is h own = go (eqb k 0) refl (ltb k 32) refl
+    on-shift None is h own = own
+    on-shift (Some k) is h own = go (eqb k 0) refl (ltb k 32) refl
       where
         side : (8 ≤ bits t) × (v ≡ Of (k % 2 ^ bits t))
         side = constant-side k is
@@ -279,7 +281,7 @@ module _ (types : List ℕ) (ρ σ : Values) (m : Contents) where
             let is' : v ≡ Of k = side.1 ∙ ap Of small in
             rw is' (shift-low s t u k (ev-typed types ρ σ (shared m) (under 0 f) a) (omega arith) less (rw is' at h))
 
-        go : (c : Bool) → eqb k 0 ≡ c → (d : Bool) → ltb k 32 ≡ d → low (operate 8 s t u v) ≡ bit_of (cond c keeps (cond d clears atom)) x y z
+        go : (c : Bool) → eqb k 0 ≡ c → (d : Bool) → ltb k 32 ≡ d → low (operate 8 s t u v) ≡ bit_of (cond c Keeps (cond d Clears Atom)) x y z
         go true test d below = let none' = eqb-true k 0 test in let d = shifted (omega arith) in d.keeps' none' ∙ p d.first
         go false test true below = let some' = eqb-false k 0 test in (shifted (ltb-true k 32 below)).clears' (omega (arith, some'))
         go false test false below = own
