@@ -12,6 +12,10 @@ use Rattle.parity.specs.declared.TooMany.{TooMany}
 abbrev pub too_many : TooMany
 too_many = record {}
 
+-- what is found within the limits, or that they are passed
+abbrev pub within : {A : Type 0} → Bool → A → Result A TooMany
+within fits found = cond fits (Ok found) (Err too_many)
+
 -- a part that is entered by both sides, given the atoms before it
 abbrev pub pair_of : Pair → List Expr → Expr → Expr → Low
 pair_of pair atoms a b = let x = parity atoms a in pair_low pair x (parity x.atoms b)
@@ -78,7 +82,7 @@ pub record Sides (terms : List ℕ) (n k : ℕ) (scratch : List ℕ) : Type 0 wh
 
 -- A polynomial within the limits stands at the start, and its size is told; else that it passes them.
 pub record Made (fits : Bool) (poly : List ℕ) (atoms : ℕ) (terms : List ℕ) (r : Result Size TooMany) : Type 0 where
-  pub size : r ≡ cond fits (Ok (record { terms = length poly; atoms = atoms })) (Err too_many)
+  pub size : r ≡ within fits (record { terms = length poly; atoms = atoms })
   pub stands : fits ≡ true → take (length poly) terms ≡ poly
 
 -- The same with the atoms in the table.

@@ -3,11 +3,11 @@
 // start, the right side's after it, and the two are put together at the start.
 #![tactic(auto)]
 
-ghost use Rattle.std.specs.Prelude.{◌≡◌, true, cond, ◌&&◌, ◌+◌, ◌≤◌, leb, length, take, drop};
+ghost use Rattle.std.specs.Prelude.{◌≡◌, true, ◌&&◌, ◌+◌, ◌≤◌, leb, length, take, drop};
 ghost use Rattle.expr.specs.Tree.{tree_of};
 ghost use Rattle.poly.specs.Terms.{sum as sum_of, product as product_of};
 ghost use Rattle.parity.specs.Parity.{constant_of, on_remainder, on_shift, entered as entered_of, place as place_in, number_in, parity as parity_of, few, few_pairs, constant_poly, joined as joined_of, pair_poly, pair_fits, atom_low};
-ghost use Rattle.parity.specs.Lent.{too_many, pair_of, atoms_at, Parts, ProductsRoom, Lent, LentTwo, Sides, Made, Given};
+ghost use Rattle.parity.specs.Lent.{within, pair_of, atoms_at, Parts, ProductsRoom, Lent, LentTwo, Sides, Made, Given};
 
 use expr::{Root, Tree};
 
@@ -155,7 +155,7 @@ fn constant_poly(terms: &mut [u64], x: u64) -> usize
 
 // A polynomial's count of terms is held to the limit.
 fn limited(terms: usize, atoms: usize) -> Result<Size, TooMany>
-    ensures { result ≡ cond (leb terms 256) (Ok (record { terms = terms; atoms = atoms })) (Err too_many) }
+    ensures { result ≡ within (leb terms 256) (record { terms = terms; atoms = atoms }) }
 {
     if 256 < terms {
         return Err(TooMany);

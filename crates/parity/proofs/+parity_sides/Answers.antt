@@ -1,5 +1,5 @@
 -- `sides` is called on the two sides of a part and calls `parity` on each: the measures are twice the words, and one more for `parity`.
-use Rattle.std.proofs.Common.{refl, sym, ◌∙◌, take, arith}
+use Rattle.std.proofs.Common.{refl, sym, ◌∙◌, arith}
 use Rattle.expr.proofs.Views.{cast-standing, sides-standing}
 use Rattle.parity.proofs.Calls.{lent-front, lent_two, given-same, given-as, low-constant, low-cast, low-binary, low-other, two-right, two-sides, two-given}
 use Rattle.parity.proofs.Rooms.{products-lent}

@@ -1,5 +1,5 @@
 use Rattle.std.proofs.Common.{arith}
-use Rattle.parity.proofs.Steps.{told, join-few, join-taken, join-ordered, join-made}
+use Rattle.parity.proofs.Steps.{told, join-few, join-taken, join-ordered}
 use Rattle.parity.proofs.join_sides.Goals as goal
 
 pub add-all-requires : goal.add-all-requires
