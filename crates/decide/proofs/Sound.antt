@@ -6,7 +6,6 @@ use Prim.Native.Nat.{ℕ, ◌%◌, ◌^◌, ◌<◌, ◌≤◌}
 use mathlib.Core.Path.{◌≡◌, refl, sym, ap, ap₂, ◌∙◌}
 use mathlib.Core.Bool.{Bool, true, false, cond, not, xor, ◌&&◌, ◌||◌, false≢true}
 use mathlib.Core.List.{List, [], ◌∷◌}
-use mathlib.Core.Option.{Option, none, some}
 use native.Mathlib.Nat.{lt_of_lt_of_le, pow-le-pow_right}
 use native.Mathlib.Omega.{arith}
 use lib.Dec.{eqb}
@@ -120,11 +119,7 @@ either_meets l r None u some' p q = absurd (some' refl)
 
 -- a value has an outcome
 has-outcome : (u : Option ℕ) → Has u → truth_of u ≡ None → ⊥
-has-outcome (Some x) h e = go (eqb x 0) e
-  where
-    go : (b : Bool) → cond b (Some false) (Some true) ≡ None → ⊥
-    go true e = let z : ◌≡◌ {A = ℕ} 0 1 = cc in omega arith
-    go false e = let z : ◌≡◌ {A = ℕ} 0 1 = cc in omega arith
+has-outcome (Some x) h e = let z : ◌≡◌ {A = ℕ} 0 1 = cc in omega arith
 has-outcome None h e = h
 
 outcome-has : (u : Option ℕ) → (truth_of u ≡ None → ⊥) → Has u
@@ -200,12 +195,12 @@ record OfEqual (o : ℕ) (b : Bool) : Type 0 where
   compares : o < 16
   truth : (s x : ℕ) → truth_of (operate o s s (Some x) (Some x)) ≡ outcome b
 
-of-equal : (o n : ℕ) (b c : Bool) → o ≡ n → n < 16 → some c ≡ some b → ((s x : ℕ) → truth_of (operate n s s (Some x) (Some x)) ≡ outcome c) → OfEqual o b
+of-equal : (o n : ℕ) (b c : Bool) → o ≡ n → n < 16 → Some c ≡ Some b → ((s x : ℕ) → truth_of (operate n s s (Some x) (Some x)) ≡ outcome c) → OfEqual o b
 of-equal o n b c is less e h =
     let same : c ≡ b = cc in
     record { compares = omega arith; truth = λ s x. rw is (h s x ∙ ap outcome same) }
 
-equal-truths : (o : ℕ) (b : Bool) → of_equal o ≡ some b → OfEqual o b
+equal-truths : (o : ℕ) (b : Bool) → of_equal o ≡ Some b → OfEqual o b
 equal-truths o b e = first (eqb o 10) refl (eqb o 13) refl (eqb o 15) refl e
   where
     same : (s x : ℕ) → below (together s s) (convert s (together s s) x) (convert s (together s s) x) ≡ false
@@ -215,14 +210,14 @@ equal-truths o b e = first (eqb o 10) refl (eqb o 13) refl (eqb o 15) refl e
     again s x = eq-eqb (convert s (together s s) x) (convert s (together s s) x) refl
 
     second : (x : Bool) → eqb o 11 ≡ x → (y : Bool) → eqb o 12 ≡ y → (z : Bool) → eqb o 14 ≡ z
-        → cond (x || (y || z)) (some false) none ≡ some b → OfEqual o b
+        → cond (x || (y || z)) (Some false) None ≡ Some b → OfEqual o b
     second true p y q z r e = of-equal o 11 b false (eqb-true o 11 p) (omega arith) e (λ s x. equal-truth s s x x false ∙ ap (λ (t : Bool). outcome (not t)) (again s x))
     second false p true q z r e = of-equal o 12 b false (eqb-true o 12 q) (omega arith) e (λ s x. less-truth s s x x ∙ ap outcome (same s x))
     second false p false q true r e = of-equal o 14 b false (eqb-true o 14 r) (omega arith) e (λ s x. greater-truth s s x x ∙ ap outcome (same s x))
     second false p false q false r e = let z : ◌≡◌ {A = ℕ} 0 1 = cc in absurd (omega arith)
 
     first : (x : Bool) → eqb o 10 ≡ x → (y : Bool) → eqb o 13 ≡ y → (z : Bool) → eqb o 15 ≡ z
-        → cond (x || (y || z)) (some true) (cond (eqb o 11 || (eqb o 12 || eqb o 14)) (some false) none) ≡ some b → OfEqual o b
+        → cond (x || (y || z)) (Some true) (cond (eqb o 11 || (eqb o 12 || eqb o 14)) (Some false) None) ≡ Some b → OfEqual o b
     first true p y q z r e = of-equal o 10 b true (eqb-true o 10 p) (omega arith) e (λ s x. equal-truth s s x x true ∙ ap outcome (again s x))
     first false p true q z r e = of-equal o 13 b true (eqb-true o 13 q) (omega arith) e (λ s x. at-most-truth s s x x ∙ ap (λ (t : Bool). outcome (not t)) (same s x))
     first false p false q true r e = of-equal o 15 b true (eqb-true o 15 r) (omega arith) e (λ s x. at-least-truth s s x x ∙ ap (λ (t : Bool). outcome (not t)) (same s x))
@@ -275,8 +270,8 @@ module _ (types : List ℕ) (ρ σ : Values) (m : Contents) where
         go : (same : Bool) → same_sides a b ≡ same → (k : Option Bool) → of_equal o ≡ k
             → Meets (cond same (said_if EqualSides k) Undecided) (truth_of (operate o s t u w))
         go false is k found = tt
-        go true is none found = tt
-        go true is (some c) found =
+        go true is None found = tt
+        go true is (Some c) found =
             let equal = equal-truths o c found in
             let z = value_of (operate o s t u w) h in
             let d = operands types ρ σ m o s t u w z.pattern' equal.compares z.is in
@@ -291,10 +286,10 @@ module _ (types : List ℕ) (ρ σ : Values) (m : Contents) where
       where
         go : (l : Option ℕ) → exact a ≡ l → (r : Option ℕ) → exact b ≡ r → (both : Bool)
             → Meets (on_exact equal (compared l r both)) (truth_of (operate (cond equal 10 11) s t u w))
-        go none p r q both = tt
-        go (some v) p none q both = tt
-        go (some v) p (some n) q true = tt
-        go (some v) p (some n) q false =
+        go None p r q both = tt
+        go (Some v) p None q both = tt
+        go (Some v) p (Some n) q true = tt
+        go (Some v) p (Some n) q false =
             let i = exact-value types ρ σ m (under 0 f) a v x fit.0 p left in
             let j = exact-value types ρ σ m (under 1 f) b n y fit.1 q right in
             let k = (together-taken s t).number in

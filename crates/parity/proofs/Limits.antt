@@ -17,3 +17,7 @@ past false v u h e is = only is
 pub kept : {A : Type 0} (f : Bool) (v : A) {r : Result A TooMany} {y : A} → r ≡ within f v → r ≡ Ok y → (f ≡ true) × (y ≡ v)
 kept true v h e = (refl, cc)
 kept false v h e = let z : ◌≡◌ {A = ℕ} 0 1 = cc in absurd (omega arith)
+
+pub failed : {A : Type 0} (f : Bool) (v : A) {r : Result A TooMany} {x : TooMany} → r ≡ within f v → r ≡ Err x → f ≡ false
+failed true v h e = let z : ◌≡◌ {A = ℕ} 0 1 = cc in absurd (omega arith)
+failed false v h e = refl
