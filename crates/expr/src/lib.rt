@@ -120,6 +120,7 @@ pub fn arity(tag: u64) -> u64
 }
 
 // How many bits a value of the type has.
+#[tactic(auto, unfolding(crate::specs::Types::bits))]
 pub fn width(t: u64) -> u64
     ensures { result ≡ bits t }
 {
@@ -133,6 +134,7 @@ pub fn width(t: u64) -> u64
 }
 
 // A type with pointer read as unsigned 64.
+#[tactic(auto, unfolding(crate::specs::Types::plain_type))]
 fn plain(t: u64) -> u64
     ensures { result ≡ plain_type t }
 {
@@ -140,6 +142,7 @@ fn plain(t: u64) -> u64
 }
 
 // The type that an operand of type t is promoted to.
+#[tactic(auto, unfolding(crate::specs::Types::promoted))]
 pub fn promoted(t: u64) -> u64
     ensures { result ≡ promoted_of t }
 {
@@ -150,6 +153,7 @@ pub fn promoted(t: u64) -> u64
 }
 
 // Of two promoted types the wider one, and at one width the unsigned one.
+#[tactic(auto, unfolding(crate::specs::Types::common))]
 fn common(a: u64, b: u64) -> u64
     ensures { result ≡ common_of a b }
 {
@@ -165,6 +169,7 @@ fn common(a: u64, b: u64) -> u64
 }
 
 // Whether two types are the same, a pointer counting as unsigned 64.
+#[tactic(auto, unfolding(crate::specs::Types::same_type))]
 pub fn same_type(a: u64, b: u64) -> bool
     ensures { result ≡ same_type a b }
 {
@@ -179,6 +184,7 @@ pub fn joined(a: u64, b: u64) -> u64
 }
 
 // The type of a constant of this width.
+#[tactic(auto, unfolding(crate::specs::Types::constant_type))]
 pub fn constant_type(width: u64) -> u64
     ensures { result ≡ constant_type width }
 {
@@ -192,6 +198,7 @@ pub fn constant_type(width: u64) -> u64
 }
 
 // The type of a binary operator's result, from its operands' types.
+#[tactic(auto, unfolding(crate::specs::Types::binary_type))]
 pub fn binary_type(operator: u64, a: u64, b: u64) -> u64
     ensures { result ≡ binary_type operator a b }
 {
@@ -219,7 +226,8 @@ pub fn variable_type(types: &[u8], number: u64) -> u64
 }
 
 // The type of the tree that a record makes, from the types of its last child, b, and of the one before, a.
-pub fn record_type(tag: u64, types: &[u8], a: u64, b: u64) -> u64
+#[tactic(auto, unfolding(crate::specs::Types::record_type))]
+fn record_type(tag: u64, types: &[u8], a: u64, b: u64) -> u64
     ensures { result ≡ record_type types.now tag a b }
 {
     let n = argument(tag);

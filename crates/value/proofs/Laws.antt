@@ -24,10 +24,6 @@ use Rattle.arith.proofs.Laws.{cut-lt, quotient-typed, remainder-typed, shift-typ
 use Rattle.value.specs.Operators.{Typed, chosen, both_hold, either_holds, integer_of, truth_of, flag, taken, divides, Operation, arithmetics, shifts, comparisons, no_operation, on_common, on_left, operators, no_operator, strict, is_logic, connect, operate, choose}
 use Rattle.value.specs.Evaluation.{Values, Contents, Memory, Effects, under, loaded, ev, evaluated}
 
--- a number past four keys
-pub past-four : (k o : ℕ) → k ≤ o → (o ≡ k → ⊥) → (o ≡ k + 1 → ⊥) → (o ≡ k + 2 → ⊥) → (o ≡ k + 3 → ⊥) → k + 4 ≤ o
-past-four k o h a b c d = omega arith
-
 -- an operation whose value is of type u, on patterns of type t
 abbrev Yields : ℕ → ℕ → Operation → Type 0
 Yields t u op = (x y : ℕ) → x < 2 ^ bits t → y < 2 ^ bits t → Typed u (op t x y)

@@ -89,6 +89,7 @@ fn flagged(b: bool) -> Option<u64>
 }
 
 // + - × / % & | ^ on two values of type t.
+#[tactic(auto, unfolding(crate::specs::Operators::arithmetics))]
 fn arithmetic(operator: u64, t: u64, a: u64, b: u64) -> Option<u64>
     requires a_bound { a < 2 ^ bits t }
     requires b_bound { b < 2 ^ bits t }
@@ -108,6 +109,7 @@ fn arithmetic(operator: u64, t: u64, a: u64, b: u64) -> Option<u64>
 }
 
 // << and >> on a value of type t.
+#[tactic(auto, unfolding(crate::specs::Operators::shifts))]
 fn shifted(operator: u64, t: u64, a: u64, k: u64) -> Option<u64>
     requires le_operator { (8 ≤ operator) × (operator < 10) }
     requires a_bound { a < 2 ^ bits t }
@@ -122,6 +124,7 @@ fn shifted(operator: u64, t: u64, a: u64, k: u64) -> Option<u64>
 }
 
 // == != < <= > >= on two values of type t.
+#[tactic(auto, unfolding(crate::specs::Operators::comparisons))]
 fn compared(operator: u64, t: u64, a: u64, b: u64) -> Option<u64>
     requires le_operator { 10 ≤ operator }
     requires a_bound { a < 2 ^ bits t }
