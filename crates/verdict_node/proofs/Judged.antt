@@ -22,23 +22,25 @@ use Rattle.sheet_node.proofs.Accepted.{parts}
 use Rattle.substitution.specs.Substitution.{into, too_long, with_assignments}
 use Rattle.substitution.proofs.Nothing.{nothing-assigned}
 use Rattle.decide.specs.Decide.{decide, fits}
-use Rattle.decide.specs.Answers.{answered}
-use Rattle.decide.specs.declared.Decision.{Decision}
+use Rattle.std.specs.Prelude.{Result, Ok, Err}
 use Rattle.verdict.specs.declared.Verdict.{Verdict}
 use Rattle.verdict.specs.declared.Answer.{Answer}
 use Rattle.verdict.specs.declared.Answer.TheVariants.{Given, Refused}
 use Rattle.verdict_node.specs.declared.JudgedNode.{JudgedNode}
 use Rattle.refusal.specs.Numbers.{RECORDS}
 use Rattle.verdict_node.specs.NodeVerdict.{on_substituted, node_verdict}
-use Rattle.verdict_node.specs.Promises.{on_decision, JudgedIs}
+use Rattle.verdict_node.specs.Promises.{JudgedIs}
 
 -- the answer from the decision on a condition
-pub decided : (place : ℕ) (e : Expr) {d : Decision} {r : Answer} → d ≡ answered (fits e) (decide e) → r ≡ on_decision place d → r ≡ on_substituted place (into e)
-decided place e {d} {r} d-is r-is = r-is ∙ ap (on_decision place) d-is ∙ by (fits e)
-  where
-    by : (b : Bool) → on_decision place (answered b (decide e)) ≡ cond b (Given (decide e)) (Refused 11 place)
-    by true = refl
-    by false = refl
+pub given : {E : Type 0} (place : ℕ) (f : Bool) (w : Verdict) (x : E) {v : Verdict} {r : Result Verdict E} → r ≡ cond f (Ok w) (Err x) → r ≡ Ok v
+    → Given v ≡ cond f (Given w) (Refused 11 place)
+given place true w x is kept = cc
+given place false w x is kept = let z : ◌≡◌ {A = ℕ} 0 1 = cc in absurd (omega arith)
+
+pub refused : {E : Type 0} (place : ℕ) (f : Bool) (w : Verdict) (x : E) {y : E} {r : Result Verdict E} → r ≡ cond f (Ok w) (Err x) → r ≡ Err y
+    → Refused 11 place ≡ cond f (Given w) (Refused 11 place)
+refused place true w x is failed = let z : ◌≡◌ {A = ℕ} 0 1 = cc in absurd (omega arith)
+refused place false w x is failed = refl
 
 -- a node that was read whole where it stands
 pub whole-at : (s : List ℕ) (p : Place) → WentOn (node_at s p).next → ReadNode s (node_at s p)

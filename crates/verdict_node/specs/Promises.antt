@@ -1,20 +1,12 @@
 -- What the contracts of a node verdict's parts ask and give.
 use Rattle.std.specs.Prelude.{ℕ, ◌≡◌, List}
-use Rattle.refusal.specs.Numbers.{TERMS}
 use Rattle.sheet_node.specs.declared.NodeReading.{NodeReading}
 use Rattle.sheet_node.specs.Node.{node_of}
 use Rattle.verdict.specs.declared.Verdict.{Verdict}
 use Rattle.verdict.specs.declared.Answer.{Answer}
-use Rattle.verdict.specs.declared.Answer.TheVariants.{Given, Refused}
-use Rattle.decide.specs.declared.Decision.{Decision}
-use Rattle.decide.specs.declared.Decision.TheVariants.{Of, TooMany}
+use Rattle.verdict.specs.declared.Answer.TheVariants.{Given}
 use Rattle.verdict_node.specs.declared.JudgedNode.{JudgedNode}
 use Rattle.verdict_node.specs.NodeVerdict.{node_verdict}
-
--- the answer from a decision: refusal 11 where an equality passes the limits
-abbrev pub on_decision : ℕ → Decision → Answer
-on_decision place (Of v) = Given v
-on_decision place TooMany = Refused TERMS place
 
 -- what is given for a node whose record starts at an offset
 pub record JudgedIs (r : JudgedNode) (s : List ℕ) (node : NodeReading) (place : ℕ) : Type 0 where

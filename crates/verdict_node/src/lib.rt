@@ -9,9 +9,8 @@ ghost use Rattle.substitution.specs.Substitution.{into};
 ghost use Rattle.sheet_node.specs.Node.{node_at};
 ghost use Rattle.sheet_node.specs.Promises.{front_of};
 ghost use Rattle.verdict_node.specs.NodeVerdict.{on_substituted};
-ghost use Rattle.verdict_node.specs.Promises.{on_decision, JudgedIs};
+ghost use Rattle.verdict_node.specs.Promises.{JudgedIs};
 
-use decide::Decision;
 use expr::Tree;
 use sheet_field::Place;
 use sheet_node::NodeFront;
@@ -27,12 +26,13 @@ pub struct JudgedNode {
 }
 
 // Refusal 11 where an equality passes the limits, else the verdict.
-fn answer_at(d: Decision, place: usize) -> Answer
-    ensures { result ≡ on_decision place d }
+fn answer_at(condition: Tree, place: usize) -> Answer
+    requires { length condition.words.now ≤ 256 }
+    ensures { result ≡ on_substituted place (into (tree_of condition.entry.words.now)) }
 {
-    match d {
-        Decision::Of(v) => Answer::Given(v),
-        Decision::TooMany => Answer::Refused(refusal::TERMS, place),
+    match decide::decide(condition) {
+        Ok(v) => Answer::Given(v),
+        Err(_) => Answer::Refused(refusal::TERMS, place),
     }
 }
 
@@ -45,7 +45,7 @@ fn judge(s: &[u8], condition: Tree, end: usize, place: usize) -> JudgedNode
 {
     let a = sheet_field::count(s, Place::At(end), 0, 16);
     JudgedNode {
-        answer: answer_at(decide::decide(condition.words), place),
+        answer: answer_at(condition, place),
         addresses: a.value,
         sites: a.next,
     }
