@@ -171,27 +171,13 @@ remainder-signs : (a b : ℤ) → rem_z a b ≡ cond (not (non_neg a)) (neg_ℤ 
 remainder-signs (pos a) b = refl
 remainder-signs (negsuc a) b = refl
 
--- a division by magnitudes: na and nb are the signs, x and y the magnitudes
-pub record Signs (t a b : ℕ) (na nb : Bool) (x y : ℕ) : Type 0 where
-  pub left : a < 2 ^ bits t
-  pub right : b < 2 ^ bits t
-  pub left_sign : na ≡ negative t a
-  pub right_sign : nb ≡ negative t b
-  pub left_size : x ≡ wrap t (cond na (neg_ℤ (pos a)) (pos a))
-  pub right_size : y ≡ wrap t (cond nb (neg_ℤ (pos b)) (pos b))
-
-module _ {t a b : ℕ} {na nb : Bool} {x y : ℕ} (s : Signs t a b na nb x y) where
-  x-is : x ≡ nat_abs (number t a)
-  x-is = s.left_size ∙ ap (λ (n : Bool). wrap t (cond n (neg_ℤ (pos a)) (pos a))) s.left_sign ∙ magnitude t a s.left
-
-  y-is : y ≡ nat_abs (number t b)
-  y-is = s.right_size ∙ ap (λ (n : Bool). wrap t (cond n (neg_ℤ (pos b)) (pos b))) s.right_sign ∙ magnitude t b s.right
-
-  pub divisor-positive : 0 < b → 0 < y
-  divisor-positive h = rw y-is (by_sign t b (λ (n : Bool) (z : ℤ). 0 < nat_abs z) (λ e. omega arith) (λ e. h))
+-- a division by magnitudes, x of a and y of b
+module _ (t a b : ℕ) {x y : ℕ} (left : a < 2 ^ bits t) (x-is : x ≡ nat_abs (number t a)) (y-is : y ≡ nat_abs (number t b)) where
+  pub divisor-positive : (b ≡ 0 → ⊥) → 0 < y
+  divisor-positive h = rw y-is (by_sign t b (λ (n : Bool) (z : ℤ). 0 < nat_abs z) (λ e. omega arith) (λ e. omega arith))
 
   dividend-lt : x < 2 ^ bits t
-  dividend-lt = rw x-is (magnitude-lt t a s.left)
+  dividend-lt = rw x-is (magnitude-lt t a left)
 
   pub quotient-lt : x / y < 2 ^ bits t
   quotient-lt = omega (arith, div-le_self x y, dividend-lt)
@@ -199,15 +185,14 @@ module _ {t a b : ℕ} {na nb : Bool} {x y : ℕ} (s : Signs t a b na nb x y) wh
   pub remainder-lt : x % y < 2 ^ bits t
   remainder-lt = omega (arith, mod-le x y, dividend-lt)
 
-  pub quotient_is : (q : ℕ) → q ≡ wrap t (cond (not (beq na nb)) (neg_ℤ (pos (x / y))) (pos (x / y))) → q ≡ quotient t a b
+  pub quotient_is : {na nb : Bool} {q : ℕ} → na ≡ negative t a → nb ≡ negative t b
+      → q ≡ wrap t (cond (not (beq na nb)) (neg_ℤ (pos (x / y))) (pos (x / y))) → q ≡ quotient t a b
   unfolding quotient
-  quotient_is q e =
-      e ∙ rw (s.left_sign ∙ sign-is t a, s.right_sign ∙ sign-is t b, x-is, y-is) (ap (wrap t) (sym (quotient-signs (number t a) (number t b))))
+  quotient_is {na} {nb} {q} f g e = e ∙ rw (f ∙ sign-is t a, g ∙ sign-is t b, x-is, y-is) (ap (wrap t) (sym (quotient-signs (number t a) (number t b))))
 
-  pub remainder_is : (r : ℕ) → r ≡ wrap t (cond na (neg_ℤ (pos (x % y))) (pos (x % y))) → r ≡ remainder t a b
+  pub remainder_is : {na : Bool} {r : ℕ} → na ≡ negative t a → r ≡ wrap t (cond na (neg_ℤ (pos (x % y))) (pos (x % y))) → r ≡ remainder t a b
   unfolding remainder
-  remainder_is r e =
-      e ∙ rw (s.left_sign ∙ sign-is t a, x-is, y-is) (ap (wrap t) (sym (remainder-signs (number t a) (number t b))))
+  remainder_is {na} {r} f e = e ∙ rw (f ∙ sign-is t a, x-is, y-is) (ap (wrap t) (sym (remainder-signs (number t a) (number t b))))
 
 -- a difference at 64 bits, truncated
 pub difference-wraps : (t a b s : ℕ) → b < 2 ^ bits t → (s + b) % 2 ^ 64 ≡ a → s % 2 ^ bits t ≡ (a + (2 ^ bits t - b)) % 2 ^ bits t

@@ -1,7 +1,7 @@
 // Arithmetic on the bit patterns of a type's values: each operation wraps at the type's width.
 #![tactic(auto)]
 
-ghost use Rattle.std.specs.Prelude.{◌≡◌, ◌-◌, ◌*◌, ◌%◌, ◌^◌, ◌<◌, pos, neg_ℤ, if◌then◌else◌};
+ghost use Rattle.std.specs.Prelude.{◌≡◌, ◌==◌, None, Some, cond, ◌-◌, ◌*◌, ◌%◌, ◌^◌, ◌<◌, pos, neg_ℤ, nat_abs, if◌then◌else◌};
 ghost use Rattle.arith.specs.Numbers.{bits, fits as fits_type, negative, number, residue, wrap, convert, sum as sum_of, difference as difference_of, product as product_of, quotient, remainder, shift_left, shift_right, count as count_of, below as below_of};
 
 // The largest pattern of the type: all its bits set.
@@ -95,30 +95,38 @@ fn with_sign(t: u64, minus: bool, x: u64) -> u64
     if minus { difference(t, 0, x) } else { x }
 }
 
-// A division's quotient and what is left of the dividend.
-#[derive(Clone, Copy)]
-pub struct Division {
-    pub quotient: u64,
-    pub remainder: u64,
+// The size of the number that x stands for.
+fn magnitude(t: u64, x: u64) -> u64
+    requires { x < 2 ^ bits t }
+    ensures { result ≡ nat_abs (number t x) }
+{
+    with_sign(t, is_negative(t, x), x)
 }
 
-// Quotient and remainder, truncating toward zero: both magnitudes are divided, and the signs are put back.
-pub fn divided(t: u64, a: u64, b: u64) -> Division
+// The quotient, truncated toward zero, or nothing where b is zero: both magnitudes are divided, and the sign is put back.
+pub fn checked_div(t: u64, a: u64, b: u64) -> Option<u64>
     requires a_bound { a < 2 ^ bits t }
     requires b_bound { b < 2 ^ bits t }
-    requires b_nonzero { 0 < b }
-    ensures { (result.quotient ≡ quotient t a b) × (result.remainder ≡ remainder t a b) }
+    ensures { result ≡ cond (b == 0) None (Some (quotient t a b)) }
 {
-    let na = is_negative(t, a);
-    let nb = is_negative(t, b);
-    let x = with_sign(t, na, a);
-    let y = with_sign(t, nb, b);
-    let q = with_sign(t, na ^ nb, x / y);
-    let r = with_sign(t, na, x % y);
-    Division {
-        quotient: q,
-        remainder: r,
+    if b == 0 {
+        return None;
     }
+    let minus = is_negative(t, a) ^ is_negative(t, b);
+    Some(with_sign(t, minus, magnitude(t, a) / magnitude(t, b)))
+}
+
+// What is left of the dividend, with its sign, or nothing where b is zero.
+pub fn checked_rem(t: u64, a: u64, b: u64) -> Option<u64>
+    requires a_bound { a < 2 ^ bits t }
+    requires b_bound { b < 2 ^ bits t }
+    ensures { result ≡ cond (b == 0) None (Some (remainder t a b)) }
+{
+    if b == 0 {
+        return None;
+    }
+    let minus = is_negative(t, a);
+    Some(with_sign(t, minus, magnitude(t, a) % magnitude(t, b)))
 }
 
 // Shifts by a count below 64.

@@ -1,98 +1,69 @@
 -- The laws that the verdict's code cites: an equality from its steps' answers, a condition by its root and its operator.
-use Prim.Native.Nat.{ℕ, ◌+◌, ◌/◌, ◌%◌}
+use Prim.Native.Nat.{ℕ, ◌+◌, ◌≤◌, ◌<◌}
 use mathlib.Core.Path.{◌≡◌, refl, sym, ap, ◌∙◌}
 use mathlib.Core.Bool.{Bool, true, false, cond, ◌&&◌, ◌||◌}
 use mathlib.Core.List.{List, []}
-use mathlib.Core.Option.{Option, none, some}
+use Rattle.std.specs.Prelude.{Result, Ok, Err, IsErr}
 use native.Mathlib.Omega.{arith}
 use lib.Dec.{eqb}
 use lib.ListN.{length, get_or}
-use borrow.Author.Tests.{eqb-true, eqb-false}
+use borrow.Author.Tests.{eqb-true, eq-eqb, ne_eqb}
+use mathlib.Core.Logic.{◌⊎◌, inl, inr}
+use native.Mathlib.Nat.{eq-or-lt_of_le}
 use Rattle.laws.proofs.Booleans.{or_left, or_right, by_test}
-use Rattle.expr.specs.Tree.{Expr, Wf, tree_of, tag_of}
+use Rattle.expr.specs.Tree.{Expr}
 use Rattle.expr.specs.Tree.Expr.{variable, constant, condition_true, condition_false, effect, load, cast, binary, ternary}
-use Rattle.expr.proofs.Laws.{kind-of}
-use Rattle.expr.proofs.Parts.{root}
-use Rattle.expr.proofs.Children.{cast-child}
+use Rattle.expr.specs.Root.{root_of, root_argument}
+use Rattle.expr.specs.declared.Root.TheVariants.{True, False, Cast, Binary}
+use Rattle.expr.proofs.Views.{by-root}
+use Rattle.parity.specs.declared.TooMany.{TooMany}
+use Rattle.parity.specs.Lent.{within}
 use Rattle.parity.specs.Parity.{parity, right_low, difference, few}
+use Rattle.parity.proofs.Limits.{only}
 use Rattle.verdict.specs.declared.Reason.TheVariants.{EqualSides, Truth, Parity}
 use Rattle.verdict.specs.declared.Verdict.{Verdict}
 use Rattle.verdict.specs.declared.Verdict.TheVariants.{Always, Never, Undecided}
-use Rattle.exact.specs.Exact.{same_sides, is_constant, exact, written, exact_fits, compared, is_one}
-use Rattle.decide.specs.Decide.{said, said_if, asked, or_else, of_equal, equal_sides, on_exact, equality, unsigned_cast, above_zero, mirrored, unsigned_zero, both, either, decide, equality_fits, fits}
-use Rattle.exact.specs.declared.Known.{Known}
-use Rattle.exact.specs.declared.Parted as Parted
-use Rattle.decide.specs.declared.Decision as Decision
-use Rattle.decide.specs.declared.Decision.TheVariants.{Of, TooMany}
-use Rattle.exact.specs.Answers.{known, sum_fits, parted}
-use Rattle.decide.specs.Answers.{answered, exact_verdict, parity_verdict, known_fits, parted_fits, first_step, halves_of}
-
--- equal sides, by the operator
-module _ (o : ℕ) (a b : Expr) where
-  pub sides-differ : same_sides a b ≡ false → Undecided ≡ equal_sides o a b
-  sides-differ h = rw h
-
-  pub sides-equal : {r : Verdict} → same_sides a b ≡ true → r ≡ said_if EqualSides (of_equal o) → r ≡ equal_sides o a b
-  sides-equal h e = rw h e
-
--- an equality's answer and limits from those of its steps
-pub step-decides : (same : Verdict) (equal : Bool) (a b : Known) (w : Bool) (s : Parted.Parted) {f g h : Bool} {x y z v : Verdict}
-    → f ≡ parted_fits s → g ≡ known_fits a → h ≡ known_fits b → (f && (g && h)) ≡ true
-    → x ≡ exact_verdict equal a b w → y ≡ parity_verdict equal s → z ≡ or_else x y → v ≡ or_else same z → Of v ≡ first_step same equal a b w s
-step-decides same equal a b w s f g h t x y z v = rw (v, z, x, y, rw (f, g, h) at t)
-
-pub step-passes : (same : Verdict) (equal : Bool) (a b : Known) (w : Bool) (s : Parted.Parted) {f g h : Bool}
-    → f ≡ parted_fits s → g ≡ known_fits a → h ≡ known_fits b → (f && (g && h)) ≡ false → TooMany ≡ first_step same equal a b w s
-step-passes same equal a b w s f g h t = rw (rw (f, g, h) at t)
-
-steps-answer : (same : Verdict) (equal f one p q w : Bool) (u v : Option ℕ)
-    → first_step same equal (known p u) (known q v) w (parted f one)
-    ≡ answered (f && (p && q)) (or_else same (or_else (on_exact equal (compared u v w)) (cond one (said Parity (asked equal false)) Undecided)))
-steps-answer same equal false one p q w u v = refl
-steps-answer same equal true true false q w u v = refl
-steps-answer same equal true false false q w u v = refl
-steps-answer same equal true true true false w none v = refl
-steps-answer same equal true true true false w (some x) v = refl
-steps-answer same equal true false true false w none v = refl
-steps-answer same equal true false true false w (some x) v = refl
-steps-answer same equal true true true true w none none = refl
-steps-answer same equal true true true true w none (some y) = refl
-steps-answer same equal true true true true w (some x) none = refl
-steps-answer same equal true true true true w (some x) (some y) = refl
-steps-answer same equal true false true true w none none = refl
-steps-answer same equal true false true true w none (some y) = refl
-steps-answer same equal true false true true w (some x) none = refl
-steps-answer same equal true false true true w (some x) (some y) = refl
+use Rattle.exact.specs.Exact.{same_sides, is_constant, exact, exact_fits}
+use Rattle.exact.specs.Answers.{sum_fits}
+use Rattle.decide.specs.Decide.{or_else, equal_sides, equality, unsigned, unsigned_cast, above_zero, mirrored, unsigned_zero, both, either, decide, equality_fits, fits}
+use Rattle.decide.specs.Answers.{equality_answer}
 
 and_assoc : (x y d e : Bool) → ((x && (y && d)) && e) ≡ (x && (y && (d && e)))
 and_assoc true true d e = refl
 and_assoc true false d e = refl
 and_assoc false y d e = refl
 
-pub equality-is : (o : ℕ) (equal : Bool) (a b : Expr) {same : Verdict} {x y : Known} {s : Parted.Parted} {w z : Bool} {r : Decision.Decision}
-    → same ≡ equal_sides o a b → w ≡ written a → z ≡ written b → s ≡ parted (sum_fits a b) (is_one (difference a b))
-    → x ≡ known (exact_fits a) (exact a) → y ≡ known (exact_fits b) (exact b)
-    → r ≡ first_step same equal x y (w && z) s
-    → r ≡ answered (equality_fits a b) (or_else (equal_sides o a b) (equality equal a b))
-equality-is o equal a b h w z s x y g =
-    g
-    ∙ rw (h, w, z, s, x, y)
-    (steps-answer (equal_sides o a b) equal (sum_fits a b) (is_one (difference a b)) (exact_fits a) (exact_fits b) (written a && written b) (exact a) (exact b)
-    ∙ ap (λ (f : Bool). answered f (or_else (equal_sides o a b) (equality equal a b)))
-    (and_assoc (parity [] a).fits (right_low a b).fits (few (difference a b)) (exact_fits a && exact_fits b)))
+-- an equality within the limits, and one that passes them
+pub equality-limits : (a b : Expr) → equality_fits a b ≡ (sum_fits a b && (exact_fits a && exact_fits b))
+equality-limits a b = sym (and_assoc (parity [] a).fits (right_low a b).fits (few (difference a b)) (exact_fits a && exact_fits b))
 
--- a root that is no cast
-no-cast : (e : Expr) → (tag_of e % 16 ≡ 6 → ⊥) → false ≡ unsigned_cast e
-unfolding tag_of
-no-cast (variable n) h = refl
-no-cast (constant w x) h = refl
-no-cast condition_true h = refl
-no-cast condition_false h = refl
-no-cast (effect t) h = refl
-no-cast (load t a) h = refl
-no-cast (cast t a) h = absurd (h (kind-of 6 t (omega arith)))
-no-cast (binary o a b) h = refl
-no-cast (ternary c a b) h = refl
+pub equality-found : (o : ℕ) (a b : Expr) {v : Verdict} → sum_fits a b ≡ true → exact_fits a ≡ true → exact_fits b ≡ true
+    → v ≡ or_else (equal_sides o a b) (equality (eqb o 10) a b) → Ok v ≡ equality_answer o a b
+equality-found o a b {v} f g h is =
+    let all : equality_fits a b ≡ true = equality-limits a b ∙ rw (f, g, h) refl in
+    rw (all, is) refl
+
+pub equality-past : (o : ℕ) (a b : Expr) {q : Result Verdict TooMany} → (sum_fits a b && (exact_fits a && exact_fits b)) ≡ false → IsErr q
+    → q ≡ equality_answer o a b
+equality-past o a b f is =
+    let none : equality_fits a b ≡ false = equality-limits a b ∙ f in
+    rw none (only is)
+
+-- a cast by its root, and a root that is no cast
+pub unsigned_told : (e : Expr) → root_of e ≡ Cast → unsigned (root_argument e) ≡ unsigned_cast e
+unsigned_told e h = sym (ap unsigned_cast (by-root e Cast h))
+
+pub not_cast : (e : Expr) → (root_of e ≡ Cast → ⊥) → false ≡ unsigned_cast e
+unfolding root_of
+not_cast (variable n) h = refl
+not_cast (constant w x) h = refl
+not_cast condition_true h = refl
+not_cast condition_false h = refl
+not_cast (effect t) h = refl
+not_cast (load t a) h = refl
+not_cast (cast t a) h = absurd (h refl)
+not_cast (binary o a b) h = refl
+not_cast (ternary c a b) h = refl
 
 -- an unsigned cast against 0, on its left
 pub zero_left : (o : ℕ) (a b : Expr) {c d : Bool} → is_constant 0 b ≡ false → c ≡ is_constant 0 a → d ≡ unsigned_cast b
@@ -104,47 +75,17 @@ zero_left o a b n c d = rw (n, c, d) (nested (is_constant 0 a) (unsigned_cast b)
     nested false t v = refl
 
 -- conditions that are not logical nodes or comparisons
-none-decided : (e : Expr) → (tag_of e % 16 ≡ 2 → ⊥) → (tag_of e % 16 ≡ 3 → ⊥) → (tag_of e % 16 ≡ 7 → ⊥) → Of Undecided ≡ answered (fits e) (decide e)
-unfolding tag_of decide fits
-none-decided (variable n) h2 h3 h7 = refl
-none-decided (constant w x) h2 h3 h7 = refl
-none-decided condition_true h2 h3 h7 = absurd (h2 refl)
-none-decided condition_false h2 h3 h7 = absurd (h3 refl)
-none-decided (effect t) h2 h3 h7 = refl
-none-decided (load t a) h2 h3 h7 = refl
-none-decided (cast t a) h2 h3 h7 = refl
-none-decided (binary o a b) h2 h3 h7 = absurd (h7 (kind-of 7 o (omega arith)))
-none-decided (ternary c a b) h2 h3 h7 = refl
-
-module _ (ws : List ℕ) (n : ℕ) (w : Wf ws) (e : n + 2 ≡ length ws) where
-  tag : get_or ws n 0 % 16 ≡ tag_of (tree_of ws) % 16
-  tag = ap (λ (t : ℕ). t % 16) (root ws n w e).tag
-
-  pub unsigned_is : {k t : ℕ} → k ≡ get_or ws n 0 % 16 → t ≡ get_or ws n 0 / 16
-      → (eqb k 6 && (eqb t 4 || (eqb t 5 || (eqb t 6 || (eqb t 7 || eqb t 8))))) ≡ unsigned_cast (tree_of ws)
-  unsigned_is k t =
-      by_test (eqb (get_or ws n 0 % 16) 6)
-      (λ h. rw (k, t, h) (ap unsigned_cast (sym (cast-child ws n w e (eqb-true _ _ h)).tree)))
-      (λ h. rw (k, h) (no-cast (tree_of ws) (λ i. eqb-false _ _ h (tag ∙ i))))
-
-  pub decide-other : (get_or ws n 0 % 16 ≡ 2 → ⊥) → (get_or ws n 0 % 16 ≡ 3 → ⊥) → (get_or ws n 0 % 16 ≡ 7 → ⊥)
-      → Of Undecided ≡ answered (fits (tree_of ws)) (decide (tree_of ws))
-  decide-other h2 h3 h7 = none-decided (tree_of ws) (λ k. h2 (tag ∙ k)) (λ k. h3 (tag ∙ k)) (λ k. h7 (tag ∙ k))
-
-pub decide_true : {e : Expr} → e ≡ condition_true → Of (Always Truth) ≡ answered (fits e) (decide e)
-unfolding decide fits
-decide_true h = rw h
-
-pub decide-false : {e : Expr} → e ≡ condition_false → Of (Never Truth) ≡ answered (fits e) (decide e)
-unfolding decide fits
-decide-false h = rw h
-
--- two halves within the limits or not
-halves-answer : (and f g : Bool) (v u : Verdict)
-    → halves_of and (answered f v) (answered g u) ≡ answered (f && g) (cond and (both v u) (either v u))
-halves-answer and true true v u = refl
-halves-answer and true false v u = refl
-halves-answer and false g v u = refl
+pub decide-other : (e : Expr) → (root_of e ≡ True → ⊥) → (root_of e ≡ False → ⊥) → (root_of e ≡ Binary → ⊥) → Ok Undecided ≡ within (fits e) (decide e)
+unfolding root_of decide fits
+decide-other (variable n) h2 h3 h7 = refl
+decide-other (constant w x) h2 h3 h7 = refl
+decide-other condition_true h2 h3 h7 = absurd (h2 refl)
+decide-other condition_false h2 h3 h7 = absurd (h3 refl)
+decide-other (effect t) h2 h3 h7 = refl
+decide-other (load t a) h2 h3 h7 = refl
+decide-other (cast t a) h2 h3 h7 = refl
+decide-other (binary o a b) h2 h3 h7 = absurd (h7 refl)
+decide-other (ternary c a b) h2 h3 h7 = refl
 
 either_way : (t : Bool) (v : Verdict) → cond t v v ≡ v
 either_way true v = refl
@@ -154,12 +95,12 @@ either_way false v = refl
 module _ (o : ℕ) (a b : Expr) where
   -- && and ||: equal sides say nothing
   pub logic : (eqb o 16 || eqb o 17) ≡ true
-      → answered (fits a && fits b) (cond (eqb o 16) (both (decide a) (decide b)) (either (decide a) (decide b))) ≡ answered (fits (binary o a b)) (decide (binary o a b))
+      → within (fits a && fits b) (cond (eqb o 16) (both (decide a) (decide b)) (either (decide a) (decide b))) ≡ within (fits (binary o a b)) (decide (binary o a b))
   unfolding decide fits
   logic h = by_test (eqb o 16) (λ t. rw (eqb-true o 16 t) (rw (either_way (same_sides a b) Undecided))) (λ t. rw (eqb-true o 17 (rw t at h)) (rw (either_way (same_sides a b) Undecided)))
 
   pub same_or_not : (eqb o 10 || eqb o 11) ≡ true
-      → answered (equality_fits a b) (or_else (equal_sides o a b) (equality (eqb o 10) a b)) ≡ answered (fits (binary o a b)) (decide (binary o a b))
+      → within (equality_fits a b) (or_else (equal_sides o a b) (equality (eqb o 10) a b)) ≡ within (fits (binary o a b)) (decide (binary o a b))
   unfolding decide fits
   same_or_not h = by_test (eqb o 10) (λ t. rw (eqb-true o 10 t)) (λ t. rw (eqb-true o 11 (rw t at h)))
 
@@ -178,23 +119,47 @@ module _ (o : ℕ) (a b : Expr) where
       by p q s t = rw (either_way q Undecided, either_way t Undecided, either_way s Undecided, either_way p Undecided)
 
   pub relation-is : (eqb o 16 || eqb o 17) ≡ false → (eqb o 10 || eqb o 11) ≡ false
-      → Of (or_else (equal_sides o a b) (unsigned_zero o a b)) ≡ answered (fits (binary o a b)) (decide (binary o a b))
+      → Ok (or_else (equal_sides o a b) (unsigned_zero o a b)) ≡ within (fits (binary o a b)) (decide (binary o a b))
   unfolding decide fits
   relation-is h g =
       rw (g, h, or_left (eqb o 10) (eqb o 11) g, or_right (eqb o 10) (eqb o 11) g, or_left (eqb o 16) (eqb o 17) h, or_right (eqb o 16) (eqb o 17) h)
       (by_test (eqb o 12 || (eqb o 13 || (eqb o 14 || eqb o 15))) (λ t. rw t) (λ t. rw (t, zero-else t)))
 
--- the same of a condition that has this root
-module _ {e a b : Expr} {o o' : ℕ} (t : e ≡ binary o a b) (p : o' ≡ o) where
-  pub decide-logic : {x y r : Decision.Decision} → (eqb o' 16 || eqb o' 17) ≡ true
-      → x ≡ answered (fits a) (decide a) → y ≡ answered (fits b) (decide b) → r ≡ halves_of (eqb o' 16) x y → r ≡ answered (fits e) (decide e)
-  decide-logic h x y g =
-      g ∙ rw (x, y, t, ← p) (halves-answer (eqb o' 16) (fits a) (fits b) (decide a) (decide b) ∙ logic o' a b h)
+-- the same by the number that the code has read
+pub one-of-two : {o k : ℕ} → k ≤ o → o < k + 2 → (eqb o k || eqb o (k + 1)) ≡ true
+one-of-two {o} {k} low high = by (eq-or-lt_of_le low)
+  where
+    by : (k ≡ o) ⊎ (k < o) → (eqb o k || eqb o (k + 1)) ≡ true
+    by (inl e) = rw (eq-eqb o k (sym e)) refl
+    by (inr h) = rw (ne_eqb o k (λ e. omega arith), eq-eqb o (k + 1) (omega arith)) refl
 
-  pub decide-equality : {r : Decision.Decision} → (eqb o' 10 || eqb o' 11) ≡ true
-      → r ≡ answered (equality_fits a b) (or_else (equal_sides o' a b) (equality (eqb o' 10) a b)) → r ≡ answered (fits e) (decide e)
-  decide-equality h g = g ∙ rw (t, ← p) (same_or_not o' a b h)
+pub neither : (o k : ℕ) → (o ≡ k → ⊥) → (o ≡ k + 1 → ⊥) → (eqb o k || eqb o (k + 1)) ≡ false
+neither o k p q = rw (ne_eqb o k p, ne_eqb o (k + 1) q) refl
 
-  pub decide-relation : {v : Verdict} → (eqb o' 16 || eqb o' 17) ≡ false → (eqb o' 10 || eqb o' 11) ≡ false
-      → v ≡ or_else (equal_sides o' a b) (unsigned_zero o' a b) → Of v ≡ answered (fits e) (decide e)
-  decide-relation h k g = ap Of g ∙ rw (t, ← p) (relation-is o' a b h k)
+-- a condition by its root, and by its operator
+module _ (e : Expr) where
+  pub decide-true : root_of e ≡ True → Ok (Always Truth) ≡ within (fits e) (decide e)
+  unfolding decide fits
+  decide-true h = sym (ap (λ (x : Expr). within (fits x) (decide x)) (by-root e True h))
+
+  pub decide-false : root_of e ≡ False → Ok (Never Truth) ≡ within (fits e) (decide e)
+  unfolding decide fits
+  decide-false h = sym (ap (λ (x : Expr). within (fits x) (decide x)) (by-root e False h))
+
+  module _ {o : ℕ} {a b : Expr} (t : e ≡ binary (root_argument e) a b) (p : o ≡ root_argument e) where
+    at-root : {r : Result Verdict TooMany} → r ≡ within (fits (binary o a b)) (decide (binary o a b)) → r ≡ within (fits e) (decide e)
+    at-root h = h ∙ ap (λ (x : Expr). within (fits x) (decide x)) (sym (t ∙ ap (λ (k : ℕ). binary k a b) (sym p)))
+
+    pub halves-kept : {v : Verdict} → (eqb o 16 || eqb o 17) ≡ true → fits a ≡ true → fits b ≡ true
+        → v ≡ cond (eqb o 16) (both (decide a) (decide b)) (either (decide a) (decide b)) → Ok v ≡ within (fits e) (decide e)
+    halves-kept h f g is = at-root (rw (f, g, ← is) at (logic o a b h))
+
+    pub halves-past : {q : Result Verdict TooMany} → (eqb o 16 || eqb o 17) ≡ true → (fits a && fits b) ≡ false → IsErr q → q ≡ within (fits e) (decide e)
+    halves-past h f is = at-root (only is ∙ (rw f at (logic o a b h)))
+
+    pub decide-equality : {r : Result Verdict TooMany} → (eqb o 10 || eqb o 11) ≡ true → r ≡ equality_answer o a b → r ≡ within (fits e) (decide e)
+    decide-equality h is = at-root (is ∙ same_or_not o a b h)
+
+    pub decide-relation : {v : Verdict} → (eqb o 16 || eqb o 17) ≡ false → (eqb o 10 || eqb o 11) ≡ false
+        → v ≡ or_else (equal_sides o a b) (unsigned_zero o a b) → Ok v ≡ within (fits e) (decide e)
+    decide-relation h k is = at-root (rw (← is) at (relation-is o a b h k))

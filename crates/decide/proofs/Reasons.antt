@@ -1,10 +1,10 @@
 -- `decide` gives a value and a reason, in the scope document's numbers, exactly where the relation has them.
+use Rattle.std.specs.Prelude.{Option, Some, None}
 use Prim.Native.Nat.{ℕ, ◌≤◌}
 use mathlib.Core.Path.{◌≡◌, refl, sym, ap, ◌∙◌}
 use mathlib.Core.Bool.{Bool, true, false, cond, ◌&&◌, ◌||◌, false≢true}
 use mathlib.Core.List.{List, [], ◌∷◌}
 use mathlib.Core.Logic.{◌↔◌}
-use mathlib.Core.Option.{Option, none, some}
 use native.Mathlib.Omega.{arith}
 use lib.Dec.{eqb}
 use borrow.Author.Tests.{eqb-true, eqb-false, eq-eqb}
@@ -60,34 +60,34 @@ is-apart a b h = by_test (same_sides a b) (λ t. absurd (h (same-is a b t))) (λ
 
 -- what exact sides say, by the relation
 data Compared (a b : Expr) : Option Bool → Type 0 where
-  closed : ((x y : ℕ) → ExactValues a b x y → ⊥) → Compared a b none
-  alike : {x : ℕ} → ExactValues a b x x → Compared a b (some true)
-  unlike : {x y : ℕ} → ExactValues a b x y → (x ≡ y → ⊥) → Compared a b (some false)
+  closed : ((x y : ℕ) → ExactValues a b x y → ⊥) → Compared a b None
+  alike : {x : ℕ} → ExactValues a b x x → Compared a b (Some true)
+  unlike : {x y : ℕ} → ExactValues a b x y → (x ≡ y → ⊥) → Compared a b (Some false)
 
 module _ (a b : Expr) where
   compared_is : Compared a b (exact_sides a b)
   compared_is = go (exact a) refl (exact b) refl (written a) refl (written b) refl
     where
-      none_left : exact a ≡ none → (x y : ℕ) → ExactValues a b x y → ⊥
+      none_left : exact a ≡ None → (x y : ℕ) → ExactValues a b x y → ⊥
       none_left e x y h = let f = (value_found a x).1 h.left in let z : ◌≡◌ {A = ℕ} 0 1 = cc in omega arith
 
-      none_right : exact b ≡ none → (x y : ℕ) → ExactValues a b x y → ⊥
+      none_right : exact b ≡ None → (x y : ℕ) → ExactValues a b x y → ⊥
       none_right e x y h = let f = (value_found b y).1 h.right in let z : ◌≡◌ {A = ℕ} 0 1 = cc in omega arith
 
-      found : {x y : ℕ} → exact a ≡ some x → exact b ≡ some y → (AsWritten a → AsWritten b → ⊥) → ExactValues a b x y
+      found : {x y : ℕ} → exact a ≡ Some x → exact b ≡ Some y → (AsWritten a → AsWritten b → ⊥) → ExactValues a b x y
       found {x} {y} p q n = record { left = (value_found a x).0 p; right = (value_found b y).0 q; apart = n }
 
-      by_value : {x y : ℕ} → ExactValues a b x y → (t : Bool) → eqb x y ≡ t → Compared a b (some t)
+      by_value : {x y : ℕ} → ExactValues a b x y → (t : Bool) → eqb x y ≡ t → Compared a b (Some t)
       by_value {x} {y} h true t = let is = eqb-true x y t in alike (rw (← is) at h)
       by_value {x} {y} h false t = unlike h (eqb-false x y t)
 
       go : (u : Option ℕ) → exact a ≡ u → (v : Option ℕ) → exact b ≡ v → (s : Bool) → written a ≡ s → (t : Bool) → written b ≡ t
           → Compared a b (compared u v (s && t))
-      go none p v q s n t k = closed (none_left p)
-      go (some x) p none q s n t k = closed (none_right q)
-      go (some x) p (some y) q true n true k = closed (λ x y h. h.apart ((written-found a).0 n) ((written-found b).0 k))
-      go (some x) p (some y) q true n false k = by_value (found p q (λ c d. false≢true (sym k ∙ (written-found b).1 d))) (eqb x y) refl
-      go (some x) p (some y) q false n t k = by_value (found p q (λ c d. false≢true (sym n ∙ (written-found a).1 c))) (eqb x y) refl
+      go None p v q s n t k = closed (none_left p)
+      go (Some x) p None q s n t k = closed (none_right q)
+      go (Some x) p (Some y) q true n true k = closed (λ x y h. h.apart ((written-found a).0 n) ((written-found b).0 k))
+      go (Some x) p (Some y) q true n false k = by_value (found p q (λ c d. false≢true (sym k ∙ (written-found b).1 d))) (eqb x y) refl
+      go (Some x) p (Some y) q false n t k = by_value (found p q (λ c d. false≢true (sym n ∙ (written-found a).1 c))) (eqb x y) refl
 
   -- exact sides have one pair of values
   one-pair : {x y u v : ℕ} → ExactValues a b x y → ExactValues a b u v → (x ≡ u) × (y ≡ v)
@@ -202,12 +202,12 @@ judged-said r true = always
 judged-said r false = never
 
 judged-if : (r : Reason) (b : Option Bool) → Judged (said_if r b)
-judged-if r none = open-still
-judged-if r (some b) = judged-said r b
+judged-if r None = open-still
+judged-if r (Some b) = judged-said r b
 
 judged-exact : (equal : Bool) (b : Option Bool) → Judged (on_exact equal b)
-judged-exact equal none = open-still
-judged-exact equal (some b) = judged-said reason.ExactSides (asked equal b)
+judged-exact equal None = open-still
+judged-exact equal (Some b) = judged-said reason.ExactSides (asked equal b)
 
 judged-both : (v w : Verdict) → Judged (both v w)
 judged-both (Never r) w = never
@@ -384,27 +384,27 @@ module _ (a b : Expr) (left right : ℕ → ℕ → Type 0) where
         → (w q : ℕ) → Says (steps t c p) w q → T o w q
     to-equality true t c x p d w q h =
         moved (T o) (sym (yes' reason.EqualSides) ∙ (rw (else-said reason.EqualSides (asked equal true)) at h)) (same-sides same (same-is a b t))
-    to-equality false t none (closed n) true d w q h = moved (T o) (sym (no' reason.Parity) ∙ h) (low_bits is (apart-is a b t) n (differ-is a b d))
-    to-equality false t none (closed n) false d w q h = open' h
-    to-equality false t (some true) (alike s) p d w q h =
+    to-equality false t None (closed n) true d w q h = moved (T o) (sym (no' reason.Parity) ∙ h) (low_bits is (apart-is a b t) n (differ-is a b d))
+    to-equality false t None (closed n) false d w q h = open' h
+    to-equality false t (Some true) (alike s) p d w q h =
         moved (T o) (sym (yes' reason.ExactSides) ∙ (rw (else-said reason.ExactSides (asked equal true)) at h)) (one_value is (apart-is a b t) s)
-    to-equality false t (some false) (unlike s n) p d w q h =
+    to-equality false t (Some false) (unlike s n) p d w q h =
         moved (T o) (sym (no' reason.ExactSides) ∙ (rw (else-said reason.ExactSides (asked equal false)) at h)) (two-values is (apart-is a b t) s n)
 
     from_one : {x : ℕ} (c : Option Bool) → Compared a b c → ExactValues a b x x → (p : Bool) → Says (steps false c p) v 5
-    from_one {x} none (closed n) s p = absurd (n x x s)
-    from_one (some true) (alike k) s p = rw (else-said reason.ExactSides (asked equal true)) (yes' reason.ExactSides)
-    from_one (some false) (unlike k n) s p = let e = one-pair a b k s in absurd (n (e.0 ∙ sym e.1))
+    from_one {x} None (closed n) s p = absurd (n x x s)
+    from_one (Some true) (alike k) s p = rw (else-said reason.ExactSides (asked equal true)) (yes' reason.ExactSides)
+    from_one (Some false) (unlike k n) s p = let e = one-pair a b k s in absurd (n (e.0 ∙ sym e.1))
 
     from-two : {x y : ℕ} (c : Option Bool) → Compared a b c → ExactValues a b x y → (x ≡ y → ⊥) → (p : Bool) → Says (steps false c p) u 5
-    from-two {x} {y} none (closed n) s m p = absurd (n x y s)
-    from-two (some true) (alike k) s m p = let e = one-pair a b k s in absurd (m (sym e.0 ∙ e.1))
-    from-two (some false) (unlike k n) s m p = rw (else-said reason.ExactSides (asked equal false)) (no' reason.ExactSides)
+    from-two {x} {y} None (closed n) s m p = absurd (n x y s)
+    from-two (Some true) (alike k) s m p = let e = one-pair a b k s in absurd (m (sym e.0 ∙ e.1))
+    from-two (Some false) (unlike k n) s m p = rw (else-said reason.ExactSides (asked equal false)) (no' reason.ExactSides)
 
     from_low : (c : Option Bool) → Compared a b c → ((x y : ℕ) → ExactValues a b x y → ⊥) → Says (steps false c true) u 6
-    from_low none (closed n) m = no' reason.Parity
-    from_low (some true) (alike {x = x} k) m = absurd (m x x k)
-    from_low (some false) (unlike {x = x} {y = y} k n) m = absurd (m x y k)
+    from_low None (closed n) m = no' reason.Parity
+    from_low (Some true) (alike {x = x} k) m = absurd (m x x k)
+    from_low (Some false) (unlike {x = x} {y = y} k n) m = absurd (m x y k)
 
   -- a relation
   module _ {o v : ℕ} (same : OfSame o v) (e : Bool) (is : Says (said reason.EqualSides e) v 2)
@@ -451,7 +451,7 @@ data View : ℕ → Type 0 where
   at_least : View op_greater_equal
   and : View op_logical_and
   or : View op_logical_or
-  other : {o : ℕ} → of_equal o ≡ none → ((a b : Expr) (d k : Verdict) → by_operator o a b d k ≡ Undecided) → View o
+  other : {o : ℕ} → of_equal o ≡ None → ((a b : Expr) (d k : Verdict) → by_operator o a b d k ≡ Undecided) → View o
 
 view : (o : ℕ) → View o
 view o =
@@ -470,7 +470,7 @@ module _ (a b : Expr) (d k : Verdict) (left right : ℕ → ℕ → Type 0) (l :
   said_of o = or_else (equal_sides o a b) (by_operator o a b d k)
 
   -- equal sides of no comparison say nothing
-  skipped : (o : ℕ) → of_equal o ≡ none → (w : Verdict) → or_else (equal_sides o a b) w ≡ w
+  skipped : (o : ℕ) → of_equal o ≡ None → (w : Verdict) → or_else (equal_sides o a b) w ≡ w
   skipped o p w = by_test (same_sides a b) (λ t. rw (t, p)) (λ t. rw t)
 
   there : (o : ℕ) → View o → (v r : ℕ) → Says (said_of o) v r → Step a b left right o v r

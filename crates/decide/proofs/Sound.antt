@@ -1,11 +1,11 @@
 -- `decide` is right of every evaluation: where a condition has a value, always means that it holds and never that it fails. Step by
 -- step: equal sides without an effect have one value; exact sides have the values found; sides of different parity have different
 -- low bits; an unsigned value is never below 0; and logic follows its halves.
+use Rattle.std.specs.Prelude.{Option, Some, None}
 use Prim.Native.Nat.{ℕ, ◌%◌, ◌^◌, ◌<◌, ◌≤◌}
 use mathlib.Core.Path.{◌≡◌, refl, sym, ap, ap₂, ◌∙◌}
 use mathlib.Core.Bool.{Bool, true, false, cond, not, xor, ◌&&◌, ◌||◌, false≢true}
 use mathlib.Core.List.{List, [], ◌∷◌}
-use mathlib.Core.Option.{Option, none, some}
 use native.Mathlib.Nat.{lt_of_lt_of_le, pow-le-pow_right}
 use native.Mathlib.Omega.{arith}
 use lib.Dec.{eqb}
@@ -17,10 +17,6 @@ use Rattle.expr.specs.Tree.Expr.{variable, constant, condition_true, condition_f
 use Rattle.expr.specs.Types.{bits, signed, type_of, together}
 use Rattle.arith.specs.Numbers.{negative, number, convert, below, at_most}
 use Rattle.arith.proofs.Laws.{at-most, number-plain, some as some'}
-use Rattle.value.specs.declared.Value.{Value}
-use Rattle.value.specs.declared.Value.TheVariants.{Of, NoValue}
-use Rattle.value.specs.declared.Truth.{Truth}
-use Rattle.value.specs.declared.Truth.TheVariants.{Holds, Fails, NoOutcome}
 use Rattle.value.specs.Operators.{flag, truth_of, arithmetics, shifts, comparisons, operators, both_hold, either_holds, operate}
 use Rattle.value.proofs.Laws.{truth-integer}
 use Rattle.value.specs.Evaluation.{Values, Contents, Effects, under, shared, ev}
@@ -41,34 +37,34 @@ use Rattle.parity.proofs.Evaluation.{ev-low}
 use Rattle.exact.proofs.ExactValue.{Fitting, convert-plain, operands, typed-left, typed-right, one_value, constant-at, exact-value}
 
 -- An outcome does not go against a verdict.
-abbrev pub Meets : Verdict → Truth → Type 0
-Meets (Always r) t = t ≡ Holds
-Meets (Never r) t = t ≡ Fails
+abbrev pub Meets : Verdict → Option Bool → Type 0
+Meets (Always r) t = t ≡ Some true
+Meets (Never r) t = t ≡ Some false
 Meets Undecided t = Unit {0}
 Meets NoBranch t = Unit {0}
 
-meets-else : (v w : Verdict) (t : Truth) → Meets v t → Meets w t → Meets (or_else v w) t
+meets-else : (v w : Verdict) (t : Option Bool) → Meets v t → Meets w t → Meets (or_else v w) t
 meets-else (Always r) w t p q = p
 meets-else (Never r) w t p q = p
 meets-else Undecided w t p q = q
 meets-else NoBranch w t p q = tt
 
 -- a truth value as an outcome
-abbrev outcome : Bool → Truth
-outcome true = Holds
-outcome false = Fails
+abbrev outcome : Bool → Option Bool
+outcome true = Some true
+outcome false = Some false
 
-meets-said : (r : Reason) (b : Bool) (t : Truth) → t ≡ outcome b → Meets (said r b) t
+meets-said : (r : Reason) (b : Bool) (t : Option Bool) → t ≡ outcome b → Meets (said r b) t
 meets-said r true t e = e
 meets-said r false t e = e
 
 -- logic
 
-apart : {X : Type 0} → Holds ≡ Fails → X
+apart : {X : Type 0} → (Some true) ≡ Some false → X
 apart e = let z : ◌≡◌ {A = ℕ} 0 1 = cc in absurd (omega arith)
 
 -- the left half of && holds, so the right one decides; or it fails, and the whole does
-both-on : (l r : Verdict) (u : Truth) → Meets l Holds → Meets r u → Meets (both l r) u
+both-on : (l r : Verdict) (u : Option Bool) → Meets l (Some true) → Meets r u → Meets (both l r) u
 both-on (Always k) (Always n) u p q = q
 both-on (Always k) (Never n) u p q = q
 both-on (Always k) Undecided u p q = tt
@@ -80,7 +76,7 @@ both-on Undecided Undecided u p q = tt
 both-on Undecided NoBranch u p q = tt
 both-on NoBranch r u p q = tt
 
-both-off : (l r : Verdict) → Meets l Fails → Meets (both l r) Fails
+both-off : (l r : Verdict) → Meets l (Some false) → Meets (both l r) (Some false)
 both-off (Always k) r p = apart (sym p)
 both-off (Never k) r p = refl
 both-off Undecided (Always n) p = tt
@@ -89,13 +85,13 @@ both-off Undecided Undecided p = tt
 both-off Undecided NoBranch p = tt
 both-off NoBranch r p = tt
 
-both-meets : (l r : Verdict) (t u : Truth) → (t ≡ NoOutcome → ⊥) → Meets l t → (t ≡ Holds → Meets r u) → Meets (both l r) (both_hold t u)
-both-meets l r Holds u some' p q = both-on l r u p (q refl)
-both-meets l r Fails u some' p q = both-off l r p
-both-meets l r NoOutcome u some' p q = absurd (some' refl)
+both-meets : (l r : Verdict) (t u : Option Bool) → (t ≡ None → ⊥) → Meets l t → (t ≡ Some true → Meets r u) → Meets (both l r) (both_hold t u)
+both-meets l r (Some true) u some' p q = both-on l r u p (q refl)
+both-meets l r (Some false) u some' p q = both-off l r p
+both-meets l r None u some' p q = absurd (some' refl)
 
 -- the same for ||
-either-on : (l r : Verdict) (u : Truth) → Meets l Fails → Meets r u → Meets (either l r) u
+either-on : (l r : Verdict) (u : Option Bool) → Meets l (Some false) → Meets r u → Meets (either l r) u
 either-on (Always k) r u p q = apart (sym p)
 either-on (Never k) (Always n) u p q = q
 either-on (Never k) (Never n) u p q = q
@@ -107,7 +103,7 @@ either-on Undecided Undecided u p q = tt
 either-on Undecided NoBranch u p q = tt
 either-on NoBranch r u p q = tt
 
-either-off : (l r : Verdict) → Meets l Holds → Meets (either l r) Holds
+either-off : (l r : Verdict) → Meets l (Some true) → Meets (either l r) (Some true)
 either-off (Always k) r p = refl
 either-off (Never k) r p = apart p
 either-off Undecided (Always n) p = refl
@@ -116,38 +112,34 @@ either-off Undecided Undecided p = tt
 either-off Undecided NoBranch p = tt
 either-off NoBranch r p = tt
 
-either_meets : (l r : Verdict) (t u : Truth) → (t ≡ NoOutcome → ⊥) → Meets l t → (t ≡ Fails → Meets r u) → Meets (either l r) (either_holds t u)
-either_meets l r Holds u some' p q = either-off l r p
-either_meets l r Fails u some' p q = either-on l r u p (q refl)
-either_meets l r NoOutcome u some' p q = absurd (some' refl)
+either_meets : (l r : Verdict) (t u : Option Bool) → (t ≡ None → ⊥) → Meets l t → (t ≡ Some false → Meets r u) → Meets (either l r) (either_holds t u)
+either_meets l r (Some true) u some' p q = either-off l r p
+either_meets l r (Some false) u some' p q = either-on l r u p (q refl)
+either_meets l r None u some' p q = absurd (some' refl)
 
 -- a value has an outcome
-has-outcome : (u : Value) → Has u → truth_of u ≡ NoOutcome → ⊥
-has-outcome (Of x) h e = go (eqb x 0) e
-  where
-    go : (b : Bool) → cond b Fails Holds ≡ NoOutcome → ⊥
-    go true e = let z : ◌≡◌ {A = ℕ} 0 1 = cc in omega arith
-    go false e = let z : ◌≡◌ {A = ℕ} 0 1 = cc in omega arith
-has-outcome NoValue h e = h
+has-outcome : (u : Option ℕ) → Has u → truth_of u ≡ None → ⊥
+has-outcome (Some x) h e = let z : ◌≡◌ {A = ℕ} 0 1 = cc in omega arith
+has-outcome None h e = h
 
-outcome-has : (u : Value) → (truth_of u ≡ NoOutcome → ⊥) → Has u
-outcome-has (Of x) h = tt
-outcome-has NoValue h = h refl
+outcome-has : (u : Option ℕ) → (truth_of u ≡ None → ⊥) → Has u
+outcome-has (Some x) h = tt
+outcome-has None h = h refl
 
-logic-truth : (s t : ℕ) (u v : Value)
+logic-truth : (s t : ℕ) (u v : Option ℕ)
     → (truth_of (operate 16 s t u v) ≡ both_hold (truth_of u) (truth_of v)) × (truth_of (operate 17 s t u v) ≡ either_holds (truth_of u) (truth_of v))
 unfolding operate
 logic-truth s t u v = (truth-integer (both_hold (truth_of u) (truth_of v)), truth-integer (either_holds (truth_of u) (truth_of v)))
 
 -- halves have the values that the whole needs
-record Halves (t u whole : Truth) (go_on : Truth) : Type 0 where
-  first : t ≡ NoOutcome → ⊥
-  second : t ≡ go_on → u ≡ NoOutcome → ⊥
+record Halves (t u whole : Option Bool) (go_on : Option Bool) : Type 0 where
+  first : t ≡ None → ⊥
+  second : t ≡ go_on → u ≡ None → ⊥
 
-both_halves : (t u : Truth) → (both_hold t u ≡ NoOutcome → ⊥) → Halves t u (both_hold t u) Holds
+both_halves : (t u : Option Bool) → (both_hold t u ≡ None → ⊥) → Halves t u (both_hold t u) (Some true)
 both_halves t u h = record { first = λ e. h (rw e); second = λ e e'. h (rw (e, e')) }
 
-either-halves : (t u : Truth) → (either_holds t u ≡ NoOutcome → ⊥) → Halves t u (either_holds t u) Fails
+either-halves : (t u : Option Bool) → (either_holds t u ≡ None → ⊥) → Halves t u (either_holds t u) (Some false)
 either-halves t u h = record { first = λ e. h (rw e); second = λ e e'. h (rw (e, e')) }
 
 -- comparisons
@@ -166,24 +158,24 @@ module _ (s t x y : ℕ) where
   abbrev d : ℕ
   d = convert t T y
 
-  pub equal-truth : (equal : Bool) → truth_of (operate (cond equal 10 11) s t (Of x) (Of y)) ≡ outcome (asked equal (eqb c d))
+  pub equal-truth : (equal : Bool) → truth_of (operate (cond equal 10 11) s t (Some x) (Some y)) ≡ outcome (asked equal (eqb c d))
   unfolding operate operators arithmetics shifts comparisons
   equal-truth true = truth-flag (eqb c d)
   equal-truth false = truth-flag (not (eqb c d))
 
-  less-truth : truth_of (operate 12 s t (Of x) (Of y)) ≡ outcome (below T c d)
+  less-truth : truth_of (operate 12 s t (Some x) (Some y)) ≡ outcome (below T c d)
   unfolding operate operators arithmetics shifts comparisons
   less-truth = truth-flag (below T c d)
 
-  at-most-truth : truth_of (operate 13 s t (Of x) (Of y)) ≡ outcome (not (below T d c))
+  at-most-truth : truth_of (operate 13 s t (Some x) (Some y)) ≡ outcome (not (below T d c))
   unfolding operate operators arithmetics shifts comparisons
   at-most-truth = truth-flag (at_most T c d) ∙ ap outcome (at-most T c d)
 
-  greater-truth : truth_of (operate 14 s t (Of x) (Of y)) ≡ outcome (below T d c)
+  greater-truth : truth_of (operate 14 s t (Some x) (Some y)) ≡ outcome (below T d c)
   unfolding operate operators arithmetics shifts comparisons
   greater-truth = truth-flag (below T d c)
 
-  at-least-truth : truth_of (operate 15 s t (Of x) (Of y)) ≡ outcome (not (below T c d))
+  at-least-truth : truth_of (operate 15 s t (Some x) (Some y)) ≡ outcome (not (below T c d))
   unfolding operate operators arithmetics shifts comparisons
   at-least-truth = truth-flag (at_most T d c) ∙ ap outcome (at-most T d c)
 
@@ -201,14 +193,14 @@ roomy t k x h wide = lt_of_lt_of_le h (pow-le-pow_right (omega arith) wide)
 -- equal values
 record OfEqual (o : ℕ) (b : Bool) : Type 0 where
   compares : o < 16
-  truth : (s x : ℕ) → truth_of (operate o s s (Of x) (Of x)) ≡ outcome b
+  truth : (s x : ℕ) → truth_of (operate o s s (Some x) (Some x)) ≡ outcome b
 
-of-equal : (o n : ℕ) (b c : Bool) → o ≡ n → n < 16 → some c ≡ some b → ((s x : ℕ) → truth_of (operate n s s (Of x) (Of x)) ≡ outcome c) → OfEqual o b
+of-equal : (o n : ℕ) (b c : Bool) → o ≡ n → n < 16 → Some c ≡ Some b → ((s x : ℕ) → truth_of (operate n s s (Some x) (Some x)) ≡ outcome c) → OfEqual o b
 of-equal o n b c is less e h =
     let same : c ≡ b = cc in
     record { compares = omega arith; truth = λ s x. rw is (h s x ∙ ap outcome same) }
 
-equal-truths : (o : ℕ) (b : Bool) → of_equal o ≡ some b → OfEqual o b
+equal-truths : (o : ℕ) (b : Bool) → of_equal o ≡ Some b → OfEqual o b
 equal-truths o b e = first (eqb o 10) refl (eqb o 13) refl (eqb o 15) refl e
   where
     same : (s x : ℕ) → below (together s s) (convert s (together s s) x) (convert s (together s s) x) ≡ false
@@ -218,27 +210,27 @@ equal-truths o b e = first (eqb o 10) refl (eqb o 13) refl (eqb o 15) refl e
     again s x = eq-eqb (convert s (together s s) x) (convert s (together s s) x) refl
 
     second : (x : Bool) → eqb o 11 ≡ x → (y : Bool) → eqb o 12 ≡ y → (z : Bool) → eqb o 14 ≡ z
-        → cond (x || (y || z)) (some false) none ≡ some b → OfEqual o b
+        → cond (x || (y || z)) (Some false) None ≡ Some b → OfEqual o b
     second true p y q z r e = of-equal o 11 b false (eqb-true o 11 p) (omega arith) e (λ s x. equal-truth s s x x false ∙ ap (λ (t : Bool). outcome (not t)) (again s x))
     second false p true q z r e = of-equal o 12 b false (eqb-true o 12 q) (omega arith) e (λ s x. less-truth s s x x ∙ ap outcome (same s x))
     second false p false q true r e = of-equal o 14 b false (eqb-true o 14 r) (omega arith) e (λ s x. greater-truth s s x x ∙ ap outcome (same s x))
     second false p false q false r e = let z : ◌≡◌ {A = ℕ} 0 1 = cc in absurd (omega arith)
 
     first : (x : Bool) → eqb o 10 ≡ x → (y : Bool) → eqb o 13 ≡ y → (z : Bool) → eqb o 15 ≡ z
-        → cond (x || (y || z)) (some true) (cond (eqb o 11 || (eqb o 12 || eqb o 14)) (some false) none) ≡ some b → OfEqual o b
+        → cond (x || (y || z)) (Some true) (cond (eqb o 11 || (eqb o 12 || eqb o 14)) (Some false) None) ≡ Some b → OfEqual o b
     first true p y q z r e = of-equal o 10 b true (eqb-true o 10 p) (omega arith) e (λ s x. equal-truth s s x x true ∙ ap outcome (again s x))
     first false p true q z r e = of-equal o 13 b true (eqb-true o 13 q) (omega arith) e (λ s x. at-most-truth s s x x ∙ ap (λ (t : Bool). outcome (not t)) (same s x))
     first false p false q true r e = of-equal o 15 b true (eqb-true o 15 r) (omega arith) e (λ s x. at-least-truth s s x x ∙ ap (λ (t : Bool). outcome (not t)) (same s x))
     first false p false q false r e = second (eqb o 11) refl (eqb o 12) refl (eqb o 14) refl e
 
 -- what a value is
-record Is (u : Value) : Type 0 where
+record Is (u : Option ℕ) : Type 0 where
   pattern' : ℕ
-  is : u ≡ Of pattern'
+  is : u ≡ Some pattern'
 
-value_of : (u : Value) → Has u → Is u
-value_of (Of x) h = record { pattern' = x; is = refl }
-value_of NoValue h = absurd h
+value_of : (u : Option ℕ) → Has u → Is u
+value_of (Some x) h = record { pattern' = x; is = refl }
+value_of None h = absurd h
 
 one-is : (p : List ℕ) → is_one p ≡ true → p ≡ 0 ∷ []
 one-is [] e = absurd (false≢true e)
@@ -256,7 +248,7 @@ unfolding below
 above t c plain = rw (number-plain t c plain, small_plain t 0 (omega arith)) (le-ltb c 0 (omega arith))
 
 module _ (types : List ℕ) (ρ σ : Values) (m : Contents) where
-  abbrev at : Effects → Expr → Value
+  abbrev at : Effects → Expr → Option ℕ
   at f e = ev types ρ σ (shared m) f e
 
   module _ (f : Effects) (a b : Expr) (fit : Fitting a × Fitting b) where
@@ -266,10 +258,10 @@ module _ (types : List ℕ) (ρ σ : Values) (m : Contents) where
     abbrev t : ℕ
     t = type_of types b
 
-    abbrev u : Value
+    abbrev u : Option ℕ
     u = at (under 0 f) a
 
-    abbrev w : Value
+    abbrev w : Option ℕ
     w = at (under 1 f) b
 
     fold-meets : (o : ℕ) → Has (operate o s t u w) → Meets (equal_sides o a b) (truth_of (operate o s t u w))
@@ -278,26 +270,26 @@ module _ (types : List ℕ) (ρ σ : Values) (m : Contents) where
         go : (same : Bool) → same_sides a b ≡ same → (k : Option Bool) → of_equal o ≡ k
             → Meets (cond same (said_if EqualSides k) Undecided) (truth_of (operate o s t u w))
         go false is k found = tt
-        go true is none found = tt
-        go true is (some c) found =
+        go true is None found = tt
+        go true is (Some c) found =
             let equal = equal-truths o c found in
             let z = value_of (operate o s t u w) h in
             let d = operands types ρ σ m o s t u w z.pattern' equal.compares z.is in
             let one = one_value types ρ σ m f a b fit 0 is in
-            let alike : w ≡ Of d.x = sym one.1 ∙ d.left in
+            let alike : w ≡ Some d.x = sym one.1 ∙ d.left in
             meets-said EqualSides c (truth_of (operate o s t u w))
-            (ap truth_of (ap₂ (operate o s t) d.left alike ∙ ap (λ (q : ℕ). operate o s q (Of d.x) (Of d.x)) (sym one.0)) ∙ equal.truth s d.x)
+            (ap truth_of (ap₂ (operate o s t) d.left alike ∙ ap (λ (q : ℕ). operate o s q (Some d.x) (Some d.x)) (sym one.0)) ∙ equal.truth s d.x)
 
-    exact-meets : (equal : Bool) (x y : ℕ) → u ≡ Of x → w ≡ Of y
+    exact-meets : (equal : Bool) (x y : ℕ) → u ≡ Some x → w ≡ Some y
         → Meets (on_exact equal (exact_sides a b)) (truth_of (operate (cond equal 10 11) s t u w))
     exact-meets equal x y left right = go (exact a) refl (exact b) refl (written a && written b)
       where
         go : (l : Option ℕ) → exact a ≡ l → (r : Option ℕ) → exact b ≡ r → (both : Bool)
             → Meets (on_exact equal (compared l r both)) (truth_of (operate (cond equal 10 11) s t u w))
-        go none p r q both = tt
-        go (some v) p none q both = tt
-        go (some v) p (some n) q true = tt
-        go (some v) p (some n) q false =
+        go None p r q both = tt
+        go (Some v) p None q both = tt
+        go (Some v) p (Some n) q true = tt
+        go (Some v) p (Some n) q false =
             let i = exact-value types ρ σ m (under 0 f) a v x fit.0 p left in
             let j = exact-value types ρ σ m (under 1 f) b n y fit.1 q right in
             let k = (together-taken s t).number in
@@ -308,7 +300,7 @@ module _ (types : List ℕ) (ρ σ : Values) (m : Contents) where
             meets-said ExactSides (asked equal (eqb v n)) (truth_of (operate (cond equal 10 11) s t u w))
             (ap truth_of (ap₂ (operate (cond equal 10 11) s t) left right) ∙ equal-truth s t x y equal ∙ rw (c, d))
 
-    parity_meets : (equal : Bool) (x y : ℕ) → u ≡ Of x → w ≡ Of y → Meets (odd_sides equal a b) (truth_of (operate (cond equal 10 11) s t u w))
+    parity_meets : (equal : Bool) (x y : ℕ) → u ≡ Some x → w ≡ Some y → Meets (odd_sides equal a b) (truth_of (operate (cond equal 10 11) s t u w))
     unfolding own_bits
     parity_meets equal x y left right = go (is_one (difference a b)) refl
       where
@@ -370,7 +362,7 @@ module _ (types : List ℕ) (ρ σ : Values) (m : Contents) where
 
     -- the sides of a relation between an unsigned cast and 0
     on-left : (o : ℕ) → o < 16 → Has (operate o s t u w) → is_constant 0 b ≡ true → unsigned_cast a ≡ true
-        → (x : ℕ) × (u ≡ Of x) × (w ≡ Of 0) × (below (together s t) (convert s (together s t) x) (convert t (together s t) 0) ≡ false)
+        → (x : ℕ) × (u ≡ Some x) × (w ≡ Some 0) × (below (together s t) (convert s (together s t) x) (convert t (together s t) 0) ≡ false)
     on-left o less h none' unsigned =
         let z = value_of (operate o s t u w) h in
         let d = operands types ρ σ m o s t u w z.pattern' less z.is in
@@ -379,7 +371,7 @@ module _ (types : List ℕ) (ρ σ : Values) (m : Contents) where
         (d.x, d.left, c.0, rw zero' (above (together s t) (convert s (together s t) d.x) (unsigned-left s t d.x (cast-sign a unsigned) (constant-sign b none') (typed-left types ρ σ m f a b fit 0 d.x d.left))))
 
     on-right : (o : ℕ) → o < 16 → Has (operate o s t u w) → is_constant 0 a ≡ true → unsigned_cast b ≡ true
-        → (y : ℕ) × (u ≡ Of 0) × (w ≡ Of y) × (below (together s t) (convert t (together s t) y) (convert s (together s t) 0) ≡ false)
+        → (y : ℕ) × (u ≡ Some 0) × (w ≡ Some y) × (below (together s t) (convert t (together s t) y) (convert s (together s t) 0) ≡ false)
     on-right o less h none' unsigned =
         let z = value_of (operate o s t u w) h in
         let d = operands types ρ σ m o s t u w z.pattern' less z.is in
@@ -387,10 +379,10 @@ module _ (types : List ℕ) (ρ σ : Values) (m : Contents) where
         let zero' : convert s (together s t) 0 ≡ 0 = convert-plain s (together s t) 0 (together-taken s t).number c.1 (some' (together s t)) in
         (d.y, c.0, d.right, rw zero' (above (together s t) (convert t (together s t) d.y) (unsigned-right s t d.y (constant-sign a none') (cast-sign b unsigned) (typed-right types ρ σ m f a b fit 0 d.y d.right))))
 
-    abbrev truth : ℕ → Truth
+    abbrev truth : ℕ → Option Bool
     truth o = truth_of (operate o s t u w)
 
-    sides-truth : (o x y : ℕ) → u ≡ Of x → w ≡ Of y → truth o ≡ truth_of (operate o s t (Of x) (Of y))
+    sides-truth : (o x y : ℕ) → u ≡ Some x → w ≡ Some y → truth o ≡ truth_of (operate o s t (Some x) (Some y))
     sides-truth o x y left right = ap truth_of (ap₂ (operate o s t) left right)
 
     zero-less : Has (operate 12 s t u w) → Meets (unsigned_zero 12 a b) (truth 12)

@@ -1,7 +1,6 @@
 -- `decide`: the verdict on a condition whose variables are substituted, in the order of the scope document, and the limits of
 -- refusal 11.
-use Rattle.std.specs.Prelude.{ℕ, Bool, true, false, cond, not, ◌&&◌, ◌||◌, [], eqb}
-use Rattle.std.proofs.Math.Option.{Option, none, some}
+use Rattle.std.specs.Prelude.{ℕ, Bool, true, false, cond, not, ◌&&◌, ◌||◌, [], eqb, Option, Some, None}
 use Rattle.expr.specs.Codes.{op_equal, op_greater, op_greater_equal, op_less, op_less_equal, op_logical_and, op_logical_or, op_not_equal, pointer, unsigned16, unsigned32, unsigned64, unsigned8}
 use Rattle.expr.specs.Tree.{Expr}
 use Rattle.expr.specs.Tree.Expr.{variable, constant, condition_true, condition_false, effect, load, cast, binary, ternary}
@@ -18,8 +17,8 @@ said r true = Always r
 said r false = Never r
 
 abbrev pub said_if : Reason → Option Bool → Verdict
-said_if r none = Undecided
-said_if r (some b) = said r b
+said_if r None = Undecided
+said_if r (Some b) = said r b
 
 -- the first of two steps that decides
 abbrev pub or_else : Verdict → Verdict → Verdict
@@ -31,8 +30,8 @@ or_else NoBranch v = NoBranch
 -- what a comparison of equal values is: ==, <= and >= hold; !=, < and > fail
 abbrev pub of_equal : ℕ → Option Bool
 of_equal o =
-    cond (eqb o op_equal || (eqb o op_less_equal || eqb o op_greater_equal)) (some true)
-    (cond (eqb o op_not_equal || (eqb o op_less || eqb o op_greater)) (some false) none)
+    cond (eqb o op_equal || (eqb o op_less_equal || eqb o op_greater_equal)) (Some true)
+    (cond (eqb o op_not_equal || (eqb o op_less || eqb o op_greater)) (Some false) None)
 
 -- Equal sides without an effect decide a comparison (N3, N17).
 abbrev pub equal_sides : ℕ → Expr → Expr → Verdict
@@ -48,14 +47,18 @@ abbrev pub odd_sides : Bool → Expr → Expr → Verdict
 odd_sides equal a b = cond (is_one (difference a b)) (said Parity (asked equal false)) Undecided
 
 abbrev pub on_exact : Bool → Option Bool → Verdict
-on_exact equal none = Undecided
-on_exact equal (some b) = said ExactSides (asked equal b)
+on_exact equal None = Undecided
+on_exact equal (Some b) = said ExactSides (asked equal b)
 
 -- An equality: exact sides, then parity (N5, N6).
 abbrev pub equality : Bool → Expr → Expr → Verdict
 equality equal a b = or_else (on_exact equal (exact_sides a b)) (odd_sides equal a b)
 
--- a cast to an unsigned type or to a pointer
+-- an unsigned type or a pointer
+abbrev pub unsigned : ℕ → Bool
+unsigned t = eqb t unsigned8 || (eqb t unsigned16 || (eqb t unsigned32 || (eqb t unsigned64 || eqb t pointer)))
+
+-- a cast to such a type
 abbrev pub unsigned_cast : Expr → Bool
 unsigned_cast (variable n) = false
 unsigned_cast (constant w x) = false
@@ -63,7 +66,7 @@ unsigned_cast condition_true = false
 unsigned_cast condition_false = false
 unsigned_cast (effect t) = false
 unsigned_cast (load t a) = false
-unsigned_cast (cast t a) = eqb t unsigned8 || (eqb t unsigned16 || (eqb t unsigned32 || (eqb t unsigned64 || eqb t pointer)))
+unsigned_cast (cast t a) = unsigned t
 unsigned_cast (binary o a b) = false
 unsigned_cast (ternary c a b) = false
 

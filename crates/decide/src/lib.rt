@@ -1,31 +1,26 @@
 // The verdict on a substituted condition: equal sides, truth, exact sides, parity, unsigned casts against 0, logic half by half.
 #![tactic(auto)]
 
-ghost use Rattle.std.specs.Prelude.{◌≡◌, ◌+◌, ◌≤◌, eqb, length};
-ghost use Rattle.expr.specs.Codes.{op_equal};
-ghost use Rattle.expr.specs.Tree.{Wf, tree_of};
-ghost use Rattle.parity.specs.Lent.{LentTwo};
+ghost use Rattle.std.specs.Prelude.{◌≡◌, ◌+◌, ◌≤◌, ◌<◌, false, cond, length};
+ghost use Rattle.expr.specs.Tree.{tree_of};
+ghost use Rattle.parity.specs.Lent.{terms_room, within, LentTwo};
+ghost use Rattle.exact.specs.Exact.{compared};
 ghost use Rattle.exact.specs.Answers.{Buffers};
-ghost use Rattle.decide.specs.Decide.{said as said_of, asked as asked_of, or_else, equal_sides, equality as equality_of, unsigned_cast, above_zero, mirrored as mirrored_of, unsigned_zero, both as both_of, negated as negated_of, either as either_of, decide as decide_of, equality_fits, fits};
-ghost use Rattle.decide.specs.Answers.{answered, exact_verdict, parity_verdict, known_fits, parted_fits, first_step, halves_of, SidesOf};
+ghost use Rattle.decide.specs.Decide.{said as said_of, asked as asked_of, or_else, equal_sides, on_exact, unsigned, unsigned_cast, above_zero, mirrored as mirrored_of, unsigned_zero, both as both_of, negated as negated_of, either as either_of, decide as decide_of, fits};
+ghost use Rattle.decide.specs.Answers.{equality_answer, SidesOf};
 
-use exact::{Known, Parted};
+use expr::{Root, Tree};
+use parity::TooMany;
 use verdict::{Reason, Verdict};
-
-// A verdict, or that an equality passes the limits.
-#[derive(Clone, Copy)]
-pub enum Decision {
-    Of(Verdict),
-    TooMany,
-}
 
 fn said(reason: Reason, holds: bool) -> Verdict
     ensures { result ≡ said_of reason holds }
 {
     if holds {
-        return Verdict::Always(reason);
+        Verdict::Always(reason)
+    } else {
+        Verdict::Never(reason)
     }
-    Verdict::Never(reason)
 }
 
 // == where `equal`, else !=: from whether the sides are equal.
@@ -40,95 +35,53 @@ fn or_else(first: Verdict, second: Verdict) -> Verdict
     ensures { result ≡ or_else first second }
 {
     match first {
-        Verdict::Always(reason) => Verdict::Always(reason),
-        Verdict::Never(reason) => Verdict::Never(reason),
         Verdict::Undecided => second,
-        Verdict::NoBranch => Verdict::NoBranch,
+        decided => decided,
     }
 }
 
 // What exact sides say of an equality, unless both are constants as written.
-fn exact_verdict(equal: bool, a: Known, b: Known, as_written: bool) -> Verdict
-    ensures { result ≡ exact_verdict equal a b as_written }
+fn exact_verdict(equal: bool, a: Option<u64>, b: Option<u64>, as_written: bool) -> Verdict
+    ensures { result ≡ on_exact equal (compared a b as_written) }
 {
-    match a {
-        Known::Value(x) => match b {
-            Known::Value(y) => {
-                if as_written {
-                    return Verdict::Undecided;
-                }
-                said(Reason::ExactSides, asked(equal, x == y))
-            }
-            Known::Open => Verdict::Undecided,
-            Known::TooMany => Verdict::Undecided,
-        },
-        Known::Open => Verdict::Undecided,
-        Known::TooMany => Verdict::Undecided,
+    match (a, b) {
+        (Some(x), Some(y)) if !as_written => said(Reason::ExactSides, asked(equal, x == y)),
+        _ => Verdict::Undecided,
     }
 }
 
-// What the sides' low bits say of an equality.
-fn parity_verdict(equal: bool, sides: Parted) -> Verdict
-    ensures { result ≡ parity_verdict equal sides }
+// What the sides' low bits say of an equality, from whether they always differ.
+fn parity_verdict(equal: bool, differ: bool) -> Verdict
+    ensures { result ≡ cond differ (said_of Reason.Parity (asked_of equal false)) Verdict.Undecided }
 {
-    match sides {
-        Parted::Always => said(Reason::Parity, asked(equal, false)),
-        Parted::Open => Verdict::Undecided,
-        Parted::TooMany => Verdict::Undecided,
+    if !differ {
+        return Verdict::Undecided;
     }
-}
-
-// A side is within the limits.
-fn known_fits(v: Known) -> bool
-    ensures { result ≡ known_fits v }
-{
-    match v {
-        Known::Value(_) => true,
-        Known::Open => true,
-        Known::TooMany => false,
-    }
-}
-
-fn parted_fits(sides: Parted) -> bool
-    ensures { result ≡ parted_fits sides }
-{
-    match sides {
-        Parted::Always => true,
-        Parted::Open => true,
-        Parted::TooMany => false,
-    }
+    said(Reason::Parity, asked(equal, false))
 }
 
 // Against 0 on its right.
 fn above_zero(operator: u64) -> Verdict
     ensures { result ≡ above_zero operator }
 {
-    if operator == expr::GREATER_EQUAL {
-        return Verdict::Always(Reason::UnsignedZero);
+    match operator {
+        expr::GREATER_EQUAL => Verdict::Always(Reason::UnsignedZero),
+        expr::LESS => Verdict::Never(Reason::UnsignedZero),
+        _ => Verdict::Undecided,
     }
-    if operator == expr::LESS {
-        return Verdict::Never(Reason::UnsignedZero);
-    }
-    Verdict::Undecided
 }
 
 // The relation with its sides exchanged.
 fn mirrored(operator: u64) -> u64
     ensures { result ≡ mirrored_of operator }
 {
-    if operator == expr::LESS {
-        return expr::GREATER;
+    match operator {
+        expr::LESS => expr::GREATER,
+        expr::GREATER => expr::LESS,
+        expr::LESS_EQUAL => expr::GREATER_EQUAL,
+        expr::GREATER_EQUAL => expr::LESS_EQUAL,
+        _ => operator,
     }
-    if operator == expr::GREATER {
-        return expr::LESS;
-    }
-    if operator == expr::LESS_EQUAL {
-        return expr::GREATER_EQUAL;
-    }
-    if operator == expr::GREATER_EQUAL {
-        return expr::LESS_EQUAL;
-    }
-    operator
 }
 
 // Both halves of && hold, or one fails; the left one's reason before the right one's.
@@ -140,14 +93,11 @@ fn both(left: Verdict, right: Verdict) -> Verdict
         Verdict::Always(_) => match right {
             Verdict::Always(_) => Verdict::Always(Reason::Halves),
             Verdict::Never(reason) => Verdict::Never(reason),
-            Verdict::Undecided => Verdict::Undecided,
-            Verdict::NoBranch => Verdict::Undecided,
+            _ => Verdict::Undecided,
         },
         Verdict::Undecided => match right {
             Verdict::Never(reason) => Verdict::Never(reason),
-            Verdict::Always(_) => Verdict::Undecided,
-            Verdict::Undecided => Verdict::Undecided,
-            Verdict::NoBranch => Verdict::Undecided,
+            _ => Verdict::Undecided,
         },
         Verdict::NoBranch => Verdict::Undecided,
     }
@@ -160,8 +110,7 @@ fn negated(v: Verdict) -> Verdict
     match v {
         Verdict::Always(reason) => Verdict::Never(reason),
         Verdict::Never(reason) => Verdict::Always(reason),
-        Verdict::Undecided => Verdict::Undecided,
-        Verdict::NoBranch => Verdict::NoBranch,
+        open => open,
     }
 }
 
@@ -172,110 +121,66 @@ fn either(left: Verdict, right: Verdict) -> Verdict
     negated(both(negated(left), negated(right)))
 }
 
-// Logic from its halves: && where `and`, else ||.
-fn halves(and: bool, left: Decision, right: Decision) -> Decision
-    ensures { result ≡ halves_of and left right }
-{
-    match left {
-        Decision::Of(a) => match right {
-            Decision::Of(b) => {
-                if and {
-                    return Decision::Of(both(a, b));
-                }
-                Decision::Of(either(a, b))
-            }
-            Decision::TooMany => Decision::TooMany,
-        },
-        Decision::TooMany => Decision::TooMany,
-    }
-}
-
 // A comparison of equal sides.
-fn equal_sides(operator: u64, left: &[u64], right: &[u64]) -> Verdict
-    requires wf { Wf left.now }
-    requires wf_2 { Wf right.now }
-    ensures { result ≡ equal_sides operator (tree_of left.now) (tree_of right.now) }
+fn equal_sides(operator: u64, left: Tree, right: Tree) -> Verdict
+    ensures { result ≡ equal_sides operator (tree_of left.entry.words.now) (tree_of right.entry.words.now) }
 {
     if !exact::same_sides(left, right) {
         return Verdict::Undecided;
     }
-    if (operator == expr::EQUAL)
-        | ((operator == expr::LESS_EQUAL) | (operator == expr::GREATER_EQUAL))
-    {
-        return Verdict::Always(Reason::EqualSides);
+    match operator {
+        expr::EQUAL | expr::LESS_EQUAL | expr::GREATER_EQUAL => Verdict::Always(Reason::EqualSides),
+        expr::NOT_EQUAL | expr::LESS | expr::GREATER => Verdict::Never(Reason::EqualSides),
+        _ => Verdict::Undecided,
     }
-    if (operator == expr::NOT_EQUAL) | ((operator == expr::LESS) | (operator == expr::GREATER)) {
-        return Verdict::Never(Reason::EqualSides);
-    }
-    Verdict::Undecided
 }
 
-// == or != from the answers of its steps: within the limits the first step that decides.
-fn first_step(
-    same: Verdict,
-    equal: bool,
-    a: Known,
-    b: Known,
-    as_written: bool,
-    sides: Parted,
-) -> Decision
-    ensures { result ≡ first_step same equal a b as_written sides }
-{
-    if parted_fits(sides) & (known_fits(a) & known_fits(b)) {
-        let later = or_else(
-            exact_verdict(equal, a, b, as_written),
-            parity_verdict(equal, sides),
-        );
-        return Decision::Of(or_else(same, later));
-    }
-    Decision::TooMany
-}
-
-// == or !=: equal sides, exact sides, then parity.
+// == or !=: equal sides, exact sides, then parity, where every step is within the limits.
 fn equality(
     operator: u64,
     whole: &[u64],
-    left: &[u64],
-    right: &[u64],
+    left: Tree,
+    right: Tree,
     atoms: &mut [u64],
     terms: &mut [u64],
     scratch: &mut [u64],
-) -> Decision
-    requires lent_two { LentTwo whole.now 0 left.now right.now atoms.old 0 terms.old }
-    requires buffers { Buffers (length left.now + length right.now + 2) atoms.old terms.old scratch.old }
-    ensures { result ≡ answered (equality_fits (tree_of left.now) (tree_of right.now)) (or_else (equal_sides operator (tree_of left.now) (tree_of right.now)) (equality_of (eqb operator op_equal) (tree_of left.now) (tree_of right.now))) }
+) -> Result<Verdict, TooMany>
+    requires lent_two { LentTwo whole.now 0 left.words.now right.words.now atoms.old 0 terms.old }
+    requires buffers { Buffers (length left.words.now + length right.words.now + 2) atoms.old terms.old scratch.old }
+    ensures { result ≡ equality_answer operator (tree_of left.entry.words.now) (tree_of right.entry.words.now) }
 {
+    let differ = exact::parted_sides(whole, left, right, atoms, terms, scratch)?;
+    let a = exact::exact(left, atoms, terms, scratch)?;
+    let b = exact::exact(right, atoms, terms, scratch)?;
+    let equal = operator == expr::EQUAL;
     let same = equal_sides(operator, left, right);
     let as_written = exact::written(left) & exact::written(right);
-    let sides = exact::parted_sides(whole, left, right, atoms, terms, scratch);
-    let a = exact::exact(left, atoms, terms, scratch);
-    let b = exact::exact(right, atoms, terms, scratch);
-    first_step(same, operator == expr::EQUAL, a, b, as_written, sides)
+    let later = or_else(
+        exact_verdict(equal, a, b, as_written),
+        parity_verdict(equal, differ),
+    );
+    Ok(or_else(same, later))
 }
 
-// A buffer for the terms of the sides of an equality of 128 records.
-fn terms_room() -> [u64; 2320]
-    ensures { 2320 ≡ length result }
-{
-    [0; 2320]
-}
-
-// A buffer for the terms of a product.
-fn products_room() -> [u64; 4096]
-    ensures { 4096 ≡ length result }
-{
-    [0; 4096]
-}
-
-// == or != of up to 18 records, with buffers for these.
-fn equality_short(operator: u64, whole: &[u64], left: &[u64], right: &[u64]) -> Decision
-    requires sides_of { SidesOf whole.now left.now right.now }
-    requires whole_len_bound { length whole.now ≤ 36 }
-    ensures { result ≡ answered (equality_fits (tree_of left.now) (tree_of right.now)) (or_else (equal_sides operator (tree_of left.now) (tree_of right.now)) (equality_of (eqb operator op_equal) (tree_of left.now) (tree_of right.now))) }
+// == or != with buffers for so many terms and products. Not inlined, so that a call of `decide` within another has no buffers.
+#[inline(never)]
+fn equality_in<const TERMS: usize, const PRODUCTS: usize>(
+    operator: u64,
+    whole: &[u64],
+    left: Tree,
+    right: Tree,
+) -> Result<Verdict, TooMany>
+    requires sides_of { SidesOf whole.now left.words.now right.words.now }
+    requires terms { terms_room (length whole.now) ≤ TERMS }
+    requires least { 512 ≤ PRODUCTS }
+    requires most { 36 < length whole.now → 4096 ≤ PRODUCTS }
+    requires terms_bound { TERMS ≤ 2320 }
+    requires products_bound { PRODUCTS ≤ 4096 }
+    ensures { result ≡ equality_answer operator (tree_of left.entry.words.now) (tree_of right.entry.words.now) }
 {
     let mut atoms = [0u64; 64];
-    let mut terms = [0u64; 560];
-    let mut scratch = [0u64; 512];
+    let mut terms = [0u64; TERMS];
+    let mut scratch = [0u64; PRODUCTS];
     equality(
         operator,
         whole,
@@ -287,45 +192,30 @@ fn equality_short(operator: u64, whole: &[u64], left: &[u64], right: &[u64]) -> 
     )
 }
 
-// == or !=, with buffers for the longest.
-fn equality_long(operator: u64, whole: &[u64], left: &[u64], right: &[u64]) -> Decision
-    requires sides_of { SidesOf whole.now left.now right.now }
-    requires whole_len_bound { length whole.now ≤ 256 }
-    ensures { result ≡ answered (equality_fits (tree_of left.now) (tree_of right.now)) (or_else (equal_sides operator (tree_of left.now) (tree_of right.now)) (equality_of (eqb operator op_equal) (tree_of left.now) (tree_of right.now))) }
+// An unsigned type or a pointer.
+fn is_unsigned(t: u64) -> bool
+    ensures { result ≡ unsigned t }
 {
-    let mut atoms = [0u64; 64];
-    let mut terms = terms_room();
-    let mut scratch = products_room();
-    equality(
-        operator,
-        whole,
-        left,
-        right,
-        &mut atoms,
-        &mut terms,
-        &mut scratch,
+    matches!(
+        t,
+        expr::UNSIGNED_8 | expr::UNSIGNED_16 | expr::UNSIGNED_32 | expr::UNSIGNED_64 | expr::POINTER
     )
 }
 
-// A cast to an unsigned type or to a pointer.
-fn unsigned_cast(rs: &[u64]) -> bool
-    requires { Wf rs.now }
-    ensures { result ≡ unsigned_cast (tree_of rs.now) }
+// A cast to such a type.
+#[tactic(auto, using(crate::proofs::Judged::unsigned_told, crate::proofs::Judged::not_cast))]
+fn unsigned_cast(part: Tree) -> bool
+    ensures { result ≡ unsigned_cast (tree_of part.entry.words.now) }
 {
-    let n = rs.len() - 2;
-    let tag = rs[n];
-    let t = expr::argument(tag);
-    (expr::kind(tag) == expr::CAST)
-        & ((t == expr::UNSIGNED_8)
-            | ((t == expr::UNSIGNED_16)
-                | ((t == expr::UNSIGNED_32) | ((t == expr::UNSIGNED_64) | (t == expr::POINTER)))))
+    match part.root() {
+        Root::Cast => is_unsigned(part.argument()),
+        _ => false,
+    }
 }
 
 // An unsigned or pointer cast against the constant 0, on either side.
-fn unsigned_zero(operator: u64, left: &[u64], right: &[u64]) -> Verdict
-    requires wf { Wf left.now }
-    requires wf_2 { Wf right.now }
-    ensures { result ≡ unsigned_zero operator (tree_of left.now) (tree_of right.now) }
+fn unsigned_zero(operator: u64, left: Tree, right: Tree) -> Verdict
+    ensures { result ≡ unsigned_zero operator (tree_of left.entry.words.now) (tree_of right.entry.words.now) }
 {
     if exact::is_constant(right, 0) {
         if unsigned_cast(left) {
@@ -333,17 +223,15 @@ fn unsigned_zero(operator: u64, left: &[u64], right: &[u64]) -> Verdict
         }
         return Verdict::Undecided;
     }
-    if exact::is_constant(left, 0) & unsigned_cast(right) {
+    if exact::is_constant(left, 0) && unsigned_cast(right) {
         return above_zero(mirrored(operator));
     }
     Verdict::Undecided
 }
 
 // Any operator but ==, !=, && and ||: equal sides, then an unsigned cast against 0.
-fn relation(operator: u64, left: &[u64], right: &[u64]) -> Verdict
-    requires wf { Wf left.now }
-    requires wf_2 { Wf right.now }
-    ensures { result ≡ or_else (equal_sides operator (tree_of left.now) (tree_of right.now)) (unsigned_zero operator (tree_of left.now) (tree_of right.now)) }
+fn relation(operator: u64, left: Tree, right: Tree) -> Verdict
+    ensures { result ≡ or_else (equal_sides operator (tree_of left.entry.words.now) (tree_of right.entry.words.now)) (unsigned_zero operator (tree_of left.entry.words.now) (tree_of right.entry.words.now)) }
 {
     or_else(
         equal_sides(operator, left, right),
@@ -352,37 +240,28 @@ fn relation(operator: u64, left: &[u64], right: &[u64]) -> Verdict
 }
 
 // The verdict on a condition: && and || are decided half by half.
-pub fn decide(rs: &[u64]) -> Decision
-    requires wf { Wf rs.now }
-    requires rs_len_bound { length rs.now ≤ 256 }
-    ensures { result ≡ answered (fits (tree_of rs.now)) (decide_of (tree_of rs.now)) }
+pub fn decide(condition: Tree) -> Result<Verdict, TooMany>
+    requires { length condition.words.now ≤ 256 }
+    ensures { result ≡ within (fits (tree_of condition.entry.words.now)) (decide_of (tree_of condition.entry.words.now)) }
 {
-    let n = rs.len() - 2;
-    let tag = rs[n];
-    let kind = expr::kind(tag);
-    if kind == expr::TRUE {
-        return Decision::Of(Verdict::Always(Reason::Truth));
-    }
-    if kind == expr::FALSE {
-        return Decision::Of(Verdict::Never(Reason::Truth));
-    }
-    if kind != expr::BINARY {
-        return Decision::Of(Verdict::Undecided);
-    }
-    let m = expr::last_start(&rs[..n]);
-    let left = &rs[..m];
-    let right = &rs[m..n];
-    let operator = expr::argument(tag);
-    if (operator == expr::LOGICAL_AND) | (operator == expr::LOGICAL_OR) {
-        let a = decide(left);
-        let b = decide(right);
-        return halves(operator == expr::LOGICAL_AND, a, b);
-    }
-    if (operator == expr::EQUAL) | (operator == expr::NOT_EQUAL) {
-        if rs.len() <= 36 {
-            return equality_short(operator, rs, left, right);
+    match condition.root() {
+        Root::True => Ok(Verdict::Always(Reason::Truth)),
+        Root::False => Ok(Verdict::Never(Reason::Truth)),
+        Root::Binary => {
+            let (left, right) = condition.sides();
+            let operator = condition.argument();
+            match operator {
+                expr::LOGICAL_AND => Ok(both(decide(left)?, decide(right)?)),
+                expr::LOGICAL_OR => Ok(either(decide(left)?, decide(right)?)),
+                expr::EQUAL | expr::NOT_EQUAL if condition.words.len() <= 36 => {
+                    equality_in::<560, 512>(operator, condition.words, left, right)
+                }
+                expr::EQUAL | expr::NOT_EQUAL => {
+                    equality_in::<2320, 4096>(operator, condition.words, left, right)
+                }
+                _ => Ok(relation(operator, left, right)),
+            }
         }
-        return equality_long(operator, rs, left, right);
+        _ => Ok(Verdict::Undecided),
     }
-    Decision::Of(relation(operator, left, right))
 }

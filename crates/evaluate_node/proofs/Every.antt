@@ -1,5 +1,6 @@
 -- Evaluation is the run: whatever is free beside the values of the declared variables, a node's run has the outcome that its evaluation gives.
 -- Assumes nothing.
+use Rattle.std.specs.Prelude.{Option, Some, None}
 use Prim.Native.Nat.{ℕ, ◌≤◌}
 use mathlib.Core.Path.{◌≡◌, refl, sym, ap}
 use mathlib.Core.List.{List}
@@ -9,8 +10,6 @@ use lib.ListN.{length}
 use Rattle.expr.specs.Scan.{plain_expr}
 use Rattle.sheet_node.specs.Node.{Node}
 use Rattle.sheet_node.proofs.Variables.{ReadsDeclared}
-use Rattle.value.specs.declared.Truth.{Truth}
-use Rattle.value.specs.declared.Truth.TheVariants as truth
 use Rattle.value.specs.Run.{Choices, run}
 use Rattle.evaluate_node.specs.declared.Evaluation.TheVariants.{Refused}
 use Rattle.evaluate_node.specs.declared.Fit.{Fit}
@@ -20,7 +19,7 @@ use Rattle.evaluate_node.proofs.Same.{same-run}
 use Rattle.laws.proofs.Booleans.{and_left, and_right}
 
 module _ (n : Node) (place : ℕ) (values : List ℕ) (declared : ReadsDeclared n) (c : Choices) (starts : StartsFrom n.types values c) where
-  abbrev Run : Truth
+  abbrev Run : Option Bool
   Run = run n.types n.statements n.condition c
 
   -- a node that is plain and has its values: its evaluation is the outcome of its run
@@ -43,10 +42,10 @@ module _ (n : Node) (place : ℕ) (values : List ℕ) (declared : ReadsDeclared 
   unfolding evaluation_of
   refused-16 plain q = rw (plain, q)
 
-  given-run : (t : Truth) → Gives (on_truth place t) t
-  given-run truth.Holds = refl
-  given-run truth.Fails = refl
-  given-run truth.NoOutcome = λ e. refl
+  given-run : (t : Option Bool) → Gives (on_truth place t) t
+  given-run (Some true) = refl
+  given-run (Some false) = refl
+  given-run None = λ e. refl
 
   -- The theorem: what the evaluation gives is the outcome of every run that starts from the borrowed values.
   pub every-run : Gives (evaluation_of n place values) Run
@@ -85,16 +84,16 @@ module _ {number at : ℕ} where
   same_number : {k place : ℕ} → Refused k place ≡ Refused number at → 14 ≤ k → k ≤ 16 → ByNode number
   same_number {k} e l h = let same : k ≡ number = cc in (omega (arith, same, l), omega (arith, same, h))
 
-  truth-number : (place : ℕ) (t : Truth) → on_truth place t ≡ Refused number at → ByNode number
-  truth-number place truth.Holds e = let z : ◌≡◌ {A = ℕ} 0 1 = cc in absurd (omega arith)
-  truth-number place truth.Fails e = let z : ◌≡◌ {A = ℕ} 0 1 = cc in absurd (omega arith)
-  truth-number place truth.NoOutcome e = same_number e (omega arith) (omega arith)
+  truth-number : (place : ℕ) (t : Option Bool) → on_truth place t ≡ Refused number at → ByNode number
+  truth-number place (Some true) e = let z : ◌≡◌ {A = ℕ} 0 1 = cc in absurd (omega arith)
+  truth-number place (Some false) e = let z : ◌≡◌ {A = ℕ} 0 1 = cc in absurd (omega arith)
+  truth-number place None e = same_number e (omega arith) (omega arith)
 
-  fit-number : (place : ℕ) (f : Fit) (t : Truth) → on_fit f (on_truth place t) ≡ Refused number at → ByNode number
+  fit-number : (place : ℕ) (f : Fit) (t : Option Bool) → on_fit f (on_truth place t) ≡ Refused number at → ByNode number
   fit-number place AllFit t e = truth-number place t e
   fit-number place (Unfit v) t e = same_number e (omega arith) (omega arith)
 
-  plain-number : (place : ℕ) (b : Bool) (f : Fit) (t : Truth) → cond b (on_fit f (on_truth place t)) (Refused 15 place) ≡ Refused number at → ByNode number
+  plain-number : (place : ℕ) (b : Bool) (f : Fit) (t : Option Bool) → cond b (on_fit f (on_truth place t)) (Refused 15 place) ≡ Refused number at → ByNode number
   plain-number place true f t e = fit-number place f t e
   plain-number place false f t e = same_number e (omega arith) (omega arith)
 

@@ -1,4 +1,5 @@
 -- Laws of plain statements and of fitting values.
+use Rattle.std.specs.Prelude.{Option}
 use Prim.Native.Nat.{ℕ, suc, ◌+◌, ◌*◌, ◌≤◌, ◌<◌}
 use mathlib.Core.Path.{◌≡◌, refl, sym, ap, ◌∙◌}
 use mathlib.Core.List.{List, [], ◌∷◌, ◌++◌}
@@ -27,9 +28,7 @@ use Rattle.evaluate_node.specs.Promises.After.{went, stopped}
 use Rattle.evaluate_node.specs.declared.Progress.{Progress}
 use Rattle.evaluate_node.specs.declared.Progress.TheVariants.{Went, Stopped, NotPlain}
 use Rattle.evaluate_node.specs.declared.Step.{Step}
-use Rattle.value.specs.declared.Value.{Value}
 use Rattle.value.specs.Evaluation.{evaluated}
-use Rattle.value.specs.Promises.{Ready}
 
 -- ---- values
 
@@ -101,13 +100,8 @@ module _ (types s : List ℕ) (p : Place) {f : StatementReading} {before after :
   is-assigned : f.assigned ≡ true
   is-assigned = took.assigned ∙ plain-assigned (statement_at types s p) plain
 
-  pub taken-ready : Ready (take (2 * f.records) after)
-  taken-ready =
-      let a = took-assigned types s p took on is-assigned in
-      record { wf = a.tree; few = a.short; plain = rw (took-words took on) (plain-words (statement_at types s p) plain) }
-
   -- an assignment that is made
-  pub made : (values : List ℕ) {v : Value} → v ≡ evaluated types values (tree_of (take (2 * f.records) after))
+  pub made : (values : List ℕ) {v : Option ℕ} → v ≡ evaluated types values (tree_of (take (2 * f.records) after))
       → after_statement types (statement_of (statement_at types s p)) (went values) ≡ go_on v f.variable values
   made values is = rw (plain-assigned (statement_at types s p) plain, took.variable, is, took-words took on)
 

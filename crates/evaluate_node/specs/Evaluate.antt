@@ -1,13 +1,11 @@
 -- The evaluation: a node run on the caller's values.
-use Rattle.std.specs.Prelude.{ℕ, suc, ◌<◌, ◌≡◌, List, [], ◌∷◌, Bool, true, false, cond, ◌&&◌, length, get_or}
+use Rattle.std.specs.Prelude.{Option, Some, None, ℕ, suc, ◌<◌, ◌≡◌, List, [], ◌∷◌, Bool, true, false, cond, ◌&&◌, length, get_or}
 use Rattle.refusal.specs.Numbers.{DIVISION, NOT_PLAIN, VALUE}
 use Rattle.expr.specs.Scan.{plain_expr}
 use Rattle.expr.specs.Statement.{Statement}
 use Rattle.expr.specs.Statement.Statement.{assignment, other}
 use Rattle.arith.specs.Numbers.{fits}
 use Rattle.sheet_node.specs.Node.{Node}
-use Rattle.value.specs.declared.Truth.{Truth}
-use Rattle.value.specs.declared.Truth.TheVariants as truth
 use Rattle.value.specs.Run.{Choices, run}
 use Rattle.evaluate_node.specs.declared.Evaluation.{Evaluation}
 use Rattle.evaluate_node.specs.declared.Evaluation.TheVariants.{Holds, Fails, Refused}
@@ -46,10 +44,10 @@ abbrev pub StartsFrom : List ℕ → List ℕ → Choices → Type 0
 StartsFrom types values c = (v : ℕ) → v < length types → c.start v ≡ get_or values v 0
 
 -- what an evaluation says of a run's outcome: whether the condition holds, or that there is none (14); other refusals say nothing
-abbrev pub Gives : Evaluation → Truth → Type 0
-Gives Holds t = t ≡ truth.Holds
-Gives Fails t = t ≡ truth.Fails
-Gives (Refused number place) t = number ≡ 14 → t ≡ truth.NoOutcome
+abbrev pub Gives : Evaluation → Option Bool → Type 0
+Gives Holds t = t ≡ Some true
+Gives Fails t = t ≡ Some false
+Gives (Refused number place) t = number ≡ 14 → t ≡ None
 
 -- an evaluation that comes from the node's run: whether the condition holds, or 14
 abbrev pub FromRun : Evaluation → Type 0
@@ -63,10 +61,10 @@ on_fit AllFit e = e
 on_fit (Unfit v) e = Refused VALUE v
 
 -- What the outcome of the run makes of the evaluation: where there is none, refusal 14, reported at the node (E1, E7).
-abbrev pub on_truth : ℕ → Truth → Evaluation
-on_truth place truth.Holds = Holds
-on_truth place truth.Fails = Fails
-on_truth place truth.NoOutcome = Refused DIVISION place
+abbrev pub on_truth : ℕ → Option Bool → Evaluation
+on_truth place (Some true) = Holds
+on_truth place (Some false) = Fails
+on_truth place None = Refused DIVISION place
 
 -- The evaluation of a node that stands at an offset: refusals 15, 16 and 14 in this order, else whether the condition holds at the end of the run
 -- (E1, E4, E8).

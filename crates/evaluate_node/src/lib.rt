@@ -8,9 +8,10 @@ ghost use Rattle.sheet_node.specs.Promises.{ReadNode};
 ghost use Rattle.evaluate_node.specs.Evaluate.{plain_all, unfit_from, on_fit, on_truth, evaluation_of};
 ghost use Rattle.evaluate_node.specs.Promises.{state_of, assigned_all, StateIs, Stepped, is_refused, has_gone, progress_of, Started, Running};
 
+use expr::Tree;
 use sheet_field::Place;
 use sheet_node::NodeReading;
-use value::{Truth, Value};
+use value::Plain;
 
 // A node's evaluation: whether its condition holds, or a refusal, its number and its offset.
 #[derive(Clone, Copy)]
@@ -87,26 +88,24 @@ fn run_statement(
         };
     }
     let n = 2 * (r.records as usize);
-    if !expr::is_plain(&words[..n]) {
+    let Some(plain) = Plain::of(Tree::new(&words[..n])) else {
         return Step {
             progress: Progress::NotPlain,
             next,
         };
-    }
+    };
     if !going {
         return Step {
             progress: Progress::Stopped,
             next,
         };
     }
-    let x = value::integer(&words[..n], types, values);
-    let v = x.value;
-    match v {
-        Value::NoValue => Step {
+    match plain.integer(types, values).value {
+        None => Step {
             progress: Progress::Stopped,
             next,
         },
-        Value::Of(k) => {
+        Some(k) => {
             let at = r.variable as usize;
             values[at] = k;
             Step {
@@ -177,13 +176,13 @@ fn run_statements(
     reached(going)
 }
 
-fn outcome(t: Truth, place: usize) -> Evaluation
+fn outcome(t: Option<bool>, place: usize) -> Evaluation
     ensures { result ≡ on_truth place t }
 {
     match t {
-        Truth::Holds => Evaluation::Holds,
-        Truth::Fails => Evaluation::Fails,
-        Truth::NoOutcome => Evaluation::Refused(refusal::DIVISION, place),
+        Some(true) => Evaluation::Holds,
+        Some(false) => Evaluation::Fails,
+        None => Evaluation::Refused(refusal::DIVISION, place),
     }
 }
 
@@ -219,9 +218,9 @@ fn run_node(
     place: usize,
     types: &[u8],
     values: &[u64],
-    condition: &[u64],
+    condition: Plain,
 ) -> Evaluation
-    requires { Running s.now node types.now condition.now }
+    requires { Running s.now node types.now condition.tree.words.now }
     ensures { result ≡ evaluation_of (node_of s.now node) place values.now }
 {
     let fit = first_unfit(types, values);
@@ -233,7 +232,7 @@ fn run_node(
     match end {
         Progress::NotPlain => Evaluation::Refused(refusal::NOT_PLAIN, place),
         Progress::Stopped => stopped(fit, place),
-        Progress::Went => outcome(value::condition(condition, types, &room), place),
+        Progress::Went => outcome(condition.condition(types, &room), place),
     }
 }
 
@@ -247,8 +246,8 @@ pub fn evaluate_node(s: &[u8], node: NodeReading, place: usize, values: &[u64]) 
     let condition = node.condition;
     let e = sheet_expression::expression_at(s, sheet_field::start(condition), &mut words);
     let m = 2 * (e.records as usize);
-    if !expr::is_plain(&words[..m]) {
+    let Some(plain) = Plain::of(Tree::new(&words[..m])) else {
         return Evaluation::Refused(refusal::NOT_PLAIN, place);
-    }
-    run_node(s, node, place, types, values, &words[..m])
+    };
+    run_node(s, node, place, types, values, plain)
 }

@@ -1,10 +1,10 @@
 -- The relations on exact sides hold exactly where the definitions that the code is proved against say so.
+use Rattle.std.specs.Prelude.{Option, Some, None}
 use Prim.Native.Nat.{ℕ, zero, suc, ◌≤◌}
 use mathlib.Core.Path.{◌≡◌, refl, sym, ap, ◌∙◌}
 use mathlib.Core.Bool.{Bool, true, false, cond, ◌||◌, false≢true}
 use mathlib.Core.List.{[]}
 use mathlib.Core.Logic.{inl, inr, ◌↔◌}
-use mathlib.Core.Option.{Option, none, some}
 use native.Mathlib.Omega.{arith}
 use lib.Dec.{eqb, leb}
 use borrow.Author.Tests.{eqb-true, leb-true, le-leb, not-true}
@@ -21,12 +21,13 @@ use Rattle.parity.specs.Parity.{parity}
 use Rattle.parity.specs.LowBit.{low_bit}
 use Rattle.parity.proofs.Ordered.{parity-ascending}
 use Rattle.parity.proofs.Choices.{poly-low, part-bits, some-choice}
-use Rattle.exact.specs.Exact.{Shape, same_sides, is_constant, low, shape, shape_value, shape_written, even_only, at_most_one, exact, written}
+use Rattle.exact.specs.declared.Shape.{Shape}
+use Rattle.exact.specs.Exact.{same_sides, is_constant, low, shape, shape_value, shape_written, even_only, at_most_one, exact, written}
 use Rattle.exact.specs.Sides.{NoEffect, LowBitIs, HasValue, AsWritten}
 use Rattle.exact.proofs.ExactValue.{decided-low, Shaped, shaped}
 use Rattle.exact.proofs.ExactValue.Shaped.{low-left, low-right, rem-two, same-sides, zero_left, zero_right, no-shape}
 
-no-option : {A : Type 0} {x : ℕ} → none ≡ some x → A
+no-option : {A : Type 0} {x : ℕ} → None ≡ Some x → A
 no-option e = let z : ◌≡◌ {A = ℕ} 0 1 = cc in absurd (omega arith)
 
 -- a constant of that value, of some width
@@ -46,10 +47,10 @@ constant-is k (binary o a b) h = absurd (false≢true h)
 constant-is k (ternary c a b) h = absurd (false≢true h)
 
 -- A polynomial decides the low bit exactly where it is the same for every choice.
-pub low-found : (e : Expr) (v : ℕ) → (low e ≡ some v) ↔ LowBitIs e v
+pub low-found : (e : Expr) (v : ℕ) → (low e ≡ Some v) ↔ LowBitIs e v
 low-found e v = (there, back)
   where
-    there : low e ≡ some v → LowBitIs e v
+    there : low e ≡ Some v → LowBitIs e v
     there h = record { small = omega (arith, (decided-low (parity [] e).poly (λ i. false) v h).1); is = each }
       where
         each : (shared : Expr → Bool) (own : ByPath Bool) → low_bit shared own e ≡ eqb v 1
@@ -60,12 +61,12 @@ low-found e v = (there, back)
     all : (x : Bool) → ((shared : Expr → Bool) (own : ByPath Bool) → low_bit shared own e ≡ x) → (m : ℕ) → value (bits m) (parity [] e).poly ≡ x
     all x h m = let c = some-choice (bits m) e e in poly-low (bits m) [] c.shared (under 0 c.own) e c.both.left ∙ h c.shared (under 0 c.own)
 
-    by : (v : ℕ) → v ≤ 1 → ((shared : Expr → Bool) (own : ByPath Bool) → low_bit shared own e ≡ eqb v 1) → low e ≡ some v
+    by : (v : ℕ) → v ≤ 1 → ((shared : Expr → Bool) (own : ByPath Bool) → low_bit shared own e ≡ eqb v 1) → low e ≡ Some v
     by zero h is = rw (zero-everywhere (parity [] e).poly (parity-ascending [] e) (all false is))
     by (suc zero) h is = rw (one-everywhere (parity [] e).poly (parity-ascending [] e) (all true is))
     by (suc (suc v)) h is = absurd (omega arith)
 
-    back : LowBitIs e v → low e ≡ some v
+    back : LowBitIs e v → low e ≡ Some v
     back h = by v h.small h.is
 
 -- no effect, by the test and by the relation
@@ -105,17 +106,17 @@ pub same-itself : (a : Expr) → NoEffect a → same_sides a a ≡ true
 same-itself a h = rw (same_tree-refl a, effect-free a h)
 
 -- the value of a binary side from its shape
-shape_has : (o : ℕ) (a b : Expr) (v : ℕ) (s : Shape) → Shaped o a b s → shape_value s a b ≡ some v → HasValue (binary o a b) v
+shape_has : (o : ℕ) (a b : Expr) (v : ℕ) (s : Shape) → Shaped o a b s → shape_value s a b ≡ Some v → HasValue (binary o a b) v
 shape_has o a b v s (low-left e c) h = let k = constant-is 1 b c in rw (e, k.is) (HasValue.and_one ((low-found a v).0 h))
 shape_has o a b v s (low-right e c) h = let k = constant-is 1 a c in rw (e, k.is) (HasValue.one-and ((low-found b v).0 h))
 shape_has o a b v s (rem-two e c) h = let k = constant-is 2 b c in rw (e, k.is) (go (low a) refl h)
   where
-    go : (x : Option ℕ) → low a ≡ x → even_only x ≡ some v → HasValue (binary 4 a (constant (constant-is 2 b c).width 2)) v
-    go none e h = no-option h
-    go (some x) e h = at (eqb x 0) refl h
+    go : (x : Option ℕ) → low a ≡ x → even_only x ≡ Some v → HasValue (binary 4 a (constant (constant-is 2 b c).width 2)) v
+    go None e h = no-option h
+    go (Some x) e h = at (eqb x 0) refl h
       where
-        at : (t : Bool) → eqb x 0 ≡ t → cond t (some 0) none ≡ some v → HasValue (binary 4 a (constant (constant-is 2 b c).width 2)) v
-        at true t h = let is : 0 ≡ v = cc in rw (← is) (HasValue.even ((low-found a 0).0 (e ∙ ap some (eqb-true x 0 t))))
+        at : (t : Bool) → eqb x 0 ≡ t → cond t (Some 0) None ≡ Some v → HasValue (binary 4 a (constant (constant-is 2 b c).width 2)) v
+        at true t h = let is : 0 ≡ v = cc in rw (← is) (HasValue.even ((low-found a 0).0 (e ∙ ap Some (eqb-true x 0 t))))
         at false t h = no-option h
 shape_has o a b v s (same-sides (inl e) c) h =
     let k = same-tree a b c in let is : 0 ≡ v = cc in rw (e, ← is, ← k.0) (HasValue.less-itself k.1)
@@ -127,7 +128,7 @@ shape_has o a b v s (zero_right (inl e) c) h = let k = constant-is 0 b c in let 
 shape_has o a b v s (zero_right (inr e) c) h = let k = constant-is 0 b c in let is : 0 ≡ v = cc in rw (e, ← is, k.is) HasValue.times_zero
 shape_has o a b v s no-shape h = no-option h
 
-has_value : (e : Expr) (v : ℕ) → exact e ≡ some v → HasValue e v
+has_value : (e : Expr) (v : ℕ) → exact e ≡ Some v → HasValue e v
 unfolding exact
 has_value (variable n) v h = no-option h
 has_value (constant w x) v h = let is : x ≡ v = cc in rw is HasValue.number
@@ -137,25 +138,25 @@ has_value (effect t) v h = no-option h
 has_value (load t a) v h = no-option h
 has_value (cast t a) v h = go (exact a) (has_value a) h
   where
-    go : (x : Option ℕ) → ((v : ℕ) → x ≡ some v → HasValue a v) → at_most_one x ≡ some v → HasValue (cast t a) v
-    go none below h = no-option h
-    go (some x) below h = at (leb x 1) refl h
+    go : (x : Option ℕ) → ((v : ℕ) → x ≡ Some v → HasValue a v) → at_most_one x ≡ Some v → HasValue (cast t a) v
+    go None below h = no-option h
+    go (Some x) below h = at (leb x 1) refl h
       where
-        at : (b : Bool) → leb x 1 ≡ b → cond b (some x) none ≡ some v → HasValue (cast t a) v
+        at : (b : Bool) → leb x 1 ≡ b → cond b (Some x) None ≡ Some v → HasValue (cast t a) v
         at true b h = let is : x ≡ v = cc in rw (← is) (HasValue.in-cast (leb-true x 1 b) (below x refl))
         at false b h = no-option h
 has_value (binary o a b) v h = shape_has o a b v (shape o a b) (shaped o a b) h
 has_value (ternary c a b) v h = no-option h
 
 -- & with a 1 on the left: where the right side is 1 too, it is the left one's low bit that is asked
-one-and-value : (w v : ℕ) (b : Expr) → low b ≡ some v → exact (binary op_and (constant w 1) b) ≡ some v
+one-and-value : (w v : ℕ) (b : Expr) → low b ≡ Some v → exact (binary op_and (constant w 1) b) ≡ Some v
 unfolding exact shape parity
 one-and-value w v b h = by_test (is_constant 1 b) (λ t. rw t (one t)) (λ t. rw t h)
   where
-    one : is_constant 1 b ≡ true → low (constant w 1) ≡ some v
+    one : is_constant 1 b ≡ true → low (constant w 1) ≡ Some v
     one t = let k = constant-is 1 b t in rw k.is at h
 
-has-found : (e : Expr) (v : ℕ) → HasValue e v → exact e ≡ some v
+has-found : (e : Expr) (v : ℕ) → HasValue e v → exact e ≡ Some v
 unfolding exact shape parity
 has-found e v HasValue.number = refl
 has-found e v (HasValue.in-cast {t = t} {a = a} small h) = rw (has-found a v h, le-leb v 1 small)
@@ -170,7 +171,7 @@ has-found e v (HasValue.and_zero {a = a}) = by_test (is_constant 1 a) (λ t. rw 
 has-found e v (HasValue.zero-and {b = b}) = by_test (is_constant 1 b) (λ t. rw t) (λ t. rw t)
 
 -- A side has a value exactly where `exact` finds it.
-pub value_found : (e : Expr) (v : ℕ) → (exact e ≡ some v) ↔ HasValue e v
+pub value_found : (e : Expr) (v : ℕ) → (exact e ≡ Some v) ↔ HasValue e v
 value_found e v = (has_value e v, has-found e v)
 
 shape-written : (o : ℕ) (a b : Expr) (s : Shape) → Shaped o a b s → (written a ≡ true → AsWritten a) → (written b ≡ true → AsWritten b)

@@ -3,32 +3,17 @@
 #![tactic(auto)]
 
 ghost use Rattle.std.specs.Prelude.{◌≡◌, [], ◌+◌, ◌≤◌, length};
-ghost use Rattle.expr.specs.Tree.{Wf, tree_of};
+ghost use Rattle.expr.specs.Tree.{tree_of};
 ghost use Rattle.parity.specs.Parity.{parity as parity_of, difference};
-ghost use Rattle.parity.specs.Lent.{LentTwo};
-ghost use Rattle.exact.specs.Exact.{is_constant, same_sides, is_one, low, shape, exact as exact_of, written as written_of, exact_fits};
-ghost use Rattle.exact.specs.Answers.{Buffers, shape_of, known, cast_known, even_known, sum_fits, parted};
+ghost use Rattle.parity.specs.Lent.{within, LentTwo};
+ghost use Rattle.exact.specs.Exact.{is_constant, same_sides, is_one, decided_bit, low, shape, at_most_one, even_only, exact as exact_of, written as written_of, exact_fits};
+ghost use Rattle.exact.specs.Answers.{Buffers, sum_fits};
 
-use parity::{Constant, Pair, Size};
-
-// A value that a side has, or that none is known, or that a part passes the limits.
-#[derive(Clone, Copy)]
-pub enum Known {
-    Value(u64),
-    Open,
-    TooMany,
-}
-
-// Whether two sides' low bits always differ, or that a part passes the limits.
-#[derive(Clone, Copy)]
-pub enum Parted {
-    Always,
-    Open,
-    TooMany,
-}
+use expr::{Root, Tree};
+use parity::{Pair, TooMany};
 
 // How a part with an operator is exact: by its left side's low bit, by its right side's, by being even, or by being 0.
-#[derive(Clone, Copy)]
+#[derive(Clone, Copy, PartialEq, Eq, Debug)]
 pub enum Shape {
     LowLeft,
     LowRight,
@@ -38,175 +23,141 @@ pub enum Shape {
 }
 
 // A part is this constant.
-pub fn is_constant(rs: &[u64], k: u64) -> bool
-    requires { Wf rs.now }
-    ensures { result ≡ is_constant k (tree_of rs.now) }
+pub fn is_constant(part: Tree, k: u64) -> bool
+    ensures { result ≡ is_constant k (tree_of part.entry.words.now) }
 {
-    match parity::constant_of(rs) {
-        Constant::Of(x) => x == k,
-        Constant::Other => false,
-    }
+    matches!(parity::constant_of(part), Some(x) if x == k)
 }
 
 // Two sides are equal, and have no value of their own at each occurrence.
-pub fn same_sides(left: &[u64], right: &[u64]) -> bool
-    requires wf { Wf left.now }
-    requires wf_2 { Wf right.now }
-    ensures { result ≡ same_sides (tree_of left.now) (tree_of right.now) }
+pub fn same_sides(left: Tree, right: Tree) -> bool
+    ensures { result ≡ same_sides (tree_of left.entry.words.now) (tree_of right.entry.words.now) }
 {
-    expr::same(left, right) & !expr::has_own_value(left)
+    left.same(right) && !left.has_own_value()
 }
 
 // How a part with this operator is exact.
-fn shape_of(operator: u64, left: &[u64], right: &[u64]) -> Shape
-    requires wf { Wf left.now }
-    requires wf_2 { Wf right.now }
-    ensures { shape_of result ≡ shape operator (tree_of left.now) (tree_of right.now) }
+#[tactic(auto, unfolding(crate::specs::Exact::shape))]
+fn shape_of(operator: u64, left: Tree, right: Tree) -> Shape
+    ensures { result ≡ shape operator (tree_of left.entry.words.now) (tree_of right.entry.words.now) }
 {
-    if (operator == expr::AND) & is_constant(right, 1) {
-        return Shape::LowLeft;
+    match operator {
+        expr::AND if is_constant(right, 1) => Shape::LowLeft,
+        expr::AND if is_constant(left, 1) => Shape::LowRight,
+        expr::MOD if is_constant(right, 2) => Shape::Even,
+        expr::SUB | expr::XOR if same_sides(left, right) => Shape::Vanishes,
+        expr::AND | expr::MUL if is_constant(left, 0) || is_constant(right, 0) => Shape::Vanishes,
+        _ => Shape::Other,
     }
-    if (operator == expr::AND) & is_constant(left, 1) {
-        return Shape::LowRight;
+}
+
+// The low bit that a polynomial decides.
+fn decided_bit(poly: &[u64]) -> Option<u64>
+    ensures { result ≡ decided_bit poly.now }
+{
+    match poly {
+        [] => Some(0),
+        [0] => Some(1),
+        _ => None,
     }
-    if (operator == expr::MOD) & is_constant(right, 2) {
-        return Shape::Even;
-    }
-    if ((operator == expr::SUB) | (operator == expr::XOR)) & same_sides(left, right) {
-        return Shape::Vanishes;
-    }
-    if ((operator == expr::AND) | (operator == expr::MUL))
-        & (is_constant(left, 0) | is_constant(right, 0))
-    {
-        return Shape::Vanishes;
-    }
-    Shape::Other
+}
+
+// Whether a polynomial is the constant 1.
+fn is_one(poly: &[u64]) -> bool
+    ensures { result ≡ is_one poly.now }
+{
+    matches!(poly, [0])
 }
 
 // The low bit of a part by itself.
-fn low_bit(part: &[u64], atoms: &mut [u64], terms: &mut [u64], scratch: &mut [u64]) -> Known
-    requires wf { Wf part.now }
-    requires part_len_bound { length part.now ≤ 256 }
-    requires buffers { Buffers (length part.now) atoms.old terms.old scratch.old }
-    ensures { result ≡ known (parity_of [] (tree_of part.now)).fits (low (tree_of part.now)) }
+fn low_bit(
+    part: Tree,
+    atoms: &mut [u64],
+    terms: &mut [u64],
+    scratch: &mut [u64],
+) -> Result<Option<u64>, TooMany>
+    requires part_len_bound { length part.words.now ≤ 256 }
+    requires buffers { Buffers (length part.words.now) atoms.old terms.old scratch.old }
+    ensures { result ≡ within (parity_of [] (tree_of part.entry.words.now)).fits (low (tree_of part.entry.words.now)) }
 {
-    match parity::parity(part, 0, part, atoms, 0, terms, scratch) {
-        Size::Of(count, _) => {
-            if count == 0 {
-                return Known::Value(0);
-            }
-            if (count == 1) & (terms[0] == 0) {
-                return Known::Value(1);
-            }
-            Known::Open
-        }
-        Size::TooMany => Known::TooMany,
-    }
+    let size = parity::parity(part.words, 0, part, atoms, 0, terms, scratch)?;
+    Ok(decided_bit(&terms[..size.terms]))
 }
 
 // The low bits of two sides of an equality: whether their polynomials' sum is 1.
 pub fn parted_sides(
     whole: &[u64],
-    left: &[u64],
-    right: &[u64],
+    left: Tree,
+    right: Tree,
     atoms: &mut [u64],
     terms: &mut [u64],
     scratch: &mut [u64],
-) -> Parted
-    requires lent_two { LentTwo whole.now 0 left.now right.now atoms.old 0 terms.old }
-    requires buffers { Buffers (length left.now + length right.now + 2) atoms.old terms.old scratch.old }
-    ensures { result ≡ parted (sum_fits (tree_of left.now) (tree_of right.now)) (is_one (difference (tree_of left.now) (tree_of right.now))) }
+) -> Result<bool, TooMany>
+    requires lent_two { LentTwo whole.now 0 left.words.now right.words.now atoms.old 0 terms.old }
+    requires buffers { Buffers (length left.words.now + length right.words.now + 2) atoms.old terms.old scratch.old }
+    ensures { result ≡ within (sum_fits (tree_of left.entry.words.now) (tree_of right.entry.words.now)) (is_one (difference (tree_of left.entry.words.now) (tree_of right.entry.words.now))) }
 {
-    match parity::sides(Pair::Sum, whole, 0, left, right, atoms, 0, terms, scratch) {
-        Size::Of(count, _) => {
-            if (count == 1) & (terms[0] == 0) {
-                return Parted::Always;
-            }
-            Parted::Open
-        }
-        Size::TooMany => Parted::TooMany,
-    }
+    let size = parity::sides(Pair::Sum, whole, 0, left, right, atoms, 0, terms, scratch)?;
+    Ok(is_one(&terms[..size.terms]))
 }
 
 // A value that a cast keeps.
-fn cast_value(v: Known) -> Known
-    ensures { result ≡ cast_known v }
+fn at_most_one(v: Option<u64>) -> Option<u64>
+    ensures { result ≡ at_most_one v }
 {
-    match v {
-        Known::Value(x) => { if x <= 1 { Known::Value(x) } else { Known::Open } }
-        Known::Open => Known::Open,
-        Known::TooMany => Known::TooMany,
-    }
+    v.filter(|x| *x <= 1)
 }
 
 // The remainder by 2 of a part with this low bit.
-fn even_value(v: Known) -> Known
-    ensures { result ≡ even_known v }
+fn even_only(v: Option<u64>) -> Option<u64>
+    ensures { result ≡ even_only v }
 {
-    match v {
-        Known::Value(x) => { if x == 0 { Known::Value(0) } else { Known::Open } }
-        Known::Open => Known::Open,
-        Known::TooMany => Known::TooMany,
-    }
+    v.filter(|x| *x == 0)
 }
 
 // The value of an exact side.
-pub fn exact(rs: &[u64], atoms: &mut [u64], terms: &mut [u64], scratch: &mut [u64]) -> Known
-    requires wf { Wf rs.now }
-    requires rs_len_bound { length rs.now ≤ 256 }
-    requires buffers { Buffers (length rs.now) atoms.old terms.old scratch.old }
-    ensures { result ≡ known (exact_fits (tree_of rs.now)) (exact_of (tree_of rs.now)) }
+pub fn exact(
+    part: Tree,
+    atoms: &mut [u64],
+    terms: &mut [u64],
+    scratch: &mut [u64],
+) -> Result<Option<u64>, TooMany>
+    requires part_len_bound { length part.words.now ≤ 256 }
+    requires buffers { Buffers (length part.words.now) atoms.old terms.old scratch.old }
+    ensures { result ≡ within (exact_fits (tree_of part.entry.words.now)) (exact_of (tree_of part.entry.words.now)) }
 {
-    let n = rs.len() - 2;
-    let tag = rs[n];
-    let kind = expr::kind(tag);
-    if kind == expr::CONSTANT {
-        return Known::Value(rs[n + 1]);
-    }
-    if kind == expr::CAST {
-        return cast_value(exact(&rs[..n], atoms, terms, scratch));
-    }
-    if kind != expr::BINARY {
-        return Known::Open;
-    }
-    let m = expr::last_start(&rs[..n]);
-    let left = &rs[..m];
-    let right = &rs[m..n];
-    match shape_of(expr::argument(tag), left, right) {
-        Shape::LowLeft => low_bit(left, atoms, terms, scratch),
-        Shape::LowRight => low_bit(right, atoms, terms, scratch),
-        Shape::Even => even_value(low_bit(left, atoms, terms, scratch)),
-        Shape::Vanishes => Known::Value(0),
-        Shape::Other => Known::Open,
+    match part.root() {
+        Root::Constant => Ok(Some(part.value())),
+        Root::Cast => Ok(at_most_one(exact(part.child(), atoms, terms, scratch)?)),
+        Root::Binary => {
+            let (left, right) = part.sides();
+            match shape_of(part.argument(), left, right) {
+                Shape::LowLeft => low_bit(left, atoms, terms, scratch),
+                Shape::LowRight => low_bit(right, atoms, terms, scratch),
+                Shape::Even => Ok(even_only(low_bit(left, atoms, terms, scratch)?)),
+                Shape::Vanishes => Ok(Some(0)),
+                Shape::Other => Ok(None),
+            }
+        }
+        _ => Ok(None),
     }
 }
 
-// A constant as written: one inside casts, & 1 and % 2.
-pub fn written(rs: &[u64]) -> bool
-    requires wf { Wf rs.now }
-    requires rs_len_bound { length rs.now ≤ 256 }
-    ensures { result ≡ written_of (tree_of rs.now) }
+// A constant as written: one inside casts, & 1 and % 2. This goes on where `exact` asks for a low bit.
+pub fn written(part: Tree) -> bool
+    ensures { result ≡ written_of (tree_of part.entry.words.now) }
 {
-    let n = rs.len() - 2;
-    let tag = rs[n];
-    let kind = expr::kind(tag);
-    if kind == expr::CONSTANT {
-        return true;
-    }
-    if kind == expr::CAST {
-        return written(&rs[..n]);
-    }
-    if kind != expr::BINARY {
-        return false;
-    }
-    let m = expr::last_start(&rs[..n]);
-    let left = &rs[..m];
-    let right = &rs[m..n];
-    match shape_of(expr::argument(tag), left, right) {
-        Shape::LowLeft => written(left),
-        Shape::LowRight => written(right),
-        Shape::Even => written(left),
-        Shape::Vanishes => false,
-        Shape::Other => false,
+    match part.root() {
+        Root::Constant => true,
+        Root::Cast => written(part.child()),
+        Root::Binary => {
+            let (left, right) = part.sides();
+            match shape_of(part.argument(), left, right) {
+                Shape::LowLeft | Shape::Even => written(left),
+                Shape::LowRight => written(right),
+                Shape::Vanishes | Shape::Other => false,
+            }
+        }
+        _ => false,
     }
 }

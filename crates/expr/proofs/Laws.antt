@@ -126,7 +126,6 @@ pub flat-injective : (d e : Expr) → flat d ≡ flat e → d ≡ e
 flat-injective d e h = sym (tree_of-flat d) ∙ ap tree_of h ∙ tree_of-flat e
 
 pub wf-flat : (e : Expr) → Wf (flat e)
-unfolding Wf
 wf-flat e = ap flat (tree_of-flat e)
 
 pub trees-flats : (s : List Expr) → Trees (flats s)
@@ -135,11 +134,10 @@ trees-flats s = ap flats (parse-of-flats s)
 
 -- Wf words are the words of their tree; the stack that they leave is that tree alone
 pub wf-parse : (ws : List ℕ) → Wf ws → parse [] ws ≡ tree_of ws ∷ []
-unfolding Wf
 wf-parse ws h = ap (parse []) (sym h) ∙ parse-of-flat (tree_of ws)
 
 pub wf-trees : (ws : List ℕ) → Wf ws → Trees ws
-unfolding Trees Wf flats
+unfolding Trees flats
 wf-trees ws h = ap flats (wf-parse ws h) ∙ h
 
 one-tree : (ws : List ℕ) (s : List Expr) → flats s ≡ ws → length s ≡ 1 → flat (child s 0) ≡ ws
@@ -150,7 +148,7 @@ one-tree ws (d ∷ b ∷ s) e n = absurd (omega (arith, n))
 
 -- one tree and no other: the end of a reader's loop
 pub trees-wf : (ws : List ℕ) → Trees ws → tree_count ws ≡ 1 → Wf ws
-unfolding Trees Wf tree_of
+unfolding Trees tree_of
 trees-wf ws h one = one-tree ws (parse [] ws) h one
 
 pub wf-count : (ws : List ℕ) → Wf ws → tree_count ws ≡ 1
@@ -316,11 +314,9 @@ pub flat-two : (e : Expr) → 2 ≤ length (flat e)
 flat-two e = rw flat-root (simp length-append (omega arith))
 
 pub wf-even : (ws : List ℕ) → Wf ws → length ws % 2 ≡ 0
-unfolding Wf
 wf-even ws h = rw (← h) (flat-even (tree_of ws))
 
 pub wf-two : (ws : List ℕ) → Wf ws → 2 ≤ length ws
-unfolding Wf
 wf-two ws h = rw (← h) (flat-two (tree_of ws))
 
 -- trees after trees

@@ -6,3 +6,4 @@ pub mod Plainness
 pub mod Sameness
 pub mod Scans
 pub mod Stack
+pub mod Views

@@ -136,7 +136,7 @@ node-own e =
     ∙ ap (node (tag_of e) (value_of e)) (append-nil (kids e))
 
 pub root : (ws : List ℕ) (n : ℕ) → Wf ws → n + 2 ≡ length ws → Root ws n
-unfolding Wf flats
+unfolding flats
 root ws n h e =
     let end = stack-ending ws (length ws) (tree_of ws) [] (omega arith) (take-length ws ∙ sym h) in
     let low : n ≡ length ws - 2 = omega arith in

@@ -1,8 +1,10 @@
 -- Sameness of trees: it is equality, and over words a comparison word by word. Assumes nothing.
-use mathlib.Core.Path.{◌≡◌, sym, ap, ap₂, ◌∙◌}
-use mathlib.Core.Bool.{true, false, true≢false}
-use mathlib.Core.List.{List}
+use mathlib.Core.Path.{◌≡◌, refl, sym, ap, ap₂, ◌∙◌}
+use mathlib.Core.Bool.{Bool, true, false, ◌&&◌, true≢false}
+use mathlib.Core.List.{List, [], ◌∷◌}
 use Prim.Native.Nat.{ℕ}
+use lib.Dec.{eqb}
+use lib.Pointwise.{pointwise}
 use Rattle.laws.specs.Words.{same_words}
 use Rattle.laws.proofs.SameWords.{words-true, words-refl}
 use Rattle.expr.specs.Tree.{Expr, flat, tree_of, Wf}
@@ -26,5 +28,16 @@ same_tree-false d e h k = true≢false (sym (same_tree-equal d e k) ∙ h)
 
 -- Wf words hold the same tree where they are the same words
 pub same-words : (a b : List ℕ) → Wf a → Wf b → same_tree (tree_of a) (tree_of b) ≡ same_words a b
-unfolding same_tree Wf
+unfolding same_tree
 same-words a b h k = ap₂ same_words h k
+
+-- what `==` says of two slices
+pointwise-words : (a b : List ℕ) → pointwise eqb a b ≡ same_words a b
+unfolding same_words
+pointwise-words [] [] = refl
+pointwise-words [] (y ∷ b) = refl
+pointwise-words (x ∷ a) [] = refl
+pointwise-words (x ∷ a) (y ∷ b) = ap (λ (p : Bool). eqb x y && p) (pointwise-words a b)
+
+pub equal-words : (a b : List ℕ) → Wf a → Wf b → pointwise eqb a b ≡ same_tree (tree_of a) (tree_of b)
+equal-words a b h k = pointwise-words a b ∙ sym (same-words a b h k)

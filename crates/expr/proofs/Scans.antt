@@ -2,10 +2,10 @@
 use mathlib.Core.Path.{◌≡◌, refl, sym, ap, ap₂, ◌∙◌}
 use mathlib.Core.Bool.{Bool, true, false, ◌&&◌, ◌||◌, or-false, or_assoc, or_comm}
 use mathlib.Core.List.{List, [], ◌∷◌, ◌++◌}
-use Prim.Native.Nat.{ℕ, suc, ◌+◌, ◌*◌, ◌%◌, ◌≤◌, ◌<◌}
+use Prim.Native.Nat.{ℕ, ◌+◌, ◌*◌, ◌%◌, ◌<◌, suc, ◌≤◌}
 use native.Mathlib.Omega.{arith}
 use lib.Dec.{eqb, lit<}
-use lib.ListN.{length, get_or, drop, drop_of_length-le}
+use lib.ListN.{length, get_or, length-append, drop, drop_of_length-le}
 use lib.Seq.{drop-cons, drop-drop}
 use Rattle.expr.specs.Tree.{Expr, tag_of, own, flat, tree_of, Wf}
 use Rattle.expr.specs.Tree.Expr.{variable, constant, condition_true, condition_false, effect, load, cast, binary, ternary}
@@ -45,6 +45,46 @@ pub any-end : (p : ℕ → Bool) (ws : List ℕ) (i : ℕ) → length ws ≤ i �
 unfolding any_tag
 any-end p ws i h = ap (any_tag p) (drop_of_length-le ws h)
 
+-- what a pass over the records has: a scan of all the words is one of those that are left, in records of two words
+pub record Scanned (p : ℕ → Bool) (rs rest : List ℕ) (size : ℕ) : Type 0 where
+  pub scan : any_tag p rs ≡ any_tag p rest
+  pub whole : length rest % 2 ≡ 0
+  pub two : size ≡ 2
+
+module _ (p : ℕ → Bool) (rs : List ℕ) where
+  pub scan-start : {rest : List ℕ} {size : ℕ} → length rs % 2 ≡ 0 → rest ≡ rs → size ≡ 2 → Scanned p rs rest size
+  scan-start even is two = record { scan = ap (any_tag p) (sym is); whole = rw is even; two = two }
+
+  any-record : (r rest : List ℕ) → length r ≡ 2 → any_tag p (r ++ rest) ≡ (p (get_or r 0 0) || any_tag p rest)
+  unfolding any_tag
+  any-record [] rest h = absurd (omega (arith, h))
+  any-record (t ∷ []) rest h = absurd (omega (arith, h))
+  any-record (t ∷ v ∷ []) rest h = refl
+  any-record (t ∷ v ∷ u ∷ r) rest h = absurd (omega (arith, h))
+
+  any-empty : (rest : List ℕ) → length rest < 2 → length rest % 2 ≡ 0 → any_tag p rest ≡ false
+  unfolding any_tag
+  any-empty [] h e = refl
+  any-empty (t ∷ []) h e = absurd (omega (arith, e))
+  any-empty (t ∷ v ∷ rest) h e = absurd (omega (arith, h))
+
+  module _ {rest : List ℕ} {size : ℕ} (h : Scanned p rs rest size) where
+    -- the next record passes the test, or the scan goes on behind it
+    pub scan-here : (r after : List ℕ) → rest ≡ r ++ after → length r ≡ size → p (get_or r 0 0) ≡ true → true ≡ any_tag p rs
+    scan-here r after is long e = sym (h.scan ∙ ap (any_tag p) is ∙ any-record r after (long ∙ h.two) ∙ ap (λ (b : Bool). b || any_tag p after) e)
+
+    pub scan-on : (r after : List ℕ) {size' : ℕ} → rest ≡ r ++ after → length r ≡ size → size' ≡ size → p (get_or r 0 0) ≡ false
+        → Scanned p rs after size'
+    scan-on r after is long same e =
+        record {
+          scan = h.scan ∙ ap (any_tag p) is ∙ any-record r after (long ∙ h.two) ∙ ap (λ (b : Bool). b || any_tag p after) e;
+          whole = omega (arith, h.whole, h.two, long, ap length is, length-append r after);
+          two = same ∙ h.two;
+        }
+
+    pub scan-end : length rest < size → false ≡ any_tag p rs
+    scan-end less = sym (h.scan ∙ any-empty rest (rw h.two at less) h.whole)
+
 turn : (a b r : Bool) → (a || (b || r)) ≡ (r || (a || b))
 turn a b r = sym (or_assoc a b r) ∙ or_comm (a || b) r
 
@@ -77,7 +117,6 @@ module _ (p : ℕ → Bool) (q : Expr → Bool) (agree : (e : Expr) → q e ≡ 
 
   -- the same of Wf words and their tree
   pub any-tree : (ws : List ℕ) → Wf ws → any_tag p ws ≡ any_node q (tree_of ws)
-  unfolding Wf
   any-tree ws h = ap (any_tag p) (sym h) ∙ any-flat (tree_of ws)
 
 -- the tests of trees and of tags agree

@@ -3,15 +3,14 @@
 use mathlib.Core.Path.{◌≡◌, refl, sym, ap, ap₂, subst, ◌∙◌}
 use mathlib.Core.List.{List, [], ◌∷◌, ◌++◌, append_assoc, append-nil}
 use Prim.Native.Nat.{ℕ, zero, suc, ◌+◌, ◌/◌, ◌%◌, ◌-◌, ◌≤◌, ◌<◌}
-use native.Mathlib.Numerals.{add-one, add-two}
 use native.Mathlib.Omega.{arith}
-use lib.ListN.{length, get_or, drop, set, length-append, length-drop, length-set, get_or-map, drop_of_length-le}
+use lib.ListN.{length, get_or, drop, set, length-append, length-drop, length-set, get_or-map}
 use lib.Seq.{get_or-set_same, get_or-set_other}
 use Rattle.expr.specs.Tree.{Expr, kind_of, own, flat, arity_of, child, nodes, node, push, parse, tree_of, Wf, Formed}
 use Rattle.expr.specs.Tree.Expr.{variable, constant, condition_true, condition_false, effect, load, cast, binary, ternary}
 use Rattle.expr.specs.Codes.{kind_ternary, signed32, no_type}
 use Rattle.expr.specs.Types.{type_of, record_types, record_type}
-use Rattle.expr.proofs.Laws.{get_d_any, kids, kids-arity, push-own, formed-own, length_push, wf-parse, nine}
+use Rattle.expr.proofs.Laws.{get_d_any, kids, kids-arity, push-own, formed-own, length_push, wf-parse, wf-even, nine}
 
 -- every record of the words is formed, and finds its children on the stack
 unfoldable pub Fed : List Expr → List ℕ → Type 0
@@ -39,7 +38,7 @@ fed-flat (ternary c a b) st rest h =
     simp append_assoc (fed-flat c st _ (fed-flat a (c ∷ st) _ (fed-flat b (a ∷ c ∷ st) _ (fed-own (ternary c a b) st rest h))))
 
 pub fed-tree : (ws : List ℕ) → Wf ws → Fed [] ws
-unfolding Wf Fed
+unfolding Fed
 fed-tree ws h = subst (Fed []) (append-nil (flat (tree_of ws)) ∙ h) (fed-flat (tree_of ws) [] [] tt)
 
 -- the next record of fed words l, and what is behind it
@@ -49,17 +48,17 @@ pub record Next (st : List Expr) (l : List ℕ) (tag value : ℕ) (rest : List �
   pub fed : Fed (push tag value st) rest
   pub parsed : parse st l ≡ parse (push tag value st) rest
 
-next-suc : (st : List Expr) (ws : List ℕ) (i : ℕ) → i < length ws → Fed st (drop i ws)
-    → Next st (drop i ws) (get_or ws i 0) (get_or ws (suc i) 0) (drop (suc (suc i)) ws)
+pub next : (st : List Expr) (r rest : List ℕ) → length r ≡ 2 → Fed st (r ++ rest) → Next st (r ++ rest) (get_or r 0 0) (get_or r 1 0) rest
 unfolding Fed parse
-next-suc st [] i h f = absurd (omega (arith, h))
-next-suc st (x ∷ []) zero h f = absurd f
-next-suc st (x ∷ y ∷ ws) zero h f = record { formed = f.0; enough = f.1; fed = f.2; parsed = refl }
-next-suc st (x ∷ ws) (suc i) h f = next-suc st ws i (omega (arith, h)) f
+next st [] rest h f = absurd (omega (arith, h))
+next st (x ∷ []) rest h f = absurd (omega (arith, h))
+next st (x ∷ y ∷ []) rest h f = record { formed = f.0; enough = f.1; fed = f.2; parsed = refl }
+next st (x ∷ y ∷ z ∷ r) rest h f = absurd (omega (arith, h))
 
-pub next : (st : List Expr) (ws : List ℕ) (i : ℕ) → i < length ws → Fed st (drop i ws)
-    → Next st (drop i ws) (get_or ws i 0) (get_or ws (i + 1) 0) (drop (i + 2) ws)
-next st ws i h f = rw (add-one, add-two) (next-suc st ws i h f)
+empty : (l : List ℕ) → length l < 2 → length l % 2 ≡ 0 → l ≡ []
+empty [] h e = refl
+empty (x ∷ []) h e = absurd (omega (arith, e))
+empty (x ∷ y ∷ l) h e = absurd (omega (arith, h))
 
 -- the types of a stack of trees, in an array from entry 2 up
 unfoldable pub Held : List ℕ → List ℕ → List Expr → Type 0
@@ -127,51 +126,74 @@ module _ (types stack : List ℕ) (st : List Expr) (top tag value : ℕ) (kind :
     held-set types stack (drop (arity_of tag) st) (top - n) v (omega (arith, e, enough, height, length-drop (arity_of tag) st)) (held-drop types stack (arity_of tag) st h),
   )
 
--- what a pass over the records has at record i: the trees so far, whose types the array holds below `top`
-pub record Typed (rs types stack : List ℕ) (top i : ℕ) : Type 0 where
+-- what a pass over the records has, with the records that are left: the trees so far, whose types the array holds below `top`
+pub record Typed (rs types stack : List ℕ) (top : ℕ) (left : List ℕ) (size : ℕ) : Type 0 where
   pub trees : List Expr
-  pub rest : parse trees (drop i rs) ≡ tree_of rs ∷ []
-  pub fed : Fed trees (drop i rs)
+  pub rest : parse trees left ≡ tree_of rs ∷ []
+  pub fed : Fed trees left
   pub held : Held types stack trees
   pub room : length stack ≡ 130
   pub height : top ≡ length trees + 2
-  pub few : length trees + length trees ≤ i
+  pub few : length trees + length trees + length left ≤ length rs
+  pub whole : length left % 2 ≡ 0
+  pub two : size ≡ 2
 
-pub typed-start : (rs types stack : List ℕ) → Wf rs → length stack ≡ 130 → Typed rs types stack 2 0
-unfolding Held
-typed-start rs types stack w l =
-    record { trees = []; rest = wf-parse rs w; fed = fed-tree rs w; held = tt; room = l; height = refl; few = omega arith }
-
-module _ (rs types stack : List ℕ) (top i : ℕ) (more : i < length rs) (t : Typed rs types stack top i) where
-  here : Next t.trees (drop i rs) (get_or rs i 0) (get_or rs (i + 1) 0) (drop (i + 2) rs)
-  here = next t.trees rs i more t.fed
-
-  -- the record's children are there to be taken
-  pub typed-enough : arity_of (get_or rs i 0) + 2 ≤ top
-  typed-enough = omega (arith, here.enough, t.height)
-
-  -- one record: its type is stored where its first child's stood
-  pub typed-push : (n v : ℕ) → n ≡ arity_of (get_or rs i 0) → v ≡ record_type types (get_or rs i 0) (get_or stack (top - 2) 0) (get_or stack (top - 1) 0)
-      → top - n < 130 → Typed rs types (set stack (top - n) v) (top - n + 1) (i + 2)
-  unfolding push
-  typed-push n v e f l =
-      let st = t.trees in
-      let tag = get_or rs i 0 in
-      let value = get_or rs (i + 1) 0 in
+module _ (rs types : List ℕ) where
+  pub typed-start : (stack : List ℕ) {left : List ℕ} {size : ℕ} → Wf rs → length stack ≡ 130 → left ≡ rs → size ≡ 2 → Typed rs types stack 2 left size
+  unfolding Held
+  typed-start stack {left} {size} w l is two =
       record {
-        trees = push tag value st;
-        rest = sym here.parsed ∙ t.rest;
-        fed = here.fed;
-        held = held-push types stack st top tag value here.formed.kind here.enough t.height n v e f (omega (arith, l, t.room)) t.held;
-        room = length-set stack (top - n) v ∙ t.room;
-        height = omega (arith, e, here.enough, t.height, length_push tag value st);
-        few = omega (arith, t.few, length-drop (arity_of tag) st);
+        trees = [];
+        rest = rw is (wf-parse rs w);
+        fed = rw is (fed-tree rs w);
+        held = tt;
+        room = l;
+        height = refl;
+        few = omega (arith, ap length is);
+        whole = rw is (wf-even rs w);
+        two = two;
       }
 
--- past the last record the one tree's type stands in entry 2
-pub typed-end : (rs types stack : List ℕ) (top i : ℕ) → length rs ≤ i → Typed rs types stack top i → get_or stack 2 0 ≡ type_of types (tree_of rs)
-unfolding Held parse
-typed-end rs types stack top i l t =
-    let last : t.trees ≡ tree_of rs ∷ [] = ap (parse t.trees) (sym (drop_of_length-le rs l)) ∙ t.rest in
-    let h : Held types stack (tree_of rs ∷ []) = subst (Held types stack) last t.held in
-    h.0
+  module _ {stack left : List ℕ} {top size : ℕ} (t : Typed rs types stack top left size) where
+    here : (r after : List ℕ) → left ≡ r ++ after → length r ≡ size → Next t.trees (r ++ after) (get_or r 0 0) (get_or r 1 0) after
+    here r after is long = next t.trees r after (long ∙ t.two) (rw is at t.fed)
+
+    -- the record's children are there to be taken
+    pub typed-enough : (r after : List ℕ) → left ≡ r ++ after → length r ≡ size → arity_of (get_or r 0 0) + 2 ≤ top
+    typed-enough r after is long = omega (arith, (here r after is long).enough, t.height)
+
+    -- and there is room
+    pub typed-few : (r after : List ℕ) → left ≡ r ++ after → length r ≡ size → length rs ≤ 256 → top < 130
+    typed-few r after is long h = omega (arith, h, t.few, t.height, t.two, long, ap length is, length-append r after)
+
+    -- one record: its type is stored where its first child's stood
+    pub typed-push : (r after : List ℕ) {size' : ℕ} (n v : ℕ) → left ≡ r ++ after → length r ≡ size → size' ≡ size → n ≡ arity_of (get_or r 0 0)
+        → v ≡ record_type types (get_or r 0 0) (get_or stack (top - 2) 0) (get_or stack (top - 1) 0)
+        → top - n < 130 → Typed rs types (set stack (top - n) v) (top - n + 1) after size'
+    unfolding push
+    typed-push r after n v is long same e f l =
+        let st = t.trees in
+        let tag = get_or r 0 0 in
+        let value = get_or r 1 0 in
+        let more = here r after is long in
+        let left-is = ap length is in
+        record {
+          trees = push tag value st;
+          rest = sym more.parsed ∙ ap (parse st) (sym is) ∙ t.rest;
+          fed = more.fed;
+          held = held-push types stack st top tag value more.formed.kind more.enough t.height n v e f (omega (arith, l, t.room)) t.held;
+          room = length-set stack (top - n) v ∙ t.room;
+          height = omega (arith, e, more.enough, t.height, length_push tag value st);
+          few = omega (arith, t.few, length-drop (arity_of tag) st, left-is, length-append r after, long, t.two);
+          whole = omega (arith, t.whole, t.two, long, left-is, length-append r after);
+          two = same ∙ t.two;
+        }
+
+  -- past the last record the one tree's type stands in entry 2
+  pub typed-end : {stack left : List ℕ} {top size : ℕ} → Typed rs types stack top left size → length left < size → get_or stack 2 0 ≡ type_of types (tree_of rs)
+  unfolding Held parse
+  typed-end {stack} {left} t l =
+      let none : left ≡ [] = empty left (rw t.two at l) t.whole in
+      let last : t.trees ≡ tree_of rs ∷ [] = rw none at t.rest in
+      let h : Held types stack (tree_of rs ∷ []) = subst (Held types stack) last t.held in
+      h.0

@@ -3,5 +3,6 @@ pub mod Tree
 pub mod Statement
 pub mod Scan
 pub mod Types
+pub mod Root
 pub mod Admission
 pub mod Examples

@@ -115,7 +115,7 @@ unfoldable pub tree_of : List ℕ → Expr
 tree_of ws = child (parse [] ws) 0
 
 -- The words are exactly one tree, every word of it used (S36).
-unfoldable pub Wf : List ℕ → Type 0
+abbrev pub Wf : List ℕ → Type 0
 Wf ws = flat (tree_of ws) ≡ ws
 
 -- the words of a stack of trees, the top tree's last

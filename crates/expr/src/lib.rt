@@ -1,9 +1,11 @@
 // Expression records: what the words of a tree say, read off the words themselves.
 #![tactic(auto)]
 
-ghost use Rattle.std.specs.Prelude.{◌≡◌, ◌≤◌, length, get_or};
+ghost use Rattle.std.specs.Prelude.{◌≡◌, ◌+◌, ◌≤◌, length, get_or};
 ghost use Rattle.expr.specs.Codes.{signed8};
-ghost use Rattle.expr.specs.Tree.{kind_of, argument_of, arity_of, Wf, Trees, tree_of, tree_count, last_start};
+ghost use Rattle.expr.specs.Tree.{kind_of, argument_of, arity_of, tag_of, value_of, Wf, Trees, tree_of, tree_count, last_start};
+ghost use Rattle.expr.specs.Tree.Expr.{constant as constant_tree, cast as cast_tree, binary as binary_tree, ternary as ternary_tree};
+ghost use Rattle.expr.specs.Root.{root_of, root_argument};
 ghost use Rattle.expr.specs.Scan.{has_own_value, has_load, plain_expr, reads as reads_of, any_tag, of_kind, same_tree};
 ghost use Rattle.expr.specs.Types.{bits, promoted as promoted_of, common as common_of, plain_type, same_type, together, constant_type, binary_type, record_type, type_of};
 
@@ -117,61 +119,8 @@ pub fn arity(tag: u64) -> u64
     (ARITIES >> (2 * kind(tag))) % 4
 }
 
-// Whether a record of this kind stands among the words.
-fn has_kind(rs: &[u64], k: u64) -> bool
-    ensures { result ≡ any_tag (of_kind k) rs.now }
-{
-    let mut i = 0;
-    while i < rs.len() {
-        if kind(rs[i]) == k {
-            return true;
-        }
-        i += 2;
-    }
-    false
-}
-
-// Whether something with a value of its own at each occurrence stands in the tree.
-pub fn has_own_value(rs: &[u64]) -> bool
-    requires { Wf rs.now }
-    ensures { result ≡ has_own_value (tree_of rs.now) }
-{
-    has_kind(rs, EFFECT)
-}
-
-// Whether a load stands in the tree.
-fn has_load(rs: &[u64]) -> bool
-    requires { Wf rs.now }
-    ensures { result ≡ has_load (tree_of rs.now) }
-{
-    has_kind(rs, LOAD)
-}
-
-// Whether the variables alone give the tree's value.
-pub fn is_plain(rs: &[u64]) -> bool
-    requires { Wf rs.now }
-    ensures { result ≡ plain_expr (tree_of rs.now) }
-{
-    !(has_own_value(rs) | has_load(rs))
-}
-
-// Whether the variable of number v stands in the tree, under a load too.
-pub fn reads(rs: &[u64], v: u64) -> bool
-    requires { Wf rs.now }
-    ensures { result ≡ reads_of v (tree_of rs.now) }
-{
-    let mut i = 0;
-    while i < rs.len() {
-        let tag = rs[i];
-        if (kind(tag) == VARIABLE) & (argument(tag) == v) {
-            return true;
-        }
-        i += 2;
-    }
-    false
-}
-
 // How many bits a value of the type has.
+#[tactic(auto, unfolding(crate::specs::Types::bits))]
 pub fn width(t: u64) -> u64
     ensures { result ≡ bits t }
 {
@@ -185,6 +134,7 @@ pub fn width(t: u64) -> u64
 }
 
 // A type with pointer read as unsigned 64.
+#[tactic(auto, unfolding(crate::specs::Types::plain_type))]
 fn plain(t: u64) -> u64
     ensures { result ≡ plain_type t }
 {
@@ -192,6 +142,7 @@ fn plain(t: u64) -> u64
 }
 
 // The type that an operand of type t is promoted to.
+#[tactic(auto, unfolding(crate::specs::Types::promoted))]
 pub fn promoted(t: u64) -> u64
     ensures { result ≡ promoted_of t }
 {
@@ -202,6 +153,7 @@ pub fn promoted(t: u64) -> u64
 }
 
 // Of two promoted types the wider one, and at one width the unsigned one.
+#[tactic(auto, unfolding(crate::specs::Types::common))]
 fn common(a: u64, b: u64) -> u64
     ensures { result ≡ common_of a b }
 {
@@ -217,6 +169,7 @@ fn common(a: u64, b: u64) -> u64
 }
 
 // Whether two types are the same, a pointer counting as unsigned 64.
+#[tactic(auto, unfolding(crate::specs::Types::same_type))]
 pub fn same_type(a: u64, b: u64) -> bool
     ensures { result ≡ same_type a b }
 {
@@ -231,6 +184,7 @@ pub fn joined(a: u64, b: u64) -> u64
 }
 
 // The type of a constant of this width.
+#[tactic(auto, unfolding(crate::specs::Types::constant_type))]
 pub fn constant_type(width: u64) -> u64
     ensures { result ≡ constant_type width }
 {
@@ -244,6 +198,7 @@ pub fn constant_type(width: u64) -> u64
 }
 
 // The type of a binary operator's result, from its operands' types.
+#[tactic(auto, unfolding(crate::specs::Types::binary_type))]
 pub fn binary_type(operator: u64, a: u64, b: u64) -> u64
     ensures { result ≡ binary_type operator a b }
 {
@@ -260,7 +215,7 @@ pub fn binary_type(operator: u64, a: u64, b: u64) -> u64
 }
 
 // The type of the variable of this number.
-fn variable_type(types: &[u8], number: u64) -> u64
+pub fn variable_type(types: &[u8], number: u64) -> u64
     ensures { result ≡ get_or types.now number signed8 }
 {
     let i = number as usize;
@@ -271,7 +226,8 @@ fn variable_type(types: &[u8], number: u64) -> u64
 }
 
 // The type of the tree that a record makes, from the types of its last child, b, and of the one before, a.
-pub fn record_type(tag: u64, types: &[u8], a: u64, b: u64) -> u64
+#[tactic(auto, unfolding(crate::specs::Types::record_type))]
+fn record_type(tag: u64, types: &[u8], a: u64, b: u64) -> u64
     ensures { result ≡ record_type types.now tag a b }
 {
     let n = argument(tag);
@@ -284,46 +240,6 @@ pub fn record_type(tag: u64, types: &[u8], a: u64, b: u64) -> u64
         TRUE | FALSE => SIGNED_32,
         _ => NO_TYPE,
     }
-}
-
-// The static type of the tree, given its variables' types: one pass over the records, with the types of the trees that are complete so far
-// on a stack above two empty entries.
-pub fn static_type(rs: &[u64], types: &[u8]) -> u64
-    requires wf { Wf rs.now }
-    requires rs_len_bound { length rs.now ≤ 256 }
-    ensures { result ≡ type_of types.now (tree_of rs.now) }
-{
-    let mut stack: [u64; 130] = [0; 130];
-    let mut top: usize = 2;
-    let mut i: usize = 0;
-    while i < rs.len() {
-        let tag = rs[i];
-        let t = record_type(tag, types, stack[top - 2], stack[top - 1]);
-        let at = top - arity(tag) as usize;
-        stack[at] = t;
-        top = at + 1;
-        i += 2;
-    }
-    stack[2]
-}
-
-// Whether two trees are the same, record for record.
-pub fn same(a: &[u64], b: &[u64]) -> bool
-    requires wf { Wf a.now }
-    requires wf_2 { Wf b.now }
-    ensures { result ≡ same_tree (tree_of a.now) (tree_of b.now) }
-{
-    if a.len() != b.len() {
-        return false;
-    }
-    let mut i = 0;
-    while i < a.len() {
-        if a[i] != b[i] {
-            return false;
-        }
-        i += 1;
-    }
-    true
 }
 
 // Where the last tree of a list of trees starts: from the end back, with the number of trees that are still to be passed.
@@ -339,4 +255,224 @@ pub fn last_start(rs: &[u64]) -> usize
         left = left - 1 + arity(rs[at]);
     }
     at
+}
+
+// What the root of a tree is.
+#[derive(Clone, Copy, PartialEq, Eq, Debug)]
+pub enum Root {
+    Variable,
+    Constant,
+    True,
+    False,
+    Effect,
+    Load,
+    Cast,
+    Binary,
+    Ternary,
+}
+
+// Words that are exactly one tree.
+#[derive(Clone, Copy)]
+pub struct Tree<'a> {
+    pub words: &'a [u64],
+    pub ghost wf: { Wf words.now },
+}
+
+impl<'a> Tree<'a> {
+    pub fn new(words: &'a [u64]) -> Tree<'a>
+        requires { Wf words.now }
+        ensures { result.words.now ≡ words.now }
+    {
+        Tree { words }
+    }
+
+    // The tag word of the root.
+    pub fn tag(self) -> u64
+        ensures { result ≡ tag_of (tree_of self.entry.words.now) }
+    {
+        self.words[self.words.len() - 2]
+    }
+
+    // What the root is.
+    pub fn root(self) -> Root
+        ensures { result ≡ root_of (tree_of self.entry.words.now) }
+    {
+        match kind(self.tag()) {
+            VARIABLE => Root::Variable,
+            CONSTANT => Root::Constant,
+            TRUE => Root::True,
+            FALSE => Root::False,
+            EFFECT => Root::Effect,
+            LOAD => Root::Load,
+            CAST => Root::Cast,
+            BINARY => Root::Binary,
+            TERNARY => Root::Ternary,
+            _ => unreachable!(),
+        }
+    }
+
+    // The root's argument: a variable's number, a constant's width, a type or an operator.
+    pub fn argument(self) -> u64
+        ensures { result ≡ root_argument (tree_of self.entry.words.now) }
+    {
+        argument(self.tag())
+    }
+
+    // A constant's value; 0 for any other root.
+    pub fn value(self) -> u64
+        ensures { result ≡ value_of (tree_of self.entry.words.now) }
+    {
+        self.words[self.words.len() - 1]
+    }
+
+    // What is cast.
+    pub fn child(self) -> Tree<'a>
+        requires { root_of (tree_of self.words.now) ≡ Root.Cast }
+        ensures tree { tree_of self.entry.words.now ≡ cast_tree (root_argument (tree_of self.entry.words.now)) (tree_of result.words.now) }
+        ensures size { length result.words.now + 2 ≡ length self.entry.words.now }
+    {
+        Tree {
+            words: &self.words[..self.words.len() - 2],
+        }
+    }
+
+    // An operator's sides.
+    pub fn sides(self) -> (Tree<'a>, Tree<'a>)
+        requires { root_of (tree_of self.words.now) ≡ Root.Binary }
+        ensures tree { tree_of self.entry.words.now ≡ binary_tree (root_argument (tree_of self.entry.words.now)) (tree_of result.0.words.now) (tree_of result.1.words.now) }
+        ensures size { length result.0.words.now + length result.1.words.now + 2 ≡ length self.entry.words.now }
+    {
+        let n = self.words.len() - 2;
+        let m = last_start(&self.words[..n]);
+        (
+            Tree {
+                words: &self.words[..m],
+            },
+            Tree {
+                words: &self.words[m..n],
+            },
+        )
+    }
+
+    // A ternary's condition and its two arms.
+    pub fn arms(self) -> (Tree<'a>, Tree<'a>, Tree<'a>)
+        requires { root_of (tree_of self.words.now) ≡ Root.Ternary }
+        ensures tree { tree_of self.entry.words.now ≡ ternary_tree (tree_of result.0.words.now) (tree_of result.1.words.now) (tree_of result.2.words.now) }
+        ensures size { length result.0.words.now + length result.1.words.now + length result.2.words.now + 2 ≡ length self.entry.words.now }
+    {
+        let n = self.words.len() - 2;
+        let m = last_start(&self.words[..n]);
+        let l = last_start(&self.words[..m]);
+        (
+            Tree {
+                words: &self.words[..l],
+            },
+            Tree {
+                words: &self.words[l..m],
+            },
+            Tree {
+                words: &self.words[m..n],
+            },
+        )
+    }
+
+    // Whether a record of this kind stands in the tree.
+    fn has_kind(self, k: u64) -> bool
+        ensures { result ≡ any_tag (of_kind k) self.entry.words.now }
+    {
+        for record in self.words.chunks_exact(2) {
+            if kind(record[0]) == k {
+                return true;
+            }
+        }
+        false
+    }
+
+    // Whether something with a value of its own at each occurrence stands in the tree.
+    pub fn has_own_value(self) -> bool
+        ensures { result ≡ has_own_value (tree_of self.entry.words.now) }
+    {
+        self.has_kind(EFFECT)
+    }
+
+    // Whether a load stands in the tree.
+    fn has_load(self) -> bool
+        ensures { result ≡ has_load (tree_of self.entry.words.now) }
+    {
+        self.has_kind(LOAD)
+    }
+
+    // Whether the variables alone give the tree's value.
+    pub fn is_plain(self) -> bool
+        ensures { result ≡ plain_expr (tree_of self.entry.words.now) }
+    {
+        !(self.has_own_value() | self.has_load())
+    }
+
+    // Whether the variable of number v stands in the tree, under a load too.
+    pub fn reads(self, v: u64) -> bool
+        ensures { result ≡ reads_of v (tree_of self.entry.words.now) }
+    {
+        for record in self.words.chunks_exact(2) {
+            let tag = record[0];
+            if (kind(tag) == VARIABLE) & (argument(tag) == v) {
+                return true;
+            }
+        }
+        false
+    }
+
+    // The static type of the tree, given its variables' types: one pass over the records, with the types of the trees that are complete so far
+    // on a stack above two empty entries.
+    pub fn static_type(self, types: &[u8]) -> u64
+        requires { length self.words.now ≤ 256 }
+        ensures { result ≡ type_of types.now (tree_of self.entry.words.now) }
+    {
+        let mut stack: [u64; 130] = [0; 130];
+        let mut top: usize = 2;
+        for record in self.words.chunks_exact(2) {
+            let tag = record[0];
+            let t = record_type(tag, types, stack[top - 2], stack[top - 1]);
+            let at = top - arity(tag) as usize;
+            stack[at] = t;
+            top = at + 1;
+        }
+        stack[2]
+    }
+
+    // Whether two trees are the same, record for record.
+    pub fn same(self, other: Tree) -> bool
+        ensures { result ≡ same_tree (tree_of self.entry.words.now) (tree_of other.entry.words.now) }
+    {
+        self.words == other.words
+    }
+}
+
+pub fn has_own_value(rs: &[u64]) -> bool
+    requires { Wf rs.now }
+    ensures { result ≡ has_own_value (tree_of rs.now) }
+{
+    Tree { words: rs }.has_own_value()
+}
+
+pub fn is_plain(rs: &[u64]) -> bool
+    requires { Wf rs.now }
+    ensures { result ≡ plain_expr (tree_of rs.now) }
+{
+    Tree { words: rs }.is_plain()
+}
+
+pub fn reads(rs: &[u64], v: u64) -> bool
+    requires { Wf rs.now }
+    ensures { result ≡ reads_of v (tree_of rs.now) }
+{
+    Tree { words: rs }.reads(v)
+}
+
+pub fn same(a: &[u64], b: &[u64]) -> bool
+    requires wf { Wf a.now }
+    requires wf_2 { Wf b.now }
+    ensures { result ≡ same_tree (tree_of a.now) (tree_of b.now) }
+{
+    Tree { words: a }.same(Tree { words: b })
 }

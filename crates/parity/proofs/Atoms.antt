@@ -11,8 +11,10 @@ use Rattle.expr.specs.Tree.{Expr}
 use Rattle.expr.specs.Tree.Expr.{variable, constant, condition_true, condition_false, effect, load, cast, binary, ternary}
 use Rattle.expr.specs.Scan.{has_own_value, same_tree}
 use Rattle.expr.proofs.Sameness.{same_tree-true, same_tree-refl}
-use Rattle.parity.specs.Parity.{Entry, entered, place, number_in, noted, atom_low, low_of, parity}
-use Rattle.parity.specs.Parity.Entry.{adds, multiplies, joins, keeps, clears, atom}
+use Rattle.parity.specs.Parity.{entered, place, number_in, noted, atom_low, low_of, parity}
+use Rattle.parity.specs.declared.Entry.{Entry}
+use Rattle.parity.specs.declared.Entry.TheVariants.{Both, Keeps, Clears, Atom}
+use Rattle.parity.specs.declared.Pair.TheVariants.{Sum, Product, Or}
 
 -- a list that has another one at its start
 pub record Extends (l F : List Expr) : Type 0 where
@@ -125,10 +127,10 @@ atoms-grow l (binary o a b) = go (entered o b) (atoms-grow l a) (atoms-grow (par
   where
     go : (k : Entry) → Extends l (parity l a).atoms → Extends (parity l a).atoms (parity (parity l a).atoms b).atoms
         → Extends l (low_of k (parity l a) (parity (parity l a).atoms b) (atom_low l (binary o a b)) l).atoms
-    go adds p q = extends-trans p q
-    go multiplies p q = extends-trans p q
-    go joins p q = extends-trans p q
-    go keeps p q = p
-    go clears p q = extends-refl l
-    go atom p q = noted-extends l (binary o a b)
+    go (Both Sum) p q = extends-trans p q
+    go (Both Product) p q = extends-trans p q
+    go (Both Or) p q = extends-trans p q
+    go Keeps p q = p
+    go Clears p q = extends-refl l
+    go Atom p q = noted-extends l (binary o a b)
 atoms-grow l (ternary c a b) = noted-extends l (ternary c a b)

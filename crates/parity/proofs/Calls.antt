@@ -7,90 +7,68 @@ use native.Mathlib.Omega.{arith}
 use lib.ListN.{length, get_or, take, drop, length-append, length-drop}
 use lib.Seq.{length-take-le, take-take, take-add, drop-drop, take_at, drop_at, take-append-le}
 use borrow.Author.Tests.{eq-eqb, ne_eqb}
-use Rattle.expr.specs.Tree.{Expr, Wf, tree_of, tag_of, flat}
+use Rattle.expr.specs.Tree.{Expr, Wf, tree_of, value_of, flat}
 use Rattle.expr.specs.Tree.Expr.{variable, constant, condition_true, condition_false, effect, load, cast, binary, ternary}
-use Rattle.expr.proofs.Laws.{kind-of, wf-two}
-use Rattle.expr.proofs.Parts.{root}
-use Rattle.expr.proofs.Children.{TwoChildren}
-use Rattle.parity.specs.Parity.{Low, constant_poly, entered, atom_low, low_of, parity}
+use Rattle.expr.specs.Root.{root_of, root_argument}
+use Rattle.expr.specs.declared.Root.TheVariants.{Constant, Cast, Binary}
+use Rattle.expr.proofs.Laws.{wf-two}
+use Rattle.expr.proofs.Views.{Standing, constant-root}
+use Rattle.parity.specs.Parity.{Low, constant_poly, entered, atom_low, pair_poly, pair_fits, low_of, parity}
 use Rattle.parity.specs.declared.Pair.{Pair}
 use Rattle.parity.specs.declared.Pair.TheVariants.{Sum, Product, Or}
 use Rattle.parity.specs.declared.Entry.{Entry}
-use Rattle.parity.specs.declared.Entry.TheVariants.{Both}
 use Rattle.parity.specs.declared.Size.{Size}
-use Rattle.parity.specs.declared.Size.TheVariants.{Of, TooMany}
-use Rattle.parity.specs.Lent.{entry_of, pair_poly, pair_fits, pair_low, pair_of, atoms_at, ProductsRoom, Lent, LentTwo, Sides, Made, Given}
+use Rattle.parity.specs.declared.TooMany.{TooMany}
+use Rattle.std.specs.Prelude.{Result, Ok, Err}
+use Rattle.std.proofs.lemmas.Slice.{between_is}
+use Rattle.parity.specs.Lent.{pair_of, atoms_at, ProductsRoom, Lent, LentTwo, Sides, Made, Given}
 use Rattle.parity.proofs.Ordered.{parity-ascending, parity-few, atoms-few}
 use Rattle.parity.proofs.Rooms.{leaves, parity-terms, eight-each, pairs-room}
 use Rattle.parity.proofs.Steps.{Told, told, passed, made_none, told-within, atoms-count}
 
 pub wf-length : (ws : List ℕ) → Wf ws → length (flat (tree_of ws)) ≡ length ws
-unfolding Wf
 wf-length ws w = ap length w
 
 -- how many terms a part has, by its words
 side-terms : (l : List Expr) (ws : List ℕ) → Wf ws → {n : ℕ} → n ≡ length (parity l (tree_of ws)).poly → n < leaves (length ws)
 side-terms l ws w e = rw (e, ← wf-length ws w) (parity-terms l (tree_of ws))
 
--- both children and the root's record are the whole part
-pub two-length : (part : List ℕ) (n m : ℕ) {make : Expr → Expr → Expr} → n + 2 ≡ length part → TwoChildren part n m make
-    → length (take m part) + length (take (n - m) (drop m part)) + 2 ≡ length part
-two-length part n m e d =
-    omega (arith, d.within, length-take-le m part (omega (arith, d.within)), length-take-le (n - m) (drop m part) (omega (arith, d.within, length-drop m part)))
-
 module _ {whole : List ℕ} {at : ℕ} {part table : List ℕ} {count : ℕ} {terms : List ℕ} (lent : Lent whole at part table count terms) where
   -- the start of a part stands where the part does
-  front-stands : (n : ℕ) → n ≤ length part → take n part ≡ take n (drop at whole)
-  front-stands n h = ap (take n) lent.stands ∙ take-take n (length part) (drop at whole) h
+  pub lent-front : (l : List ℕ) → l ≡ take (length l) part → length l ≤ length part → Lent whole at l table count terms
+  lent-front l front h = record {
+    stands = front ∙ ap (take (length l)) lent.stands ∙ take-take (length l) (length part) (drop at whole) h;
+    within = omega (arith, lent.within);
+    small = lent.small;
+    room = omega (arith, lent.room);
+    table = lent.table;
+    parts = lent.parts;
+    space = omega (arith, lent.space);
+  }
 
-  pub lent-front : (n : ℕ) → n ≤ length part → Wf (take n part) → Lent whole at (take n part) table count terms
-  lent-front n h w =
-      let long : length (take n part) ≡ n = length-take-le n part h in
-      record {
-        wf = w;
-        stands = rw long (front-stands n h);
-        within = omega (arith, lent.within);
-        small = lent.small;
-        room = omega (arith, lent.room);
-        table = lent.table;
-        parts = lent.parts;
-        space = omega (arith, lent.space);
-      }
-
-  pub lent_two : (n m : ℕ) {make : Expr → Expr → Expr} → n + 2 ≡ length part → TwoChildren part n m make
-      → LentTwo whole at (take m part) (take (n - m) (drop m part)) table count terms
-  lent_two n m e d =
-      let left : length (take m part) ≡ m = length-take-le m part (omega (arith, d.within)) in
-      let right : length (take (n - m) (drop m part)) ≡ n - m =
-      length-take-le (n - m) (drop m part) (omega (arith, d.within, length-drop m part)) in
-      let whole-front : m + (n - m) ≡ n = omega (arith, d.within) in
-      let both : take m part ++ take (n - m) (drop m part) ≡ take m (drop at whole) ++ take (n - m) (drop m (drop at whole)) =
-      sym (take-add m (n - m) part)
-      ∙ ap (λ (i : ℕ). take i part) whole-front
-      ∙ front-stands n (omega arith)
-      ∙ ap (λ (i : ℕ). take i (drop at whole)) (sym whole-front)
-      ∙ take-add m (n - m) (drop at whole) in
-      let behind : take (n - m) (drop m part) ≡ take (n - m) (drop m (drop at whole)) =
-      append_cancel_left (take m part) (take (n - m) (drop m part)) (take (n - m) (drop m (drop at whole)))
-      (both ∙ ap (λ (l : List ℕ). l ++ take (n - m) (drop m (drop at whole))) (sym (front-stands m (omega (arith, d.within))))) in
-      record {
-        left_wf = d.left_wf;
-        right_wf = d.right_wf;
-        left_stands = rw left (front-stands m (omega (arith, d.within)));
-        right_stands = rw (left, right) (behind ∙ ap (take (n - m)) (drop-drop m at whole));
-        within = omega (arith, lent.within, d.within);
-        small = lent.small;
-        room = omega (arith, lent.room, d.within);
-        table = lent.table;
-        parts = lent.parts;
-        space = omega (arith, lent.space, d.within);
-      }
+  -- and two parts that stand there one after the other
+  pub lent_two : (l r : List ℕ) → Standing part l r → length l + length r + 2 ≡ length part → LentTwo whole at l r table count terms
+  lent_two l r s e = record {
+    left_stands = (lent-front l s.left (omega arith)).stands;
+    right_stands =
+        s.right
+        ∙ ap (λ (ws : List ℕ). take (length r) (drop (length l) ws)) lent.stands
+        ∙ ap (take (length r)) (sym (between_is (drop at whole) (length l) (length part)))
+        ∙ take-take (length r) (length part - length l) (drop (length l) (drop at whole)) (omega arith)
+        ∙ ap (take (length r)) (drop-drop (length l) at whole);
+    within = omega (arith, lent.within);
+    small = lent.small;
+    room = omega (arith, lent.room);
+    table = lent.table;
+    parts = lent.parts;
+    space = omega (arith, lent.space);
+  }
 
   -- a part without new atoms
-  pub given-same : (low : Low) → low.fits ≡ true → low.atoms ≡ atoms_at whole (take count table) → (terms' : List ℕ) (r : Size)
+  pub given-same : Wf part → (low : Low) → low.fits ≡ true → low.atoms ≡ atoms_at whole (take count table) → (terms' : List ℕ) (r : Result Size TooMany)
       → Made true low.poly count terms' r → Given low whole table terms' r
-  given-same low f a terms' r m =
-      let size : length low.atoms ≡ count = ap length a ∙ atoms-count whole at part table count terms lent in
+  given-same w low f a terms' r m =
+      let size : length low.atoms ≡ count = ap length a ∙ atoms-count w lent in
       record {
         made = rw (f, size) m;
         atoms = λ _. ap (λ (k : ℕ). atoms_at whole (take k table)) size ∙ sym a;
@@ -98,10 +76,10 @@ module _ {whole : List ℕ} {at : ℕ} {part table : List ℕ} {count : ℕ} {te
       }
 
 -- what is given of one result is given of an equal one
-pub given-as : {low low' : Low} {whole table terms : List ℕ} {r : Size} → low ≡ low' → Given low' whole table terms r → Given low whole table terms r
+pub given-as : {low low' : Low} {whole table terms : List ℕ} {r : Result Size TooMany} → low ≡ low' → Given low' whole table terms r → Given low whole table terms r
 given-as {low} {low'} {whole} {table} {terms} {r} e g = subst (λ (x : Low). Given x whole table terms r) (sym e) g
 
-pub given-none : {low : Low} (whole table terms : List ℕ) → low.fits ≡ false → Given low whole table terms TooMany
+pub given-none : {low : Low} {x : TooMany} (whole table terms : List ℕ) → low.fits ≡ false → Given low whole table terms (Err x)
 given-none {low} whole table terms h = record {
   made = made_none low.poly (length low.atoms) terms h;
   atoms = λ k. absurd (never k);
@@ -112,58 +90,42 @@ given-none {low} whole table terms h = record {
     never k = let y : ◌≡◌ {A = ℕ} 0 1 = cc in omega arith
 
 -- a part's polynomial by its root
-module _ (l : List Expr) {e : Expr} where
-  pub low-constant : {w x : ℕ} → e ≡ constant w x → parity l e ≡ record { poly = constant_poly x; atoms = l; fits = true }
+module _ (l : List Expr) (e : Expr) where
+  pub low-constant : root_of e ≡ Constant → parity l e ≡ record { poly = constant_poly (value_of e); atoms = l; fits = true }
   unfolding parity
-  low-constant k = rw k
+  low-constant h = ap (parity l) (constant-root e h)
 
-  pub low-bool : {t : ℕ} {a : Expr} → e ≡ cast t a → t ≡ 9 → parity l e ≡ atom_low l e
+  pub low-cast : {a : Expr} → e ≡ cast (root_argument e) a → (root_argument e ≡ 9 → ⊥) → parity l e ≡ parity l a
   unfolding parity
-  low-bool {t} k h = rw (k, eq-eqb t 9 h)
+  low-cast {a} k h = ap (parity l) k ∙ rw (ne_eqb (root_argument e) 9 h)
 
-  pub low-cast : {t : ℕ} {a : Expr} → e ≡ cast t a → (t ≡ 9 → ⊥) → parity l e ≡ parity l a
+  parity-binary : (o : ℕ) (a b : Expr) {k : Entry} → entered o b ≡ k → parity l (binary o a b) ≡ low_of k (parity l a) (parity (parity l a).atoms b) (atom_low l (binary o a b)) l
   unfolding parity
-  low-cast {t} k h = rw (k, ne_eqb t 9 h)
+  parity-binary o a b is = rw is
 
-  pub low-binary : {o o' : ℕ} {a b : Expr} {r k : Entry} → e ≡ binary o a b → entry_of r ≡ entered o' b → o' ≡ o → r ≡ k
-      → parity l e ≡ low_of (entry_of k) (parity l a) (parity (parity l a).atoms b) (atom_low l e) l
-  unfolding parity
-  low-binary s g p h = rw (s, ← p, ← g, h)
+  pub low-binary : {a b : Expr} {o : ℕ} {r k : Entry} → e ≡ binary (root_argument e) a b → r ≡ entered o b → o ≡ root_argument e → r ≡ k
+      → parity l e ≡ low_of k (parity l a) (parity (parity l a).atoms b) (atom_low l e) l
+  low-binary {a} {b} {k = k} s g p h =
+      ap (parity l) s
+      ∙ parity-binary (root_argument e) a b (rw p at (sym g ∙ h))
+      ∙ ap (λ (x : Expr). low_of k (parity l a) (parity (parity l a).atoms b) (atom_low l x) l) (sym s)
 
-low-both : (pair : Pair) (x y own : Low) (l : List Expr) → low_of (entry_of (Both pair)) x y own l ≡ pair_low pair x y
-low-both Sum x y own l = refl
-low-both Product x y own l = refl
-low-both Or x y own l = refl
-
-pub low-pair : (l : List Expr) {e : Expr} {o o' : ℕ} {a b : Expr} {r : Entry} (pair : Pair) → e ≡ binary o a b → entry_of r ≡ entered o' b → o' ≡ o → r ≡ Both pair
-    → parity l e ≡ pair_of pair l a b
-low-pair l {e} {a = a} {b = b} pair s g p h =
-    low-binary l s g p h ∙ low-both pair (parity l a) (parity (parity l a).atoms b) (atom_low l e) l
-
-pub low-other : (l : List Expr) (e : Expr) → (tag_of e % 16 ≡ 1 → ⊥) → (tag_of e % 16 ≡ 6 → ⊥) → (tag_of e % 16 ≡ 7 → ⊥) → parity l e ≡ atom_low l e
-unfolding parity tag_of
-low-other l (variable n) h1 h6 h7 = refl
-low-other l (constant w x) h1 h6 h7 = absurd (h1 (kind-of 1 w (omega arith)))
-low-other l condition_true h1 h6 h7 = refl
-low-other l condition_false h1 h6 h7 = refl
-low-other l (effect t) h1 h6 h7 = refl
-low-other l (load t a) h1 h6 h7 = refl
-low-other l (cast t a) h1 h6 h7 = absurd (h6 (kind-of 6 t (omega arith)))
-low-other l (binary o a b) h1 h6 h7 = absurd (h7 (kind-of 7 o (omega arith)))
-low-other l (ternary c a b) h1 h6 h7 = refl
-
-module _ (ws : List ℕ) (n : ℕ) (w : Wf ws) (e : n + 2 ≡ length ws) where
-  pub low-atom : (l : List Expr) → (get_or ws n 0 % 16 ≡ 1 → ⊥) → (get_or ws n 0 % 16 ≡ 6 → ⊥) → (get_or ws n 0 % 16 ≡ 7 → ⊥)
-      → parity l (tree_of ws) ≡ atom_low l (tree_of ws)
-  low-atom l h1 h6 h7 =
-      let tag = ap (λ (t : ℕ). t % 16) (root ws n w e).tag in
-      low-other l (tree_of ws) (λ k. h1 (tag ∙ k)) (λ k. h6 (tag ∙ k)) (λ k. h7 (tag ∙ k))
+pub low-other : (l : List Expr) (e : Expr) → (root_of e ≡ Constant → ⊥) → (root_of e ≡ Cast → root_argument e ≡ 9) → (root_of e ≡ Binary → ⊥) → parity l e ≡ atom_low l e
+unfolding parity root_of root_argument
+low-other l (variable n) h c b = refl
+low-other l (constant w x) h c b = absurd (h refl)
+low-other l condition_true h c b = refl
+low-other l condition_false h c b = refl
+low-other l (effect t) h c b = refl
+low-other l (load t a) h c b = refl
+low-other l (cast t a) h c b = rw (eq-eqb t 9 (c refl))
+low-other l (binary o a b) h c d = absurd (d refl)
+low-other l (ternary c a b) h d e = refl
 
 -- both sides, where the left one's polynomial is made
-module _ {whole : List ℕ} {at : ℕ} {left right table : List ℕ} {count : ℕ} {terms : List ℕ} (two : LentTwo whole at left right table count terms) where
+module _ {whole : List ℕ} {at : ℕ} {left right table : List ℕ} {count : ℕ} {terms : List ℕ} (left_wf : Wf left) (right_wf : Wf right) (two : LentTwo whole at left right table count terms) where
   pub two-left : Lent whole at left table count terms
   two-left = record {
-    wf = two.left_wf;
     stands = two.left_stands;
     within = omega (arith, two.within);
     small = two.small;
@@ -173,8 +135,14 @@ module _ {whole : List ℕ} {at : ℕ} {left right table : List ℕ} {count : �
     space = omega (arith, two.space);
   }
 
-  module _ {table₁ terms₁ : List ℕ} {r₁ : Size} {n noted : ℕ}
-      (g : Given (parity (atoms_at whole (take count table)) (tree_of left)) whole table₁ terms₁ r₁) (e : r₁ ≡ Of n noted) where
+  module _ {table₁ terms₁ : List ℕ} {r₁ : Result Size TooMany} {s : Size}
+      (g : Given (parity (atoms_at whole (take count table)) (tree_of left)) whole table₁ terms₁ r₁) (e : r₁ ≡ Ok s) where
+    abbrev pub n : ℕ
+    n = s.terms
+
+    abbrev pub noted : ℕ
+    noted = s.atoms
+
     x-told : Told (parity (atoms_at whole (take count table)) (tree_of left)).fits (parity (atoms_at whole (take count table)) (tree_of left)).poly
         (length (parity (atoms_at whole (take count table)) (tree_of left)).atoms) terms₁ n noted
     x-told = told g.made e
@@ -183,10 +151,10 @@ module _ {whole : List ℕ} {at : ℕ} {left right table : List ℕ} {count : �
     left-few = omega (arith, x-told.count, parity-few (atoms_at whole (take count table)) (tree_of left) x-told.fit)
 
     left-terms : n < leaves (length left)
-    left-terms = side-terms (atoms_at whole (take count table)) left two.left_wf x-told.count
+    left-terms = side-terms (atoms_at whole (take count table)) left left_wf x-told.count
 
     left-each : n ≤ 8 * (length left + 2)
-    left-each = eight-each n (length left) (wf-two left two.left_wf) left-few left-terms
+    left-each = eight-each n (length left) (wf-two left left_wf) left-few left-terms
 
     pub left-within : n ≤ length terms₁
     left-within = told-within x-told
@@ -199,7 +167,6 @@ module _ {whole : List ℕ} {at : ℕ} {left right table : List ℕ} {count : �
     pub two-right : length table₁ ≡ length table → length terms₁ ≡ length terms
         → Lent whole (at + length left) right table₁ noted (take (length terms₁ - n) (drop n terms₁))
     two-right lt ls = record {
-      wf = two.right_wf;
       stands = two.right_stands;
       within = omega (arith, two.within);
       small = two.small;
@@ -209,8 +176,8 @@ module _ {whole : List ℕ} {at : ℕ} {left right table : List ℕ} {count : �
             two.room,
             x-told.all,
             atoms-few (atoms_at whole (take count table)) (tree_of left),
-            wf-length left two.left_wf,
-            atoms-count whole at left table count terms two-left,
+            wf-length left left_wf,
+            atoms-count left_wf two-left,
           );
       table = omega (arith, two.table);
       parts = rw x-told.all (g.parts x-told.fit);
@@ -220,15 +187,21 @@ module _ {whole : List ℕ} {at : ℕ} {left right table : List ℕ} {count : �
     right-atoms : atoms_at whole (take noted table₁) ≡ (parity (atoms_at whole (take count table)) (tree_of left)).atoms
     right-atoms = rw x-told.all (g.atoms x-told.fit)
 
-    module _ {table₂ rest₂ : List ℕ} {r₂ : Size} where
+    module _ {table₂ rest₂ : List ℕ} {r₂ : Result Size TooMany} where
       -- the right side passes the limits
-      pub right-none : Given (parity (atoms_at whole (take noted table₁)) (tree_of right)) whole table₂ rest₂ r₂ → r₂ ≡ TooMany
+      pub right-none : {x : TooMany} → Given (parity (atoms_at whole (take noted table₁)) (tree_of right)) whole table₂ rest₂ r₂ → r₂ ≡ Err x
           → (pair : Pair) → (pair_of pair (atoms_at whole (take count table)) (tree_of left) (tree_of right)).fits ≡ false
       right-none h f pair =
           let none : (parity (parity (atoms_at whole (take count table)) (tree_of left)).atoms (tree_of right)).fits ≡ false = rw right-atoms at (passed h.made f) in
           rw (x-told.fit, none)
 
-      module _ {k all : ℕ} (h : Given (parity (atoms_at whole (take noted table₁)) (tree_of right)) whole table₂ rest₂ r₂) (f : r₂ ≡ Of k all) where
+      module _ {u : Size} (h : Given (parity (atoms_at whole (take noted table₁)) (tree_of right)) whole table₂ rest₂ r₂) (f : r₂ ≡ Ok u) where
+        abbrev pub k : ℕ
+        k = u.terms
+
+        abbrev pub all : ℕ
+        all = u.atoms
+
         h' : Given (parity (parity (atoms_at whole (take count table)) (tree_of left)).atoms (tree_of right)) whole table₂ rest₂ r₂
         h' = rw right-atoms at h
 
@@ -242,7 +215,7 @@ module _ {whole : List ℕ} {at : ℕ} {left right table : List ℕ} {count : �
             omega (arith, y-told.count, parity-few (parity (atoms_at whole (take count table)) (tree_of left)).atoms (tree_of right) y-told.fit)
 
         right-terms : k < leaves (length right)
-        right-terms = side-terms (parity (atoms_at whole (take count table)) (tree_of left)).atoms right two.right_wf y-told.count
+        right-terms = side-terms (parity (atoms_at whole (take count table)) (tree_of left)).atoms right right_wf y-told.count
 
         module _ (tail : List ℕ) where
           first : take n (take n terms₁ ++ (rest₂ ++ tail)) ≡ (parity (atoms_at whole (take count table)) (tree_of left)).poly
@@ -265,7 +238,7 @@ module _ {whole : List ℕ} {at : ℕ} {left right table : List ℕ} {count : �
                   arith,
                   two.space,
                   left-each,
-                  eight-each k (length right) (wf-two right two.right_wf) right-few right-terms,
+                  eight-each k (length right) (wf-two right right_wf) right-few right-terms,
                   rest-length,
                   left-within,
                   length-append (take n terms₁) (rest₂ ++ tail),
@@ -276,7 +249,7 @@ module _ {whole : List ℕ} {at : ℕ} {left right table : List ℕ} {count : �
             products = pairs-room (length left) (length right) n k scratch room left-terms right-terms;
           }
 
-          pub two-given : (pair : Pair) (new : List ℕ) (r : Size)
+          pub two-given : (pair : Pair) (new : List ℕ) (r : Result Size TooMany)
               → Made (pair_fits pair (take n (take n terms₁ ++ (rest₂ ++ tail))) (take k (drop n (take n terms₁ ++ (rest₂ ++ tail)))))
               (pair_poly pair (take n (take n terms₁ ++ (rest₂ ++ tail))) (take k (drop n (take n terms₁ ++ (rest₂ ++ tail))))) all new r
               → Given (pair_of pair (atoms_at whole (take count table)) (tree_of left) (tree_of right)) whole table₂ new r
@@ -286,6 +259,6 @@ module _ {whole : List ℕ} {at : ℕ} {left right table : List ℕ} {count : �
             parts = λ _. h'.parts y-told.fit;
           }
 
-  pub left-none : {table₁ terms₁ : List ℕ} {r₁ : Size} → Given (parity (atoms_at whole (take count table)) (tree_of left)) whole table₁ terms₁ r₁ → r₁ ≡ TooMany
+  pub left-none : {table₁ terms₁ : List ℕ} {r₁ : Result Size TooMany} {x : TooMany} → Given (parity (atoms_at whole (take count table)) (tree_of left)) whole table₁ terms₁ r₁ → r₁ ≡ Err x
       → (pair : Pair) → (pair_of pair (atoms_at whole (take count table)) (tree_of left) (tree_of right)).fits ≡ false
   left-none g e pair = rw (passed g.made e)

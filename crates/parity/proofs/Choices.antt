@@ -20,8 +20,10 @@ use Rattle.poly.specs.Terms.{sum, product}
 use Rattle.poly.specs.Meaning.{holds, value}
 use Rattle.poly.proofs.Sets.{holds-step, holds-none}
 use Rattle.poly.proofs.Values.{value-sum, value-product, value-one, xor-none}
-use Rattle.parity.specs.Parity.{Entry, Low, entered, place, number_in, noted, atom_low, low_of, parity}
-use Rattle.parity.specs.Parity.Entry.{adds, multiplies, joins, keeps, clears, atom}
+use Rattle.parity.specs.Parity.{Low, entered, place, number_in, noted, atom_low, low_of, parity}
+use Rattle.parity.specs.declared.Entry.{Entry}
+use Rattle.parity.specs.declared.Entry.TheVariants.{Both, Keeps, Clears, Atom}
+use Rattle.parity.specs.declared.Pair.TheVariants.{Sum, Product, Or}
 use Rattle.parity.specs.LowBit.{atom_bit, low_bit}
 use Rattle.parity.proofs.Entries.{bit_of, rule-entry}
 use Rattle.parity.proofs.Atoms.{Extends, Noting, noting, before, place-stays, place-new, atoms-grow, extends-refl, extends-trans}
@@ -33,20 +35,20 @@ Bits = ℕ → Bool
 
 -- which of a part's sides and itself count, by how it is entered
 abbrev pub By : Entry → Type 0 → Type 0 → Type 0 → Type 0
-By adds A B O = A × B
-By multiplies A B O = A × B
-By joins A B O = A × B
-By keeps A B O = A
-By clears A B O = Unit {0}
-By atom A B O = O
+By (Both Sum) A B O = A × B
+By (Both Product) A B O = A × B
+By (Both Or) A B O = A × B
+By Keeps A B O = A
+By Clears A B O = Unit {0}
+By Atom A B O = O
 
 by_map : {A B O A' B' O' : Type 0} (k : Entry) → (A → A') → (B → B') → (O → O') → By k A B O → By k A' B' O'
-by_map adds f g h c = (f c.0, g c.1)
-by_map multiplies f g h c = (f c.0, g c.1)
-by_map joins f g h c = (f c.0, g c.1)
-by_map keeps f g h c = f c
-by_map clears f g h c = tt
-by_map atom f g h c = h c
+by_map (Both Sum) f g h c = (f c.0, g c.1)
+by_map (Both Product) f g h c = (f c.0, g c.1)
+by_map (Both Or) f g h c = (f c.0, g c.1)
+by_map Keeps f g h c = f c
+by_map Clears f g h c = tt
+by_map Atom f g h c = h c
 
 abbrev pub Either : Bool → Type 0 → Type 0 → Type 0
 Either true A B = A
@@ -100,14 +102,14 @@ value_none γ = refl
 entry-low : (γ : Bits) (k : Entry) (x y own : Low) (l : List Expr) (u v w : Bool)
     → By k (value γ x.poly ≡ u) (value γ y.poly ≡ v) (value γ own.poly ≡ w)
     → value γ (low_of k x y own l).poly ≡ bit_of k u v w
-entry-low γ adds x y own l u v w h = value-sum γ x.poly y.poly ∙ rw (h.0, h.1)
-entry-low γ multiplies x y own l u v w h = value-product γ x.poly y.poly ∙ rw (h.0, h.1)
-entry-low γ joins x y own l u v w h =
+entry-low γ (Both Sum) x y own l u v w h = value-sum γ x.poly y.poly ∙ rw (h.0, h.1)
+entry-low γ (Both Product) x y own l u v w h = value-product γ x.poly y.poly ∙ rw (h.0, h.1)
+entry-low γ (Both Or) x y own l u v w h =
     value-sum γ (sum x.poly y.poly) (product x.poly y.poly)
     ∙ rw (value-sum γ x.poly y.poly, value-product γ x.poly y.poly, h.0, h.1) (or-low u v)
-entry-low γ keeps x y own l u v w h = h
-entry-low γ clears x y own l u v w h = value_none γ
-entry-low γ atom x y own l u v w h = h
+entry-low γ Keeps x y own l u v w h = h
+entry-low γ Clears x y own l u v w h = value_none γ
+entry-low γ Atom x y own l u v w h = h
 
 -- A part's polynomial at bits that fit a choice is its low bit for that choice.
 pub poly-low : (γ : Bits) (l : List Expr) (α : Expr → Bool) (φ : ByPath Bool) (e : Expr) → Fits γ l α φ e
@@ -138,8 +140,8 @@ poly-low γ l α φ (binary o a b) h =
 poly-low γ l α φ (ternary c a b) h = atom-low γ l α φ (ternary c a b) h
 
 -- Bits by number keep what the choice says of the atoms numbered so far.
-abbrev Keeps : Bits → List Expr → (Expr → Bool) → Type 0
-Keeps γ l α = (i : ℕ) → i < length l → (d : Expr) → has_own_value (get_or l i d) ≡ false → γ i ≡ α (get_or l i d)
+abbrev Holds : Bits → List Expr → (Expr → Bool) → Type 0
+Holds γ l α = (i : ℕ) → i < length l → (d : Expr) → has_own_value (get_or l i d) ≡ false → γ i ≡ α (get_or l i d)
 
 -- bits with another bit at one number
 abbrev put : ℕ → Bool → Bits → Bits
@@ -150,12 +152,12 @@ pick true x y = x
 pick false x y = y
 
 abbrev fill_by : Entry → Bits → Bits → Bits → Bits → Bits
-fill_by adds x y own γ = y
-fill_by multiplies x y own γ = y
-fill_by joins x y own γ = y
-fill_by keeps x y own γ = x
-fill_by clears x y own γ = γ
-fill_by atom x y own γ = own
+fill_by (Both Sum) x y own γ = y
+fill_by (Both Product) x y own γ = y
+fill_by (Both Or) x y own γ = y
+fill_by Keeps x y own γ = x
+fill_by Clears x y own γ = γ
+fill_by Atom x y own γ = own
 
 -- bits for the atoms of a part, put onto those for the atoms before it
 unfoldable fill : List Expr → (Expr → Bool) → ByPath Bool → Expr → Bits → Bits
@@ -174,7 +176,7 @@ fill l α φ (ternary c a b) γ = put (number_in l (ternary c a b)) (atom_bit α
 -- what filling leaves
 record Filled (γ : Bits) (l : List Expr) (α : Expr → Bool) (l' : List Expr) (γ' : Bits) (Fit : Type 0) : Type 0 where
   fits : Fit
-  keeps' : Keeps γ' l' α
+  keeps' : Holds γ' l' α
   same : (i : ℕ) → i < length l → γ' i ≡ γ i
 
 longer : {l F : List Expr} → Extends l F → {i : ℕ} → i < length l → i < length F
@@ -223,12 +225,12 @@ fits-same γ γ' l α φ (binary o a b) same h =
         → (((i : ℕ) → i < length L.atoms → γ' i ≡ γ i) → Fits γ l α (under 0 φ) a → Fits γ' l α (under 0 φ) a)
         → (((i : ℕ) → i < length R.atoms → γ' i ≡ γ i) → Fits γ L.atoms α (under 1 φ) b → Fits γ' L.atoms α (under 1 φ) b)
         → By k (Fits γ' l α (under 0 φ) a) (Fits γ' L.atoms α (under 1 φ) b) (FitsAtom γ' l α φ (binary o a b))
-    go adds same h p q = (p (left same) h.0, q same h.1)
-    go multiplies same h p q = (p (left same) h.0, q same h.1)
-    go joins same h p q = (p (left same) h.0, q same h.1)
-    go keeps same h p q = p same h
-    go clears same h p q = tt
-    go atom same h p q = same-atom γ γ' l α φ (binary o a b) same h
+    go (Both Sum) same h p q = (p (left same) h.0, q same h.1)
+    go (Both Product) same h p q = (p (left same) h.0, q same h.1)
+    go (Both Or) same h p q = (p (left same) h.0, q same h.1)
+    go Keeps same h p q = p same h
+    go Clears same h p q = tt
+    go Atom same h p q = same-atom γ γ' l α φ (binary o a b) same h
 fits-same γ γ' l α φ (ternary c a b) same h = same-atom γ γ' l α φ (ternary c a b) same h
 
 put-here : (n : ℕ) (b : Bool) (γ : Bits) → put n b γ n ≡ b
@@ -238,7 +240,7 @@ put-else : (n i : ℕ) (b : Bool) (γ : Bits) → (i ≡ n → ⊥) → put n b 
 put-else n i b γ h = rw (ne_eqb i n h)
 
 -- an atom's bit is put in: an atom that is there already has it
-filled-atom : (γ : Bits) (l : List Expr) (α : Expr → Bool) (φ : ByPath Bool) (e : Expr) → Keeps γ l α
+filled-atom : (γ : Bits) (l : List Expr) (α : Expr → Bool) (φ : ByPath Bool) (e : Expr) → Holds γ l α
     → Filled γ l α (noted l e) (put (number_in l e) (atom_bit α φ e) γ) (FitsAtom (put (number_in l e) (atom_bit α φ e) γ) l α φ e)
 filled-atom γ l α φ e keep = go (noting l e)
   where
@@ -263,7 +265,7 @@ filled-atom γ l α φ e keep = go (noting l e)
     go (known h is) = record { fits = put-here n b γ; keeps' = rw is (λ i h d plain. same i h ∙ keep i h d plain); same = same }
     go (new h is) = record { fits = put-here n b γ; keeps' = rw is later; same = same }
       where
-        later : Keeps (put n b γ) (l ++ (e ∷ [])) α
+        later : Holds (put n b γ) (l ++ (e ∷ [])) α
         later i less d plain = at (dec_lt i (length l))
           where
             at : Dec (i < length l) → put n b γ i ≡ α (get_or (l ++ (e ∷ [])) i d)
@@ -276,7 +278,7 @@ filled-atom γ l α φ e keep = go (noting l e)
                 let bit : atom_bit α φ e ≡ α e = rw own in
                 ap (put n b γ) here ∙ put-here n b γ ∙ bit ∙ ap α (sym tree)
 
-filled : (γ : Bits) (l : List Expr) (α : Expr → Bool) (φ : ByPath Bool) (e : Expr) → Keeps γ l α
+filled : (γ : Bits) (l : List Expr) (α : Expr → Bool) (φ : ByPath Bool) (e : Expr) → Holds γ l α
     → Filled γ l α (parity l e).atoms (fill l α φ e γ) (Fits (fill l α φ e γ) l α φ e)
 unfolding fill parity Fits atom_low
 filled γ l α φ (variable n) keep = filled-atom γ l α φ (variable n) keep
@@ -328,22 +330,22 @@ filled γ l α φ (binary o a b) keep =
     go : (k : Entry) → Filled γ l α L.atoms G (Fits G l α (under 0 φ) a) → Filled G L.atoms α R.atoms H (Fits H L.atoms α (under 1 φ) b)
         → Filled γ l α (low_of k L R (atom_low l (binary o a b)) l).atoms (fill_by k G H own γ)
         (By k (Fits (fill_by k G H own γ) l α (under 0 φ) a) (Fits (fill_by k G H own γ) L.atoms α (under 1 φ) b) (FitsAtom (fill_by k G H own γ) l α φ (binary o a b)))
-    go adds p q = two p q
-    go multiplies p q = two p q
-    go joins p q = two p q
-    go keeps p q = p
-    go clears p q = record { fits = tt; keeps' = keep; same = λ i h. refl }
-    go atom p q = filled-atom γ l α φ (binary o a b) keep
+    go (Both Sum) p q = two p q
+    go (Both Product) p q = two p q
+    go (Both Or) p q = two p q
+    go Keeps p q = p
+    go Clears p q = record { fits = tt; keeps' = keep; same = λ i h. refl }
+    go Atom p q = filled-atom γ l α φ (binary o a b) keep
 filled γ l α φ (ternary c a b) keep = filled-atom γ l α φ (ternary c a b) keep
 
 -- bits by number that fit a choice at two sides, the second numbered after the first
-pub record Both (γ : Bits) (α : Expr → Bool) (φ : ByPath Bool) (a b : Expr) : Type 0 where
+pub record FitBoth (γ : Bits) (α : Expr → Bool) (φ : ByPath Bool) (a b : Expr) : Type 0 where
   pub left : Fits γ [] α (under 0 φ) a
   pub right : Fits γ (parity [] a).atoms α (under 1 φ) b
 
 pub record SomeBits (α : Expr → Bool) (φ : ByPath Bool) (a b : Expr) : Type 0 where
   pub bits : Bits
-  pub both : Both bits α φ a b
+  pub both : FitBoth bits α φ a b
 
 -- Every choice has bits by number that fit it.
 pub some_bits : (α : Expr → Bool) (φ : ByPath Bool) (a b : Expr) → SomeBits α φ a b
@@ -425,18 +427,18 @@ fits-own γ l F (binary o a b) x = go (entered o b) x (fits-own γ l F a) (fits-
         → By k (Fits γ l (λ t. γ (place F t)) (λ path. γ (numbers l a path)) a)
         (Fits γ L.atoms (λ t. γ (place F t)) (λ path. γ (numbers L.atoms b path)) b)
         (FitsAtom γ l (λ t. γ (place F t)) (λ path. γ (numbers l (binary o a b) path)) (binary o a b))
-    go adds x p q = (p (extends-trans (atoms-grow L.atoms b) x), q x)
-    go multiplies x p q = (p (extends-trans (atoms-grow L.atoms b) x), q x)
-    go joins x p q = (p (extends-trans (atoms-grow L.atoms b) x), q x)
-    go keeps x p q = p x
-    go clears x p q = tt
-    go atom x p q = atom-of γ l F (λ path. γ (numbers l (binary o a b) path)) (binary o a b) x refl
+    go (Both Sum) x p q = (p (extends-trans (atoms-grow L.atoms b) x), q x)
+    go (Both Product) x p q = (p (extends-trans (atoms-grow L.atoms b) x), q x)
+    go (Both Or) x p q = (p (extends-trans (atoms-grow L.atoms b) x), q x)
+    go Keeps x p q = p x
+    go Clears x p q = tt
+    go Atom x p q = atom-of γ l F (λ path. γ (numbers l (binary o a b) path)) (binary o a b) x refl
 fits-own γ l F (ternary c a b) x = atom-of γ l F (λ path. γ (length l)) (ternary c a b) x refl
 
 pub record SomeChoice (γ : Bits) (a b : Expr) : Type 0 where
   pub shared : Expr → Bool
   pub own : ByPath Bool
-  pub both : Both γ shared own a b
+  pub both : FitBoth γ shared own a b
 
 -- All bits by number fit some choice.
 pub some-choice : (γ : Bits) (a b : Expr) → SomeChoice γ a b

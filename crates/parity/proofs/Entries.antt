@@ -9,22 +9,24 @@ use borrow.Author.Tests.{ne_eqb, ltb-true, ltb-false, lt-ltb, le-ltb}
 use Rattle.laws.proofs.Booleans.{by_test}
 use Rattle.expr.specs.Tree.{Expr}
 use Rattle.expr.specs.Tree.Expr.{variable, constant, condition_true, condition_false, effect, load, cast, binary, ternary}
-use Rattle.parity.specs.Parity.{Entry, constant_of, on_remainder, on_shift, entered}
-use Rattle.parity.specs.Parity.Entry.{adds, multiplies, joins, keeps, clears, atom}
+use Rattle.parity.specs.Parity.{constant_of, on_remainder, on_shift, entered}
+use Rattle.parity.specs.declared.Entry.{Entry}
+use Rattle.parity.specs.declared.Entry.TheVariants.{Both, Keeps, Clears, Atom}
+use Rattle.parity.specs.declared.Pair.TheVariants.{Sum, Product, Or}
 use Rattle.parity.specs.LowBit.{bit, remainder_by, remainder, shifted_by, shifted, rule_of}
 use Rattle.parity.proofs.LowBits.{by_two}
 
 -- a part's low bit from its sides', by how it is entered
 abbrev pub bit_of : Entry → Bool → Bool → Bool → Bool
-bit_of adds x y own = xor x y
-bit_of multiplies x y own = x && y
-bit_of joins x y own = x || y
-bit_of keeps x y own = x
-bit_of clears x y own = false
-bit_of atom x y own = own
+bit_of (Both Sum) x y own = xor x y
+bit_of (Both Product) x y own = x && y
+bit_of (Both Or) x y own = x || y
+bit_of Keeps x y own = x
+bit_of Clears x y own = false
+bit_of Atom x y own = own
 
 -- no operator from 9 on is entered
-pub beyond : (o : ℕ) → 9 ≤ o → (b : Expr) → entered o b ≡ atom
+pub beyond : (o : ℕ) → 9 ≤ o → (b : Expr) → entered o b ≡ Atom
 unfolding entered
 beyond o h b =
     rw (ne_eqb o 0 (λ e. omega arith), ne_eqb o 1 (λ e. omega arith), ne_eqb o 7 (λ e. omega arith), ne_eqb o 2 (λ e. omega arith), ne_eqb o 5 (λ e. omega arith), ne_eqb o 6 (λ e. omega arith), ne_eqb o 4 (λ e. omega arith), ne_eqb o 8 (λ e. omega arith))
@@ -39,11 +41,11 @@ not-zero : (n : ℕ) → eqb (suc n) 0 ≡ false
 not-zero n = ne_eqb (suc n) 0 (λ e. omega arith)
 
 module _ (x y own : Bool) where
-  remainder_by_lem : (k : ℕ) → remainder_by x own k ≡ bit_of (cond (not (eqb k 0) && eqb (k % 2) 0) keeps atom) x y own
+  remainder_by_lem : (k : ℕ) → remainder_by x own k ≡ bit_of (cond (not (eqb k 0) && eqb (k % 2) 0) Keeps Atom) x y own
   remainder_by_lem zero = refl
   remainder_by_lem (suc n) = rw (not-zero n, even-after n) (go (bit n))
     where
-      go : (t : Bool) → cond t x own ≡ bit_of (cond t keeps atom) x y own
+      go : (t : Bool) → cond t x own ≡ bit_of (cond t Keeps Atom) x y own
       go true = refl
       go false = refl
 
@@ -58,7 +60,7 @@ module _ (x y own : Bool) where
   remainder-entry (binary o a b) = refl
   remainder-entry (ternary c a b) = refl
 
-  shifted-by : (k : ℕ) → shifted_by x own k ≡ bit_of (cond (eqb k 0) keeps (cond (ltb k 32) clears atom)) x y own
+  shifted-by : (k : ℕ) → shifted_by x own k ≡ bit_of (cond (eqb k 0) Keeps (cond (ltb k 32) Clears Atom)) x y own
   shifted-by zero = refl
   shifted-by (suc n) = by_test (ltb n 31)
       (λ t. let small : ltb (suc n) 32 ≡ true = lt-ltb (suc n) 32 (omega (arith, ltb-true n 31 t)) in rw (not-zero n, t, small))

@@ -4,7 +4,7 @@ use Prim.Native.Nat.{ℕ, zero, suc, ◌%◌, ◌^◌, ◌<◌, ◌≤◌}
 use mathlib.Core.Path.{◌≡◌, refl, sym, ap, ◌∙◌}
 use mathlib.Core.Bool.{Bool, true, false, cond, not, xor, ◌&&◌, ◌||◌}
 use mathlib.Core.List.{List, []}
-use mathlib.Core.Option.{Option, none, some}
+use Rattle.std.specs.Prelude.{Option, Some, None}
 use native.Mathlib.Omega.{arith}
 use native.Mathlib.Nat.{mod-eq_of_lt, pow-le-pow_right}
 use lib.Bits.{bit_and, bit_or, bit_xor}
@@ -15,8 +15,6 @@ use Rattle.expr.specs.Tree.Expr.{variable, constant, condition_true, condition_f
 use Rattle.expr.specs.Scan.{has_own_value}
 use Rattle.expr.specs.Types.{bits, type_of, promoted, together, constant_type}
 use Rattle.arith.specs.Numbers.{convert, count, sum, difference, product, remainder}
-use Rattle.value.specs.declared.Value.{Value}
-use Rattle.value.specs.declared.Value.TheVariants.{Of, NoValue}
 use Rattle.value.specs.Operators.{Typed, arithmetics, shifts, comparisons, operators, operate, taken}
 use Rattle.value.specs.Evaluation.{Values, Contents, Effects, ByPath, under, shared, ev}
 use Rattle.value.proofs.Laws.{ev-typed}
@@ -24,7 +22,9 @@ use Rattle.value.proofs.Independence.{without-own-value}
 use Rattle.arith.proofs.Laws.{convert-lt, count-is, cut-lt}
 use Rattle.parity.proofs.TypeLaws.{promoted-taken, together-taken, constant_wide}
 use Rattle.parity.specs.Parity.{constant_of, on_remainder, on_shift, entered}
-use Rattle.parity.specs.Parity.Entry.{keeps, clears, atom}
+use Rattle.parity.specs.declared.Entry.{Entry}
+use Rattle.parity.specs.declared.Entry.TheVariants.{Both, Keeps, Clears, Atom}
+use Rattle.parity.specs.declared.Pair.TheVariants.{Sum, Product, Or}
 use Rattle.parity.specs.LowBit.{bit, atom_bit, low_bit, low, Has, shared_bits, own_bits}
 use Rattle.parity.proofs.Entries.{bit_of, beyond, rule-entry}
 use Rattle.parity.proofs.LowBits.{width_low, convert-low, sum_low, difference_low, product-low, xor_low, and_low, or-low, remainder-low, shift_none, shift-some}
@@ -39,7 +39,7 @@ data View : ℕ → Type 0 where
   or : View 6
   exclusive : View 7
   left : View 8
-  other : {o : ℕ} → ((b : Expr) → entered o b ≡ atom) → View o
+  other : {o : ℕ} → ((b : Expr) → entered o b ≡ Atom) → View o
 
 view : (o : ℕ) → View o
 unfolding entered
@@ -55,7 +55,7 @@ view (suc (suc (suc (suc (suc (suc (suc (suc zero)))))))) = left
 view (suc (suc (suc (suc (suc (suc (suc (suc (suc o))))))))) = other (beyond (suc (suc (suc (suc (suc (suc (suc (suc (suc o))))))))) (omega arith))
 
 -- a binary value whose low bit comes from both sides
-record Sides (g : Bool → Bool → Bool) (u v w : Value) : Type 0 where
+record Sides (g : Bool → Bool → Bool) (u v w : Option ℕ) : Type 0 where
   is : low w ≡ g (low u) (low v)
   first : Has u
   second : Has v
@@ -71,17 +71,17 @@ common-low g op law s t x y hx hy =
 
 -- an operator that is such an operation
 record Operates (o : ℕ) (op : ℕ → ℕ → ℕ → ℕ) : Type 0 where
-  both : (s t x y : ℕ) → operate o s t (Of x) (Of y) ≡ Of (op (together s t) (convert s (together s t) x) (convert t (together s t) y))
-  left-none : (s t : ℕ) (v : Value) → operate o s t NoValue v ≡ NoValue
-  right-none : (s t x : ℕ) → operate o s t (Of x) NoValue ≡ NoValue
+  both : (s t x y : ℕ) → operate o s t (Some x) (Some y) ≡ Some (op (together s t) (convert s (together s t) x) (convert t (together s t) y))
+  left-none : (s t : ℕ) (v : Option ℕ) → operate o s t None v ≡ None
+  right-none : (s t x : ℕ) → operate o s t (Some x) None ≡ None
 
 sides : (g : Bool → Bool → Bool) (o : ℕ) (op : ℕ → ℕ → ℕ → ℕ) → Operates o op
     → ((t x y : ℕ) → x < 2 ^ bits t → y < 2 ^ bits t → bit (op t x y) ≡ g (bit x) (bit y))
-    → (s t : ℕ) (u v : Value) → Typed s u → Typed t v → Has (operate o s t u v) → Sides g u v (operate o s t u v)
-sides g o op is law s t (Of x) (Of y) p q h =
+    → (s t : ℕ) (u v : Option ℕ) → Typed s u → Typed t v → Has (operate o s t u v) → Sides g u v (operate o s t u v)
+sides g o op is law s t (Some x) (Some y) p q h =
     record { is = rw (is.both s t x y) (common-low g op law s t x y p q); first = tt; second = tt }
-sides g o op is law s t (Of x) NoValue p q h = absurd (rw (is.right-none s t x) at h)
-sides g o op is law s t NoValue v p q h = absurd (rw (is.left-none s t v) at h)
+sides g o op is law s t (Some x) None p q h = absurd (rw (is.right-none s t x) at h)
+sides g o op is law s t None v p q h = absurd (rw (is.left-none s t v) at h)
 
 operates-add : Operates 0 sum
 unfolding operate operators arithmetics shifts comparisons
@@ -108,14 +108,14 @@ unfolding operate operators arithmetics shifts comparisons
 operates-xor = record { both = λ s t x y. refl; left-none = λ s t v. refl; right-none = λ s t x. refl }
 
 -- a value whose low bit is that of its left side
-record Kept (u w : Value) : Type 0 where
+record Kept (u w : Option ℕ) : Type 0 where
   is : low w ≡ low u
   first : Has u
 
 -- the remainder by an even number
-rest-low : (s t : ℕ) (u : Value) (y : ℕ) → Typed s u → y < 2 ^ bits t → y % 2 ≡ 0 → Has (operate 4 s t u (Of y)) → Kept u (operate 4 s t u (Of y))
+rest-low : (s t : ℕ) (u : Option ℕ) (y : ℕ) → Typed s u → y < 2 ^ bits t → y % 2 ≡ 0 → Has (operate 4 s t u (Some y)) → Kept u (operate 4 s t u (Some y))
 unfolding operate operators arithmetics shifts comparisons
-rest-low s t (Of x) y p q even h = go (eqb (convert t k y) 0) h
+rest-low s t (Some x) y p q even h = go (eqb (convert t k y) 0) h
   where
     k : ℕ
     k = together s t
@@ -128,51 +128,51 @@ rest-low s t (Of x) y p q even h = go (eqb (convert t k y) 0) h
         remainder-low k (convert s k x) (convert t k y) (convert-lt s k x) (convert-lt t k y) (convert-low t k y n q ∙ even)
         ∙ convert-low s k x n p
 
-    go : (b : Bool) → Has (cond b NoValue (Of (remainder k (convert s k x) (convert t k y))))
-        → Kept (Of x) (cond b NoValue (Of (remainder k (convert s k x) (convert t k y))))
+    go : (b : Bool) → Has (cond b None (Some (remainder k (convert s k x) (convert t k y))))
+        → Kept (Some x) (cond b None (Some (remainder k (convert s k x) (convert t k y))))
     go true h = absurd h
     go false h = record { is = rw same; first = tt }
-rest-low s t NoValue y p q even h = absurd h
+rest-low s t None y p q even h = absurd h
 
 -- a shift to the left by a number below 32
 module _ (s t x y : ℕ) (p : x < 2 ^ bits s) (q : y < 2 ^ bits t) (low_count : y < 32) where
   counted : count (promoted s) t y ≡ y
   counted = sym (count-is (promoted s) t y q) ∙ mod-eq_of_lt (omega (arith, (promoted-taken s).wide))
 
-  shift-keeps : y ≡ 0 → low (operate 8 s t (Of x) (Of y)) ≡ bit x
+  shift-keeps : y ≡ 0 → low (operate 8 s t (Some x) (Some y)) ≡ bit x
   unfolding operate operators arithmetics shifts comparisons
   shift-keeps zeroth =
       rw (counted, zeroth, shift_none (promoted s) (convert s (promoted s) x), convert-low s (promoted s) x (promoted-taken s).number p)
 
-  shift-clears : 1 ≤ y → low (operate 8 s t (Of x) (Of y)) ≡ false
+  shift-clears : 1 ≤ y → low (operate 8 s t (Some x) (Some y)) ≡ false
   unfolding operate operators arithmetics shifts comparisons
   shift-clears more = rw (counted, shift-some (promoted s) (convert s (promoted s) x) y more)
 
-shift-none-value : (s t y : ℕ) → Has (operate 8 s t NoValue (Of y)) → ⊥
+shift-none-value : (s t y : ℕ) → Has (operate 8 s t None (Some y)) → ⊥
 unfolding operate operators arithmetics shifts comparisons
 shift-none-value s t y h = h
 
-record Shifted (u w : Value) (y : ℕ) : Type 0 where
+record Shifted (u w : Option ℕ) (y : ℕ) : Type 0 where
   first : Has u
   keeps' : y ≡ 0 → low w ≡ low u
   clears' : 1 ≤ y → low w ≡ false
 
-shift-low : (s t : ℕ) (u : Value) (y : ℕ) → Typed s u → y < 2 ^ bits t → y < 32 → Has (operate 8 s t u (Of y)) → Shifted u (operate 8 s t u (Of y)) y
-shift-low s t (Of x) y p q less h = record { first = tt; keeps' = shift-keeps s t x y p q less; clears' = shift-clears s t x y p q less }
-shift-low s t NoValue y p q less h = absurd (shift-none-value s t y h)
+shift-low : (s t : ℕ) (u : Option ℕ) (y : ℕ) → Typed s u → y < 2 ^ bits t → y < 32 → Has (operate 8 s t u (Some y)) → Shifted u (operate 8 s t u (Some y)) y
+shift-low s t (Some x) y p q less h = record { first = tt; keeps' = shift-keeps s t x y p q less; clears' = shift-clears s t x y p q less }
+shift-low s t None y p q less h = absurd (shift-none-value s t y h)
 
 -- a part that is a constant as written
-option-apart : (k : ℕ) → none ≡ some k → ⊥
+option-apart : (k : ℕ) → None ≡ Some k → ⊥
 option-apart k e = let z : ◌≡◌ {A = ℕ} 0 1 = cc in omega arith
 
-some-injective : {x y : ℕ} → some x ≡ some y → x ≡ y
+some-injective : {x y : ℕ} → Some x ≡ Some y → x ≡ y
 some-injective e = cc
 
 record Constant (b : Expr) (k : ℕ) : Type 0 where
   width : ℕ
   is : b ≡ constant width k
 
-constant-is : (b : Expr) (k : ℕ) → constant_of b ≡ some k → Constant b k
+constant-is : (b : Expr) (k : ℕ) → constant_of b ≡ Some k → Constant b k
 constant-is (variable n) k e = absurd (option-apart k e)
 constant-is (constant w x) k e = record { width = w; is = ap (constant w) (some-injective e) }
 constant-is condition_true k e = absurd (option-apart k e)
@@ -185,7 +185,7 @@ constant-is (ternary c a b) k e = absurd (option-apart k e)
 
 module _ (types : List ℕ) (ρ σ : Values) (m : Contents) where
   -- the value in one evaluation; effects differ from part to part
-  abbrev at : Effects → Expr → Value
+  abbrev at : Effects → Expr → Option ℕ
   at f e = ev types ρ σ (shared m) f e
 
   abbrev shared-bits : Expr → Bool
@@ -202,7 +202,7 @@ module _ (types : List ℕ) (ρ σ : Values) (m : Contents) where
       go false test = ap low (without-own-value types ρ σ (shared m) f (λ path. 0) e test)
 
   -- a constant's value
-  constant-value : (f : Effects) (w k : ℕ) → at f (constant w k) ≡ Of (k % 2 ^ bits (constant_type w))
+  constant-value : (f : Effects) (w k : ℕ) → at f (constant w k) ≡ Some (k % 2 ^ bits (constant_type w))
   unfolding ev
   constant-value f w k = refl
 
@@ -215,9 +215,9 @@ module _ (types : List ℕ) (ρ σ : Values) (m : Contents) where
   unfolding ev
   cast-low f t a test h = go (at (under 0 f) a) (ev-typed types ρ σ (shared m) (under 0 f) a) h
     where
-      go : (u : Value) → Typed (type_of types a) u → Has (taken (type_of types a) t u) → Kept u (taken (type_of types a) t u)
-      go (Of x) p h = record { is = rw (convert-low (type_of types a) t x test p); first = tt }
-      go NoValue p h = absurd h
+      go : (u : Option ℕ) → Typed (type_of types a) u → Has (taken (type_of types a) t u) → Kept u (taken (type_of types a) t u)
+      go (Some x) p h = record { is = rw (convert-low (type_of types a) t x test p); first = tt }
+      go None p h = absurd h
 
   -- an operator, from what the low bits of its sides are
   module _ (f : Effects) (a b : Expr) (x y z : Bool) (p : Has (at (under 0 f) a) → low (at (under 0 f) a) ≡ x)
@@ -228,10 +228,10 @@ module _ (types : List ℕ) (ρ σ : Values) (m : Contents) where
     abbrev t : ℕ
     t = type_of types b
 
-    abbrev u : Value
+    abbrev u : Option ℕ
     u = at (under 0 f) a
 
-    abbrev v : Value
+    abbrev v : Option ℕ
     v = at (under 1 f) b
 
     two : (g : Bool → Bool → Bool) (o : ℕ) (op : ℕ → ℕ → ℕ → ℕ) → Operates o op
@@ -242,44 +242,44 @@ module _ (types : List ℕ) (ρ σ : Values) (m : Contents) where
         d.is ∙ rw (p d.first, q d.second)
 
     -- a constant on the right
-    constant-side : (k : ℕ) → constant_of b ≡ some k → (8 ≤ bits t) × (v ≡ Of (k % 2 ^ bits t))
+    constant-side : (k : ℕ) → constant_of b ≡ Some k → (8 ≤ bits t) × (v ≡ Some (k % 2 ^ bits t))
     unfolding type_of ev
     constant-side k is =
         let c = constant-is b k is in
         (rw c.is (constant_wide c.width), rw c.is)
 
     on-rest : (c : Option ℕ) → constant_of b ≡ c → Has (operate 4 s t u v) → low (operate 4 s t u v) ≡ z → low (operate 4 s t u v) ≡ bit_of (on_remainder c) x y z
-    on-rest none is h own = own
-    on-rest (some k) is h own = go (eqb k 0) (eqb (k % 2) 0) refl
+    on-rest None is h own = own
+    on-rest (Some k) is h own = go (eqb k 0) (eqb (k % 2) 0) refl
       where
         r : ℕ
         r = k % 2 ^ bits t
 
-        go : (c d : Bool) → eqb (k % 2) 0 ≡ d → low (operate 4 s t u v) ≡ bit_of (cond (not c && d) keeps atom) x y z
+        go : (c d : Bool) → eqb (k % 2) 0 ≡ d → low (operate 4 s t u v) ≡ bit_of (cond (not c && d) Keeps Atom) x y z
         go true d test = own
         go false false test = own
         go false true test =
             let side = constant-side k is in
             let even : k % 2 ^ bits t % 2 ≡ 0 = width_low t k ∙ eqb-true (k % 2) 0 test in
-            let h' : Has (operate 4 s t u (Of (k % 2 ^ bits t))) = rw side.1 at h in
+            let h' : Has (operate 4 s t u (Some (k % 2 ^ bits t))) = rw side.1 at h in
             let kept = rest-low s t u (k % 2 ^ bits t) (ev-typed types ρ σ (shared m) (under 0 f) a) (cut-lt t k) even h' in
             rw side.1 (kept.is ∙ p kept.first)
 
     on-shift : (c : Option ℕ) → constant_of b ≡ c → Has (operate 8 s t u v) → low (operate 8 s t u v) ≡ z → low (operate 8 s t u v) ≡ bit_of (on_shift c) x y z
-    on-shift none is h own = own
-    on-shift (some k) is h own = go (eqb k 0) refl (ltb k 32) refl
+    on-shift None is h own = own
+    on-shift (Some k) is h own = go (eqb k 0) refl (ltb k 32) refl
       where
-        side : (8 ≤ bits t) × (v ≡ Of (k % 2 ^ bits t))
+        side : (8 ≤ bits t) × (v ≡ Some (k % 2 ^ bits t))
         side = constant-side k is
 
         shifted : k < 32 → Shifted u (operate 8 s t u v) k
         shifted less =
             let room : 2 ^ 8 ≤ 2 ^ bits t = pow-le-pow_right (omega arith) side.0 in
             let small : k % 2 ^ bits t ≡ k = mod-eq_of_lt (omega arith) in
-            let is' : v ≡ Of k = side.1 ∙ ap Of small in
+            let is' : v ≡ Some k = side.1 ∙ ap Some small in
             rw is' (shift-low s t u k (ev-typed types ρ σ (shared m) (under 0 f) a) (omega arith) less (rw is' at h))
 
-        go : (c : Bool) → eqb k 0 ≡ c → (d : Bool) → ltb k 32 ≡ d → low (operate 8 s t u v) ≡ bit_of (cond c keeps (cond d clears atom)) x y z
+        go : (c : Bool) → eqb k 0 ≡ c → (d : Bool) → ltb k 32 ≡ d → low (operate 8 s t u v) ≡ bit_of (cond c Keeps (cond d Clears Atom)) x y z
         go true test d below = let none' = eqb-true k 0 test in let d = shifted (omega arith) in d.keeps' none' ∙ p d.first
         go false test true below = let some' = eqb-false k 0 test in (shifted (ltb-true k 32 below)).clears' (omega (arith, some'))
         go false test false below = own

@@ -13,3 +13,4 @@ pub mod Evaluation
 pub mod Steps
 pub mod Rooms
 pub mod Calls
+pub mod Limits

@@ -15,8 +15,10 @@ use Rattle.search.specs.Ascending.{Ascending}
 use Rattle.search.proofs.Laws.{ascending-none}
 use Rattle.poly.specs.Terms.{sum, product, toggle}
 use Rattle.poly.proofs.Values.{ascending-toggle, ascending-sum, ascending-product}
-use Rattle.parity.specs.Parity.{Entry, Low, entered, number_in, noted, few, few_pairs, joined, atom_low, low_of, parity}
-use Rattle.parity.specs.Parity.Entry.{adds, multiplies, joins, keeps, clears, atom}
+use Rattle.parity.specs.Parity.{Low, entered, number_in, noted, few, few_pairs, joined, atom_low, low_of, parity}
+use Rattle.parity.specs.declared.Entry.{Entry}
+use Rattle.parity.specs.declared.Entry.TheVariants.{Both, Keeps, Clears, Atom}
+use Rattle.parity.specs.declared.Pair.TheVariants.{Sum, Product, Or}
 use Rattle.parity.proofs.Atoms.{Noting, known, new, noting}
 
 -- one term is in order
@@ -26,12 +28,12 @@ one-term m = ascending-toggle m [] ascending-none
 
 entry-ascending : (k : Entry) (x y own : Low) (l : List Expr) → Ascending x.poly → Ascending own.poly
     → Ascending (low_of k x y own l).poly
-entry-ascending adds x y own l p q = ascending-sum x.poly y.poly p
-entry-ascending multiplies x y own l p q = ascending-product x.poly y.poly
-entry-ascending joins x y own l p q = ascending-sum (sum x.poly y.poly) (product x.poly y.poly) (ascending-sum x.poly y.poly p)
-entry-ascending keeps x y own l p q = p
-entry-ascending clears x y own l p q = ascending-none
-entry-ascending atom x y own l p q = q
+entry-ascending (Both Sum) x y own l p q = ascending-sum x.poly y.poly p
+entry-ascending (Both Product) x y own l p q = ascending-product x.poly y.poly
+entry-ascending (Both Or) x y own l p q = ascending-sum (sum x.poly y.poly) (product x.poly y.poly) (ascending-sum x.poly y.poly p)
+entry-ascending Keeps x y own l p q = p
+entry-ascending Clears x y own l p q = ascending-none
+entry-ascending Atom x y own l p q = q
 
 -- every polynomial of a part is in order
 pub parity-ascending : (l : List Expr) (e : Expr) → Ascending (parity l e).poly
@@ -62,20 +64,20 @@ last false b h = let z : ◌≡◌ {A = ℕ} 0 1 = cc in absurd (omega arith)
 
 entry-few : (k : Entry) (x y own : Low) (l : List Expr) → (x.fits ≡ true → length x.poly ≤ 256) → length own.poly ≤ 256
     → (low_of k x y own l).fits ≡ true → length (low_of k x y own l).poly ≤ 256
-entry-few adds x y own l p q h =
+entry-few (Both Sum) x y own l p q h =
     leb-true (length (sum x.poly y.poly)) 256 (last y.fits (few (sum x.poly y.poly)) (last x.fits (y.fits && few (sum x.poly y.poly)) h))
-entry-few multiplies x y own l p q h =
+entry-few (Both Product) x y own l p q h =
     let f = few (product x.poly y.poly) in
     let g = few_pairs x.poly y.poly in
     leb-true (length (product x.poly y.poly)) 256 (last g f (last y.fits (g && f) (last x.fits (y.fits && (g && f)) h)))
-entry-few joins x y own l p q h =
+entry-few (Both Or) x y own l p q h =
     let e = few (joined x.poly y.poly) in
     let f = few (product x.poly y.poly) in
     let g = few_pairs x.poly y.poly in
     leb-true (length (joined x.poly y.poly)) 256 (last f e (last g (f && e) (last y.fits (g && (f && e)) (last x.fits (y.fits && (g && (f && e))) h))))
-entry-few keeps x y own l p q h = p h
-entry-few clears x y own l p q h = omega arith
-entry-few atom x y own l p q h = q
+entry-few Keeps x y own l p q h = p h
+entry-few Clears x y own l p q h = omega arith
+entry-few Atom x y own l p q h = q
 
 -- Within the limits a part has at most 256 terms.
 pub parity-few : (l : List Expr) (e : Expr) → (parity l e).fits ≡ true → length (parity l e).poly ≤ 256
@@ -135,10 +137,10 @@ atoms-few l (binary o a b) = go (entered o b) (atoms-few l a) (atoms-few (parity
     go : (k : Entry) → 4 * length (parity l a).atoms ≤ 4 * length l + length (flat a) + 2
         → 4 * length (parity (parity l a).atoms b).atoms ≤ 4 * length (parity l a).atoms + length (flat b) + 2
         → 4 * length (low_of k (parity l a) (parity (parity l a).atoms b) (atom_low l (binary o a b)) l).atoms ≤ 4 * length l + length (flat (binary o a b)) + 2
-    go adds p q = omega (arith, flat-binary o a b)
-    go multiplies p q = omega (arith, flat-binary o a b)
-    go joins p q = omega (arith, flat-binary o a b)
-    go keeps p q = omega (arith, flat-binary o a b)
-    go clears p q = omega arith
-    go atom p q = noted-few l (binary o a b)
+    go (Both Sum) p q = omega (arith, flat-binary o a b)
+    go (Both Product) p q = omega (arith, flat-binary o a b)
+    go (Both Or) p q = omega (arith, flat-binary o a b)
+    go Keeps p q = omega (arith, flat-binary o a b)
+    go Clears p q = omega arith
+    go Atom p q = noted-few l (binary o a b)
 atoms-few l (ternary c a b) = noted-few l (ternary c a b)

@@ -14,8 +14,10 @@ use Rattle.expr.specs.Tree.Expr.{variable, constant, condition_true, condition_f
 use Rattle.expr.proofs.Laws.{flat-two}
 use Rattle.poly.specs.Terms.{sum, product, sum_times, sum_product}
 use Rattle.poly.proofs.Running.{length-times}
-use Rattle.parity.specs.Parity.{Entry, Low, entered, atom_low, low_of, parity}
-use Rattle.parity.specs.Parity.Entry.{adds, multiplies, joins, keeps, clears, atom}
+use Rattle.parity.specs.Parity.{Low, entered, atom_low, low_of, parity}
+use Rattle.parity.specs.declared.Entry.{Entry}
+use Rattle.parity.specs.declared.Entry.TheVariants.{Both, Keeps, Clears, Atom}
+use Rattle.parity.specs.declared.Pair.TheVariants.{Sum, Product, Or}
 use Rattle.parity.specs.Lent.{ProductsRoom}
 use Rattle.parity.proofs.Ordered.{flat-binary, flat-cast}
 use Rattle.parity.proofs.Steps.{length-sum}
@@ -47,13 +49,13 @@ grown {a} {b} {p} {q} h k = omega (arith, mul-le-mul h k, suc-mul a (suc b), mul
 
 entry-terms : (k : Entry) (x y own : Low) (l : List Expr) {p q w : ℕ} → length x.poly < p → length y.poly < q → length own.poly < w
     → p * q ≤ w → p ≤ w → length (low_of k x y own l).poly < w
-entry-terms adds x y own l h k o both left = omega (arith, length-sum x.poly y.poly, grown h k)
-entry-terms multiplies x y own l h k o both left = omega (arith, length-products [] x.poly y.poly, grown h k)
-entry-terms joins x y own l h k o both left =
+entry-terms (Both Sum) x y own l h k o both left = omega (arith, length-sum x.poly y.poly, grown h k)
+entry-terms (Both Product) x y own l h k o both left = omega (arith, length-products [] x.poly y.poly, grown h k)
+entry-terms (Both Or) x y own l h k o both left =
     omega (arith, length-sum (sum x.poly y.poly) (product x.poly y.poly), length-sum x.poly y.poly, length-products [] x.poly y.poly, grown h k)
-entry-terms keeps x y own l h k o both left = omega arith
-entry-terms clears x y own l h k o both left = omega arith
-entry-terms atom x y own l h k o both left = o
+entry-terms Keeps x y own l h k o both left = omega arith
+entry-terms Clears x y own l h k o both left = omega arith
+entry-terms Atom x y own l h k o both left = o
 
 -- a part has fewer terms than that
 pub parity-terms : (l : List Expr) (e : Expr) → length (parity l e).poly < leaves (length (flat e))

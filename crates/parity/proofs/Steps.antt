@@ -4,60 +4,61 @@ use Prim.Native.Nat.{ℕ, zero, suc, ◌+◌, ◌*◌, ◌-◌, ◌/◌, ◌%◌
 use mathlib.Core.Path.{◌≡◌, refl, sym, ap, ap₂, ◌∙◌}
 use mathlib.Core.Bool.{Bool, true, false, cond, ◌&&◌}
 use mathlib.Core.List.{List, [], ◌∷◌, ◌++◌, append_assoc}
-use mathlib.Core.Option.{none, some}
+use Rattle.std.specs.Prelude.{Some, None, Result, Ok, Err}
 use native.Mathlib.Nat.{mod-eq_of_lt, pow-le-pow_right, lt_of_le_of_lt}
 use native.Mathlib.Numerals.{add-one}
 use native.Mathlib.Omega.{arith}
 use lib.Dec.{leb, ltb, lit<}
 use lib.ListN.{length, get_or, take, drop, set, length-append, length-take, length-drop, get_or-append}
+use borrow.Rule.Slice.PartMut.{put_mid}
+use Rattle.std.proofs.lemmas.Slice.{put_mid-paste}
 use lib.Seq.{length-take-le, take_at, drop_at, take-length, drop-cons, drop-length, get_or_at, take-suc-set, paste}
 use borrow.Author.Tests.{ne_eqb, lt-leb, le-leb, leb-true, ltb-true, ltb-false, lt-ltb, le-ltb}
 use Rattle.search.specs.Ascending.{Ascending}
-use Rattle.expr.specs.Tree.{Expr, Wf, tree_of, tag_of}
+use Rattle.expr.specs.Tree.{Expr, Wf, tree_of, value_of}
 use Rattle.expr.specs.Tree.Expr.{variable, constant, condition_true, condition_false, effect, load, cast, binary, ternary}
 use Rattle.expr.specs.Scan.{same_tree}
-use Rattle.expr.proofs.Laws.{kind-of, wf-two}
-use Rattle.expr.proofs.Parts.{root}
-use Rattle.expr.proofs.Children.{root-kind}
+use Rattle.expr.proofs.Laws.{wf-two}
+use Rattle.expr.specs.Root.{root_of}
+use Rattle.expr.specs.declared.Root.TheVariants.{Constant}
+use Rattle.expr.proofs.Views.{constant-root}
 use Rattle.poly.specs.Terms.{Written, sum, product, sum_product}
-use Rattle.poly.proofs.Running.{length-times, times-one, written-ordered}
+use Rattle.poly.proofs.Running.{length-times, times_one, written-ordered}
 use Rattle.poly.proofs.Values.{ascending-sum}
 use Rattle.parity.specs.Parity.{constant_of, entered, few, few_pairs, joined, constant_poly, place, number_in, noted, atom_low}
-use Rattle.parity.specs.Parity.Entry.{adds, atom}
+use Rattle.parity.specs.declared.Entry.{Entry}
+use Rattle.parity.specs.declared.Entry.TheVariants.{Both, Keeps, Clears, Atom}
+use Rattle.parity.specs.declared.Pair.TheVariants.{Sum, Product, Or}
 use Rattle.parity.specs.declared.Size.{Size}
-use Rattle.parity.specs.declared.Size.TheVariants.{Of, TooMany}
-use Rattle.parity.specs.Lent.{part_at, atoms_at, Part, Parts, Lent, Sides, Made, Given}
+use Rattle.parity.specs.declared.TooMany.{TooMany}
+use Rattle.parity.specs.Lent.{too_many, part_at, atoms_at, Part, Parts, Lent, Sides, Made, Given}
 use Rattle.parity.proofs.Atoms.{number-upto}
 use Rattle.laws.proofs.Booleans.{and_both}
 
--- a tree whose root is no constant
-not-constant : (e : Expr) → (tag_of e % 16 ≡ 1 → ⊥) → none ≡ constant_of e
-unfolding tag_of
-not-constant (variable n) h = refl
-not-constant (constant w x) h = absurd (h (kind-of 1 w (omega arith)))
-not-constant condition_true h = refl
-not-constant condition_false h = refl
-not-constant (effect t) h = refl
-not-constant (load t a) h = refl
-not-constant (cast t a) h = refl
-not-constant (binary o a b) h = refl
-not-constant (ternary c a b) h = refl
+-- a constant's value, by its root
+pub constant_told : (e : Expr) → root_of e ≡ Constant → Some (value_of e) ≡ constant_of e
+constant_told e h = sym (ap constant_of (constant-root e h))
 
-module _ (ws : List ℕ) (n : ℕ) (w : Wf ws) (e : n + 2 ≡ length ws) where
-  pub constant-is : get_or ws n 0 % 16 ≡ 1 → some (get_or ws (n + 1) 0) ≡ constant_of (tree_of ws)
-  constant-is h = sym (ap constant_of (root-kind ws n w e 1 h))
-
-  pub constant-other : (get_or ws n 0 % 16 ≡ 1 → ⊥) → none ≡ constant_of (tree_of ws)
-  constant-other h = not-constant (tree_of ws) (λ k. h (ap (λ (t : ℕ). t % 16) (root ws n w e).tag ∙ k))
+pub constant_other : (e : Expr) → (root_of e ≡ Constant → ⊥) → None ≡ constant_of e
+unfolding root_of
+constant_other (variable n) h = refl
+constant_other (constant w x) h = absurd (h refl)
+constant_other condition_true h = refl
+constant_other condition_false h = refl
+constant_other (effect t) h = refl
+constant_other (load t a) h = refl
+constant_other (cast t a) h = refl
+constant_other (binary o a b) h = refl
+constant_other (ternary c a b) h = refl
 
 -- operators that are entered by their number, and those that are not
-pub entered-low : (o : ℕ) (b : Expr) → o < 2 → adds ≡ entered o b
+pub entered-low : (o : ℕ) (b : Expr) → o < 2 → (Both Sum) ≡ entered o b
 unfolding entered
 entered-low zero b h = refl
 entered-low (suc zero) b h = refl
 entered-low (suc (suc o)) b h = absurd (omega arith)
 
-pub entered-not : (o : ℕ) (b : Expr) → 2 ≤ o → (o ≡ 7 → ⊥) → (o ≡ 2 → ⊥) → (o ≡ 5 → ⊥) → (o ≡ 6 → ⊥) → (o ≡ 4 → ⊥) → (o ≡ 8 → ⊥) → atom ≡ entered o b
+pub entered-not : (o : ℕ) (b : Expr) → 2 ≤ o → (o ≡ 7 → ⊥) → (o ≡ 2 → ⊥) → (o ≡ 5 → ⊥) → (o ≡ 6 → ⊥) → (o ≡ 4 → ⊥) → (o ≡ 8 → ⊥) → Atom ≡ entered o b
 unfolding entered
 entered-not o b h h7 h2 h5 h6 h4 h8 =
     rw (ne_eqb o 0 (λ e. omega arith), ne_eqb o 1 (λ e. omega arith), ne_eqb o 7 h7, ne_eqb o 2 h2, ne_eqb o 5 h5, ne_eqb o 6 h6, ne_eqb o 4 h4, ne_eqb o 8 h8)
@@ -103,11 +104,10 @@ pub front : (terms : List ℕ) (t : ℕ) → 1 ≤ length terms → take 1 (set 
 front [] t h = absurd (omega arith)
 front (x ∷ terms) t h = refl
 
-pub made-odd : (terms : List ℕ) (x count : ℕ) → 1 ≤ length terms → x % 2 ≡ 1 → Made true (constant_poly x) count (set terms 0 0) (Of 1 count)
-made-odd terms x count h odd = record { size = rw odd; stands = λ _. rw odd (front terms 0 h) }
-
-pub made-even : (terms : List ℕ) (x count : ℕ) → (x % 2 ≡ 1 → ⊥) → Made true (constant_poly x) count terms (Of 0 count)
-made-even terms x count even = record { size = rw (ne_eqb (x % 2) 1 even); stands = λ _. rw (ne_eqb (x % 2) 1 even) }
+-- the polynomial of a constant
+pub constant-made : {x y n count : ℕ} {terms : List ℕ} → x ≡ y → n ≡ length (constant_poly x) → take n terms ≡ constant_poly x
+    → Made true (constant_poly y) count terms (Ok (record { terms = n; atoms = count }))
+constant-made same size stands = record { size = rw (size, same) refl; stands = λ _. rw (← same, ← size) stands }
 
 -- what is told of a polynomial within the limits, and past them
 pub record Told (fits : Bool) (poly : List ℕ) (atoms : ℕ) (terms : List ℕ) (n k : ℕ) : Type 0 where
@@ -116,24 +116,26 @@ pub record Told (fits : Bool) (poly : List ℕ) (atoms : ℕ) (terms : List ℕ)
   pub all : k ≡ atoms
   pub stands : take n terms ≡ poly
 
-pub told : {fits : Bool} {poly terms : List ℕ} {atoms n k : ℕ} {r : Size} → Made fits poly atoms terms r → r ≡ Of n k → Told fits poly atoms terms n k
-told {fits} {poly} {terms} {atoms} {n} {k} {r} m e = go fits refl (sym m.size ∙ e)
+pub told : {fits : Bool} {poly terms : List ℕ} {atoms : ℕ} {r : Result Size TooMany} {s : Size} → Made fits poly atoms terms r → r ≡ Ok s
+    → Told fits poly atoms terms s.terms s.atoms
+told {fits} {poly} {terms} {atoms} {r} {s} m e = go fits refl (sym m.size ∙ e)
   where
-    go : (b : Bool) → fits ≡ b → cond b (Of (length poly) atoms) TooMany ≡ Of n k → Told fits poly atoms terms n k
+    go : (b : Bool) → fits ≡ b → cond {A = Result Size TooMany} b (Ok (record { terms = length poly; atoms = atoms })) (Err too_many) ≡ Ok s → Told fits poly atoms terms s.terms s.atoms
     go true f h =
-        let size : n ≡ length poly = cc in
-        record { fit = f; count = size; all = cc; stands = rw size (m.stands f) }
+        let same : record { terms = length poly; atoms = atoms } ≡ s = cc in
+        let size : s.terms ≡ length poly = ap (λ (x : Size). x.terms) (sym same) in
+        record { fit = f; count = size; all = ap (λ (x : Size). x.atoms) (sym same); stands = rw size (m.stands f) }
     go false f h = let z : ◌≡◌ {A = ℕ} 0 1 = cc in absurd (omega arith)
 
-pub passed : {fits : Bool} {poly terms : List ℕ} {atoms : ℕ} {r : Size} → Made fits poly atoms terms r → r ≡ TooMany → fits ≡ false
-passed {fits} {poly} {terms} {atoms} {r} m e = go fits refl (sym m.size ∙ e)
+pub passed : {fits : Bool} {poly terms : List ℕ} {atoms : ℕ} {r : Result Size TooMany} {x : TooMany} → Made fits poly atoms terms r → r ≡ Err x → fits ≡ false
+passed {fits} {poly} {terms} {atoms} {r} {x} m e = go fits refl (sym m.size ∙ e)
   where
-    go : (b : Bool) → fits ≡ b → cond b (Of (length poly) atoms) TooMany ≡ TooMany → fits ≡ false
+    go : (b : Bool) → fits ≡ b → cond {A = Result Size TooMany} b (Ok (record { terms = length poly; atoms = atoms })) (Err too_many) ≡ Err x → fits ≡ false
     go true f h = let z : ◌≡◌ {A = ℕ} 0 1 = cc in absurd (omega arith)
     go false f h = f
 
-pub made_none : {fits : Bool} (poly : List ℕ) (atoms : ℕ) (terms : List ℕ) → fits ≡ false → Made fits poly atoms terms TooMany
-made_none {fits} poly atoms terms h = record { size = rw h; stands = λ k. let z : ◌≡◌ {A = Bool} false true = sym h ∙ k in let y : ◌≡◌ {A = ℕ} 0 1 = cc in absurd (omega arith) }
+pub made_none : {fits : Bool} {x : TooMany} (poly : List ℕ) (atoms : ℕ) (terms : List ℕ) → fits ≡ false → Made fits poly atoms terms (Err x)
+made_none {fits} poly atoms terms h = record { size = rw h refl; stands = λ k. let z : ◌≡◌ {A = Bool} false true = sym h ∙ k in let y : ◌≡◌ {A = ℕ} 0 1 = cc in absurd (omega arith) }
 
 -- a list copied into another stands there, and what is before it is as it was
 pub copied-part : (l q : List ℕ) (at k : ℕ) → length q ≡ k → at + k ≤ length l → take k (drop at (paste l at q (length q))) ≡ q
@@ -157,11 +159,11 @@ length-behind terms n k h = length-take-le k (drop n terms) (omega (arith, lengt
 
 -- a sum has no more terms than its two parts
 pub length-sum : (p q : List ℕ) → length (sum p q) ≤ length p + length q
-length-sum p q = rw (sym (times-one p q)) (length-times p 0 q)
+length-sum p q = rw (sym (times_one p q)) (length-times p 0 q)
 
 -- a polynomial at the start, its count held to the limit
-pub limited-made : {poly old new : List ℕ} {count room atoms : ℕ} {r : Size} → Written poly count room old new
-    → r ≡ cond (leb count 256) (Of count atoms) TooMany → Made (few poly) poly atoms new r
+pub limited-made : {poly old new : List ℕ} {count room atoms : ℕ} {r : Result Size TooMany} → Written poly count room old new
+    → r ≡ cond (leb count 256) (Ok (record { terms = count; atoms = atoms })) (Err too_many) → Made (few poly) poly atoms new r
 limited-made w e = record { size = rw w.count at e; stands = λ _. rw w.count at w.terms }
 
 pub told-within : {fits : Bool} {poly terms : List ℕ} {atoms n k : ℕ} → Told fits poly atoms terms n k → n ≤ length terms
@@ -183,10 +185,10 @@ module _ (terms : List ℕ) (n k : ℕ) (scratch : List ℕ) (s : Sides terms n 
   right-count = length-behind terms n k (omega (arith, s.left, s.right, s.space))
 
   -- the sum
-  pub sum-made : (copy new : List ℕ) (count room atoms : ℕ) (r : Size)
+  pub sum-made : (copy new : List ℕ) (count room atoms : ℕ) (r : Result Size TooMany)
       → copy ≡ paste scratch 0 (take (n + k - n) (drop n terms)) (length (take (n + k - n) (drop n terms)))
       → Written (sum (take n terms) (take k copy)) count room terms new
-      → r ≡ cond (leb count 256) (Of count atoms) TooMany
+      → r ≡ cond (leb count 256) (Ok (record { terms = count; atoms = atoms })) (Err too_many)
       → Made (few (sum (take n terms) (take k (drop n terms)))) (sum (take n terms) (take k (drop n terms))) atoms new r
   sum-made copy new count room atoms r e w l =
       let right : take k copy ≡ take k (drop n terms) =
@@ -201,9 +203,9 @@ module _ (terms : List ℕ) (n k : ℕ) (scratch : List ℕ) (s : Sides terms n 
   pub product-room : n * k ≤ 4096 → 0 + length (take n terms) * length (take (n + k - n) (drop n terms)) ≤ length scratch
   product-room h = rw (behind terms n k (n + k) refl, left-count, right-count) (omega (arith, s.products h))
 
-  pub product-made : (new : List ℕ) (count room atoms : ℕ) (r : Size) → n * k ≤ 4096
+  pub product-made : (new : List ℕ) (count room atoms : ℕ) (r : Result Size TooMany) → n * k ≤ 4096
       → Written (sum_product (take 0 scratch) (take n terms) (take (n + k - n) (drop n terms))) count room scratch new
-      → r ≡ cond (leb count 256) (Of count atoms) TooMany
+      → r ≡ cond (leb count 256) (Ok (record { terms = count; atoms = atoms })) (Err too_many)
       → Made (few_pairs (take n terms) (take k (drop n terms)) && few (product (take n terms) (take k (drop n terms)))) (product (take n terms) (take k (drop n terms))) atoms new r
   product-made new count room atoms r h w l =
       let pairs : few_pairs (take n terms) (take k (drop n terms)) ≡ true = rw (left-count, right-count) (le-leb (n * k) 4096 h) in
@@ -217,7 +219,7 @@ sides-few terms n k t =
 
 -- a polynomial moved from the start of one list to that of another
 pub moved_made : {fits : Bool} {poly from : List ℕ} {atoms n k : ℕ} (terms : List ℕ) → Told fits poly atoms from n k → n ≤ length terms
-    → Made fits poly atoms (paste terms 0 (take n from) (length (take n from))) (Of n k)
+    → Made fits poly atoms (paste terms 0 (take n from) (length (take n from))) (Ok (record { terms = n; atoms = k }))
 moved_made {fits} {poly} {from} {atoms} {n} {k} terms t h = record {
   size = rw (t.fit, t.count, t.all);
   stands = λ _.
@@ -235,13 +237,23 @@ no_join false b c h = refl
 pub join-past : (p q : List ℕ) → (few_pairs p q && few (product p q)) ≡ false → (few_pairs p q && (few (product p q) && few (joined p q))) ≡ false
 join-past p q h = no_join (few_pairs p q) (few (product p q)) (few (joined p q)) h
 
-module _ (terms : List ℕ) (n k : ℕ) (scratch : List ℕ) (s : Sides terms n k scratch) where
+module _ {terms : List ℕ} {n k : ℕ} {scratch : List ℕ} (s : Sides terms n k scratch) where
   -- the or: the product stands at the start of one list, and the right side is copied behind it
-  module _ (from copy mid : List ℕ) (count all atoms sums room : ℕ)
+  module _ {from q mid : List ℕ} {count all atoms sums room : ℕ}
       (t : Told (few_pairs (take n terms) (take k (drop n terms)) && few (product (take n terms) (take k (drop n terms)))) (product (take n terms) (take k (drop n terms))) atoms from count all)
       (long : length from ≡ length scratch)
-      (e : copy ≡ paste from count (take (n + k - n) (drop n terms)) (length (take (n + k - n) (drop n terms))))
-      (w : Written (sum (take n terms) (take (count + k - count) (drop count copy))) sums room terms mid) where
+      (put : q ≡ take (n + k - n) (drop n terms))
+      (w : Written (sum (take n terms) (take (count + k - count) (drop count (put_mid count (count + k - count) from q)))) sums room terms mid) where
+    abbrev pub copy : List ℕ
+    copy = put_mid count (count + k - count) from q
+
+    wide : length (take (n + k - n) (drop n terms)) ≡ count + k - count
+    wide = rw (behind terms n k (n + k) refl) (omega (arith, right-count terms n k scratch s))
+
+    e : copy ≡ paste from count (take (n + k - n) (drop n terms)) (length (take (n + k - n) (drop n terms)))
+    e = put_mid-paste count (count + k - count) from q (take (n + k - n) (drop n terms)) (length (take (n + k - n) (drop n terms))) put
+        wide refl
+
     join-count : count ≤ 256
     join-count = omega (arith, t.count, product-few (few_pairs (take n terms) (take k (drop n terms))) (product (take n terms) (take k (drop n terms))) t.fit)
 
@@ -268,18 +280,18 @@ module _ (terms : List ℕ) (n k : ℕ) (scratch : List ℕ) (s : Sides terms n 
     pub join-taken : length (take count copy) ≤ 256
     join-taken = omega (arith, ap length join-product, t.count, join-count)
 
-    pub join-made : (new : List ℕ) (whole room' : ℕ) (r : Size) → Written (sum (take sums mid) (take count copy)) whole room' mid new
-        → r ≡ cond (leb whole 256) (Of whole all) TooMany
+    pub join-made : (new : List ℕ) (whole room' : ℕ) (r : Result Size TooMany) → Written (sum (take sums mid) (take count copy)) whole room' mid new
+        → r ≡ cond (leb whole 256) (Ok (record { terms = whole; atoms = all })) (Err too_many)
         → Made (few_pairs (take n terms) (take k (drop n terms)) && (few (product (take n terms) (take k (drop n terms))) && few (joined (take n terms) (take k (drop n terms))))) (joined (take n terms) (take k (drop n terms))) atoms new r
     join-made new whole room' r v l =
         let fit = and_both (few_pairs (take n terms) (take k (drop n terms))) (few (product (take n terms) (take k (drop n terms)))) t.fit in
         rw (fit.0, fit.1, ← t.all) (limited-made (rw (join-sum.terms, join-product) at v) l)
 
 -- as many atoms as entries
-pub length-atoms : (whole ws : List ℕ) → length (atoms_at whole ws) ≡ length ws
+pub length_atoms : (whole ws : List ℕ) → length (atoms_at whole ws) ≡ length ws
 unfolding atoms_at
-length-atoms whole [] = refl
-length-atoms whole (w ∷ ws) = ap suc (length-atoms whole ws)
+length_atoms whole [] = refl
+length_atoms whole (w ∷ ws) = ap suc (length_atoms whole ws)
 
 atoms-more : (whole ws : List ℕ) (w : ℕ) → atoms_at whole (ws ++ (w ∷ [])) ≡ atoms_at whole ws ++ (tree_of (part_at whole w) ∷ [])
 unfolding atoms_at
@@ -302,13 +314,13 @@ pow_small n h =
     let one : 1 * 2 ^ n ≡ 2 ^ n = omega arith in
     rw one (mod-eq_of_lt (lt_of_le_of_lt most (lit< tt)))
 
-module _ (whole : List ℕ) (at : ℕ) (part table : List ℕ) (count : ℕ) (terms : List ℕ) (lent : Lent whole at part table count terms) where
+module _ {whole : List ℕ} {at : ℕ} {part table : List ℕ} {count : ℕ} {terms : List ℕ} (wf : Wf part) (lent : Lent whole at part table count terms) where
   -- the table can hold one more atom
   pub lent-count : count < 64
-  lent-count = omega (arith, lent.room, wf-two part lent.wf)
+  lent-count = omega (arith, lent.room, wf-two part wf)
 
   pub atoms-count : length (atoms_at whole (take count table)) ≡ count
-  atoms-count = length-atoms whole (take count table) ∙ length-take-le count table (omega (arith, lent-count, lent.table))
+  atoms-count = length_atoms whole (take count table) ∙ length-take-le count table (omega (arith, lent-count, lent.table))
 
   module _ (n : ℕ) (is : n ≡ number_in (atoms_at whole (take count table)) (tree_of part)) where
     pub number_small : n < 64
@@ -319,7 +331,7 @@ module _ (whole : List ℕ) (at : ℕ) (part table : List ℕ) (count : ℕ) (te
 
     -- an atom that has a number
     pub atom-known : (x : ℕ) → x ≡ 2 ^ n → n < count
-        → Given (atom_low (atoms_at whole (take count table)) (tree_of part)) whole table (set terms 0 x) (Of 1 count)
+        → Given (atom_low (atoms_at whole (take count table)) (tree_of part)) whole table (set terms 0 x) (Ok (record { terms = 1; atoms = count }))
     unfolding atom_low
     atom-known x e h =
         let l = atoms_at whole (take count table) in
@@ -333,7 +345,7 @@ module _ (whole : List ℕ) (at : ℕ) (part table : List ℕ) (count : ℕ) (te
 
     -- a new one
     pub atom-new : (x w : ℕ) → x ≡ 2 ^ n → count ≤ n → w ≡ at * 512 + (at + length part)
-        → Given (atom_low (atoms_at whole (take count table)) (tree_of part)) whole (set table count w) (set terms 0 x) (Of 1 (count + 1))
+        → Given (atom_low (atoms_at whole (take count table)) (tree_of part)) whole (set table count w) (set terms 0 x) (Ok (record { terms = 1; atoms = count + 1 }))
     unfolding atom_low
     atom-new x w e h v =
         let l = atoms_at whole (take count table) in
@@ -356,5 +368,5 @@ module _ (whole : List ℕ) (at : ℕ) (part table : List ℕ) (count : ℕ) (te
           parts = λ _.
               rw (size, table')
               (parts_more whole (take count table) w lent.parts
-              (record { order = omega (arith, start, end); end = omega (arith, end, lent.within); wf = rw there lent.wf }));
+              (record { order = omega (arith, start, end); end = omega (arith, end, lent.within); wf = rw there wf }));
         }

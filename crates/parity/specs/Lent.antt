@@ -1,52 +1,20 @@
 -- What the code of `parity` borrows, and what it leaves there. The atoms stand in a table as offsets in the words of one equality,
 -- a polynomial at the start of a list of terms.
-use Rattle.std.specs.Prelude.{ℕ, ◌+◌, ◌*◌, ◌-◌, ◌/◌, ◌%◌, ◌≤◌, ◌<◌, ◌≡◌, Bool, true, cond, ◌&&◌, List, [], ◌∷◌, length, get_or, take, drop}
-use Rattle.std.proofs.Math.Option.{Option, none, some}
+use Rattle.std.specs.Prelude.{ℕ, ◌+◌, ◌*◌, ◌-◌, ◌/◌, ◌%◌, ◌≤◌, ◌<◌, ◌≡◌, Bool, true, cond, ◌&&◌, List, [], ◌∷◌, length, get_or, take, drop, Result, Ok, Err}
 use Rattle.expr.specs.Tree.{Expr, Wf, tree_of}
 use Rattle.search.specs.Ascending.{Ascending}
-use Rattle.poly.specs.Terms.{sum, product}
-use Rattle.parity.specs.Parity as Parity
-use Rattle.parity.specs.Parity.{Low, parity, few, few_pairs, joined}
-use Rattle.parity.specs.declared.Constant as Constant
-use Rattle.parity.specs.declared.Constant.TheVariants as constants
+use Rattle.parity.specs.Parity.{Low, parity, pair_low}
 use Rattle.parity.specs.declared.Pair.{Pair}
-use Rattle.parity.specs.declared.Pair.TheVariants.{Sum, Product, Or}
-use Rattle.parity.specs.declared.Entry as Entry
-use Rattle.parity.specs.declared.Entry.TheVariants.{Both, Keeps, Clears, Atom}
 use Rattle.parity.specs.declared.Size.{Size}
-use Rattle.parity.specs.declared.Size.TheVariants.{Of, TooMany}
+use Rattle.parity.specs.declared.TooMany.{TooMany}
 
--- what is said of a constant
-abbrev pub option_of : Constant.Constant → Option ℕ
-option_of (constants.Of x) = some x
-option_of constants.Other = none
+-- the code's answer past the limits
+abbrev pub too_many : TooMany
+too_many = record {}
 
--- the code's ways into a part
-abbrev pub entry_of : Entry.Entry → Parity.Entry
-entry_of (Both Sum) = Parity.Entry.adds
-entry_of (Both Product) = Parity.Entry.multiplies
-entry_of (Both Or) = Parity.Entry.joins
-entry_of Keeps = Parity.Entry.keeps
-entry_of Clears = Parity.Entry.clears
-entry_of Atom = Parity.Entry.atom
-
--- two sides' polynomials put together, and the limits on that
-abbrev pub pair_poly : Pair → List ℕ → List ℕ → List ℕ
-pair_poly Sum p q = sum p q
-pair_poly Product p q = product p q
-pair_poly Or p q = joined p q
-
-abbrev pub pair_fits : Pair → List ℕ → List ℕ → Bool
-pair_fits Sum p q = few (sum p q)
-pair_fits Product p q = few_pairs p q && few (product p q)
-pair_fits Or p q = few_pairs p q && (few (product p q) && few (joined p q))
-
-abbrev pub pair_low : Pair → Low → Low → Low
-pair_low pair x y = record {
-  poly = pair_poly pair x.poly y.poly;
-  atoms = y.atoms;
-  fits = x.fits && (y.fits && pair_fits pair x.poly y.poly);
-}
+-- what is found within the limits, or that they are passed
+abbrev pub within : {A : Type 0} → Bool → A → Result A TooMany
+within fits found = cond fits (Ok found) (Err too_many)
 
 -- a part that is entered by both sides, given the atoms before it
 abbrev pub pair_of : Pair → List Expr → Expr → Expr → Low
@@ -84,7 +52,6 @@ pub record ProductsRoom (w : ℕ) (scratch : List ℕ) : Type 0 where
 -- A part of the whole from an offset on, and buffers for its atoms and its terms. Each atom takes two words or more, and each side
 -- of an operator leaves two for the operator itself, so 64 entries suffice for 256 words.
 pub record Lent (whole : List ℕ) (at : ℕ) (part atoms : List ℕ) (count : ℕ) (terms : List ℕ) : Type 0 where
-  pub wf : Wf part
   pub stands : part ≡ take (length part) (drop at whole)
   pub within : at + length part ≤ length whole
   pub small : length whole ≤ 256
@@ -95,8 +62,6 @@ pub record Lent (whole : List ℕ) (at : ℕ) (part atoms : List ℕ) (count : �
 
 -- the same for two sides, one after the other
 pub record LentTwo (whole : List ℕ) (at : ℕ) (left right atoms : List ℕ) (count : ℕ) (terms : List ℕ) : Type 0 where
-  pub left_wf : Wf left
-  pub right_wf : Wf right
   pub left_stands : left ≡ take (length left) (drop at whole)
   pub right_stands : right ≡ take (length right) (drop (at + length left) whole)
   pub within : at + (length left + length right) ≤ length whole
@@ -116,12 +81,12 @@ pub record Sides (terms : List ℕ) (n k : ℕ) (scratch : List ℕ) : Type 0 wh
   pub products : n * k ≤ 4096 → n * k ≤ length scratch
 
 -- A polynomial within the limits stands at the start, and its size is told; else that it passes them.
-pub record Made (fits : Bool) (poly : List ℕ) (atoms : ℕ) (terms : List ℕ) (r : Size) : Type 0 where
-  pub size : r ≡ cond fits (Of (length poly) atoms) TooMany
+pub record Made (fits : Bool) (poly : List ℕ) (atoms : ℕ) (terms : List ℕ) (r : Result Size TooMany) : Type 0 where
+  pub size : r ≡ within fits (record { terms = length poly; atoms = atoms })
   pub stands : fits ≡ true → take (length poly) terms ≡ poly
 
 -- The same with the atoms in the table.
-pub record Given (low : Low) (whole table terms : List ℕ) (r : Size) : Type 0 where
+pub record Given (low : Low) (whole table terms : List ℕ) (r : Result Size TooMany) : Type 0 where
   pub made : Made low.fits low.poly (length low.atoms) terms r
   pub atoms : low.fits ≡ true → atoms_at whole (take (length low.atoms) table) ≡ low.atoms
   pub parts : low.fits ≡ true → Parts whole (take (length low.atoms) table)

@@ -1,13 +1,11 @@
 -- The low bit of a part for a choice of its atoms' bits, with no polynomial in it, and with a table of its own of what is entered.
 -- Of the definitions that the code is proved against it takes only the test for an effect in a part.
-use Rattle.std.specs.Prelude.{ℕ, zero, suc, ◌%◌, ◌≡◌, Bool, true, false, cond, ◌&&◌, ◌||◌, List, [], ◌∷◌, eqb, ltb, get_or}
+use Rattle.std.specs.Prelude.{Option, Some, None, ℕ, zero, suc, ◌%◌, ◌≡◌, Bool, true, false, cond, ◌&&◌, ◌||◌, List, [], ◌∷◌, eqb, ltb, get_or}
 use Rattle.std.specs.Bool.{xor}
 use Rattle.expr.specs.Codes.{bool}
 use Rattle.expr.specs.Tree.{Expr}
 use Rattle.expr.specs.Tree.Expr.{variable, constant, condition_true, condition_false, effect, load, cast, binary, ternary}
 use Rattle.expr.specs.Scan.{has_own_value}
-use Rattle.value.specs.declared.Value.{Value}
-use Rattle.value.specs.declared.Value.TheVariants.{Of, NoValue}
 use Rattle.value.specs.Evaluation.{Values, Contents, Effects, ByPath, under, shared, ev}
 
 -- the low bit of a number
@@ -104,13 +102,13 @@ AlwaysDiffer a b = (shared : Expr → Bool) (own : ByPath Bool) → xor (low_bit
 -- ---- in an evaluation
 
 -- the low bit of a value, where there is one
-abbrev pub low : Value → Bool
-low (Of x) = bit x
-low NoValue = false
+abbrev pub low : Option ℕ → Bool
+low (Some x) = bit x
+low None = false
 
-abbrev pub Has : Value → Type 0
-Has (Of x) = Unit {0}
-Has NoValue = ⊥
+abbrev pub Has : Option ℕ → Type 0
+Has (Some x) = Unit {0}
+Has None = ⊥
 
 -- The bits that an expression's atoms have in an evaluation (N14): of one without an effect, the low bit of its value, by its tree; of one with an
 -- effect, by its path.

@@ -1,48 +1,46 @@
 -- `parity`: the low bit of a part as a polynomial over the low bits of its atoms (both are terms of the scope document and
 -- the Rust). An atom is a part that is not entered. Each polynomial is an ascending list of monomials (crate poly).
-use Rattle.std.specs.Prelude.{ℕ, suc, ◌*◌, ◌%◌, ◌^◌, Bool, true, cond, not, ◌&&◌, ◌||◌, List, [], ◌∷◌, ◌++◌, eqb, leb, ltb, length}
-use Rattle.std.proofs.Math.Option.{Option, none, some}
+use Rattle.std.specs.Prelude.{ℕ, suc, ◌*◌, ◌%◌, ◌^◌, Bool, true, cond, not, ◌&&◌, ◌||◌, List, [], ◌∷◌, ◌++◌, eqb, leb, ltb, length, Option, Some, None}
 use Rattle.expr.specs.Codes.{bool, op_add, op_and, op_mod, op_mul, op_or, op_shl, op_sub, op_xor}
 use Rattle.expr.specs.Tree.{Expr}
 use Rattle.expr.specs.Tree.Expr.{variable, constant, condition_true, condition_false, effect, load, cast, binary, ternary}
 use Rattle.expr.specs.Scan.{has_own_value, same_tree}
 use Rattle.poly.specs.Terms.{sum, product}
+use Rattle.parity.specs.declared.Entry.{Entry}
+use Rattle.parity.specs.declared.Entry.TheVariants.{Both, Keeps, Clears, Atom}
+use Rattle.parity.specs.declared.Pair.{Pair}
+use Rattle.parity.specs.declared.Pair.TheVariants.{Sum, Product, Or}
 
 -- the value of a constant as it is written
 abbrev pub constant_of : Expr → Option ℕ
-constant_of (variable n) = none
-constant_of (constant w x) = some x
-constant_of condition_true = none
-constant_of condition_false = none
-constant_of (effect t) = none
-constant_of (load t a) = none
-constant_of (cast t a) = none
-constant_of (binary o a b) = none
-constant_of (ternary c a b) = none
-
--- How a part with an operator is entered: its low bit is the exclusive or, the and, or the or of its sides' low bits; or its
--- left side's; or 0, with no side entered; or that of an atom.
-pub data Entry : Type 0 where
-  adds multiplies joins keeps clears atom : Entry
+constant_of (variable n) = None
+constant_of (constant w x) = Some x
+constant_of condition_true = None
+constant_of condition_false = None
+constant_of (effect t) = None
+constant_of (load t a) = None
+constant_of (cast t a) = None
+constant_of (binary o a b) = None
+constant_of (ternary c a b) = None
 
 -- The remainder by an even constant other than 0 keeps the left side's low bit (N11).
 abbrev pub on_remainder : Option ℕ → Entry
-on_remainder none = atom
-on_remainder (some x) = cond (not (eqb x 0) && eqb (x % 2) 0) keeps atom
+on_remainder None = Atom
+on_remainder (Some x) = cond (not (eqb x 0) && eqb (x % 2) 0) Keeps Atom
 
 -- A shift to the left by the constant 0 keeps the low bit, and by a constant from 1 to 31 clears it (N11).
 abbrev pub on_shift : Option ℕ → Entry
-on_shift none = atom
-on_shift (some x) = cond (eqb x 0) keeps (cond (ltb x 32) clears atom)
+on_shift None = Atom
+on_shift (Some x) = cond (eqb x 0) Keeps (cond (ltb x 32) Clears Atom)
 
 -- Which operators are entered, given the right side: + - ^; × &; |; % and << with a constant on the right (N11).
 unfoldable pub entered : ℕ → Expr → Entry
 entered o b =
-    cond (eqb o op_add || (eqb o op_sub || eqb o op_xor)) adds
-    (cond (eqb o op_mul || eqb o op_and) multiplies
-    (cond (eqb o op_or) joins
+    cond (eqb o op_add || (eqb o op_sub || eqb o op_xor)) (Both Sum)
+    (cond (eqb o op_mul || eqb o op_and) (Both Product)
+    (cond (eqb o op_or) (Both Or)
     (cond (eqb o op_mod) (on_remainder (constant_of b))
-    (cond (eqb o op_shl) (on_shift (constant_of b)) atom))))
+    (cond (eqb o op_shl) (on_shift (constant_of b)) Atom))))
 
 -- the first index of a tree in a list, or the list's length where it is not there
 unfoldable pub place : List Expr → Expr → ℕ
@@ -83,26 +81,30 @@ atom_low atoms e = record { poly = 2 ^ number_in atoms e ∷ []; atoms = noted a
 abbrev pub joined : List ℕ → List ℕ → List ℕ
 joined p q = sum (sum p q) (product p q)
 
+-- both sides' polynomials put together, and the limits on that
+abbrev pub pair_poly : Pair → List ℕ → List ℕ → List ℕ
+pair_poly Sum p q = sum p q
+pair_poly Product p q = product p q
+pair_poly Or p q = joined p q
+
+abbrev pub pair_fits : Pair → List ℕ → List ℕ → Bool
+pair_fits Sum p q = few (sum p q)
+pair_fits Product p q = few_pairs p q && few (product p q)
+pair_fits Or p q = few_pairs p q && (few (product p q) && few (joined p q))
+
+abbrev pub pair_low : Pair → Low → Low → Low
+pair_low pair x y = record {
+  poly = pair_poly pair x.poly y.poly;
+  atoms = y.atoms;
+  fits = x.fits && (y.fits && pair_fits pair x.poly y.poly);
+}
+
 -- a part from its sides, by how it is entered
 abbrev pub low_of : Entry → Low → Low → Low → List Expr → Low
-low_of adds x y own atoms = record {
-  poly = sum x.poly y.poly;
-  atoms = y.atoms;
-  fits = x.fits && (y.fits && few (sum x.poly y.poly));
-}
-low_of multiplies x y own atoms = record {
-  poly = product x.poly y.poly;
-  atoms = y.atoms;
-  fits = x.fits && (y.fits && (few_pairs x.poly y.poly && few (product x.poly y.poly)));
-}
-low_of joins x y own atoms = record {
-  poly = joined x.poly y.poly;
-  atoms = y.atoms;
-  fits = x.fits && (y.fits && (few_pairs x.poly y.poly && (few (product x.poly y.poly) && few (joined x.poly y.poly))));
-}
-low_of keeps x y own atoms = x
-low_of clears x y own atoms = record { poly = []; atoms = atoms; fits = true }
-low_of atom x y own atoms = own
+low_of (Both pair) x y own atoms = pair_low pair x y
+low_of Keeps x y own atoms = x
+low_of Clears x y own atoms = record { poly = []; atoms = atoms; fits = true }
+low_of Atom x y own atoms = own
 
 -- The polynomial of a part, given the atoms numbered before it. A constant has its own low bit; a cast keeps the low bit, but
 -- one to bool is not entered (N11, N12).

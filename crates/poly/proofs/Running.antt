@@ -98,10 +98,10 @@ times_none l n x b up = record {
 
 pub times_more : {old new new' b : List ℕ} {n count x i : ℕ} (m : ℕ) → Times old new count x b n i
     → i < length b → count + length b ≤ length old → length new' ≡ length new
-    → (m ≡ length (toggle (bit_or x (get_or b i 0)) (take n new))) × (new' ≡ over (toggle (bit_or x (get_or b i 0)) (take n new)) new)
+    → Written (toggle (bit_or x (get_or b i 0)) (take n new)) m (n + 1) new new'
     → Times old new' count x b m (i + 1)
 unfolding sum_times
-times_more {old} {new} {new'} {b} {n} {count} {x} {i} m so_far less room long gave = record {
+times_more {old} {new} {new'} {b} {n} {count} {x} {i} m so_far less room long w = record {
   within = omega arith;
   run = running-step run w long (omega (arith, run.few)) (ascending-toggle (bit_or x (get_or b i 0)) (take n new) run.ordered) small same;
 }
@@ -111,9 +111,6 @@ times_more {old} {new} {new'} {b} {n} {count} {x} {i} m so_far less room long ga
 
     fits : n < length new
     fits = omega (arith, so_far.run.few, so_far.run.long)
-
-    w : Written (toggle (bit_or x (get_or b i 0)) (take n new)) m (n + 1) new new'
-    w = toggle-written new new' n (bit_or x (get_or b i 0)) m fits gave
 
     small : length (toggle (bit_or x (get_or b i 0)) (take n new)) ≤ count + (i + 1)
     small = omega (arith, length-toggle (bit_or x (get_or b i 0)) (take n new), so_far.run.few, length-take-le n new (omega (arith, fits)))
@@ -129,10 +126,10 @@ times-done {old} {new} {b} {n} {count} {x} {i} so_far end room =
     running-done (rw (all, drop-length b) at so_far.run) (omega arith) room
 
 -- b times the constant one is b
-pub times-one : (l b : List ℕ) → sum_times l 0 b ≡ sum l b
+pub times_one : (l b : List ℕ) → sum_times l 0 b ≡ sum l b
 unfolding sum_times sum
-times-one l [] = refl
-times-one l (y ∷ b) = times-one (toggle y l) b
+times_one l [] = refl
+times_one l (y ∷ b) = times_one (toggle y l) b
 
 -- each term of a times each term of b: those of the first i terms of a are added
 pub record Products (old new : List ℕ) (count : ℕ) (a b : List ℕ) (n i : ℕ) : Type 0 where

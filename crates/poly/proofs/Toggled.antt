@@ -1,163 +1,87 @@
--- A term put in or taken out of a borrowed list by moving what stands above it: the start of the list is then `toggle`, and
--- what stands beyond is as it was.
-use Prim.Native.Nat.{ℕ, zero, suc, ◌+◌, ◌-◌, ◌≤◌, ◌<◌}
-use mathlib.Core.Path.{◌≡◌, sym, ap, ◌∙◌}
-use mathlib.Core.List.{List, [], ◌∷◌, ◌++◌}
-use native.Mathlib.Decide.{dec_lt}
-use native.Mathlib.Nat.{add-zero}
-use native.Mathlib.Omega.{arith}
-use lib.ListN.{length, get_or, take, drop, length-append, length-take, length-drop, get_or-append}
-use lib.Seq.{ext_get_or, get_or-take, get_or-drop, get_or-append-add, length-take-le}
+-- A term put in or taken out of a borrowed list by moving what stands above it: the start of the list is then `toggle`.
+use Rattle.std.proofs.Common.{◌≡◌, ℕ, zero, suc, ◌+◌, ◌-◌, ◌≤◌, ◌<◌, List, [], ◌∷◌, ◌++◌, Result, Ok, Err, length, get_or, take, drop, slice_set, refl, sym, ap, ap₂, ◌∙◌, append_assoc, add-one, length-append, length-drop, length-take, MatchResult, arith}
+use Rattle.std.specs.Ordering.{nat_cmp}
+use Rattle.std.specs.List.{copy_within}
+use Rattle.std.specs.List.Sorted.{IsBinarySearchResult}
+use Rattle.std.proofs.lemmas.List.Sorted.{searched}
+use Rattle.std.proofs.lemmas.List.{take-take, take_more, set_at}
+use Rattle.std.proofs.lemmas.Slice.{between_is}
+use lib.Seq.{length-take-le}
 use borrow.Author.Tests.{lt-ltb, le-ltb, eq-eqb, ne_eqb}
-use Rattle.poly.specs.Terms.{toggle, over}
-use Rattle.poly.specs.Places.{PutIn, TakenOut}
-use Rattle.search.specs.Ascending.{Ascending, count_below}
-use Rattle.search.proofs.Laws.{Bracket, count-splits}
-
-place_rest : {x : ℕ} {l : List ℕ} {t at : ℕ} → Bracket (x ∷ l) t (suc at) (suc at) → Bracket l t at at
-place_rest p = record {
-  order = omega arith;
-  within = omega (arith, p.within);
-  below = λ i h. p.below (suc i) (omega arith);
-  above = λ i h h'. p.above (suc i) (omega arith) (omega arith);
-}
-
--- The search among the first n entries finds the index of a term.
-pub found : (l : List ℕ) (n t at : ℕ) → Ascending (take n l) → at ≡ count_below (take n l) t → Bracket (take n l) t at at
-found l n t at up is = rw is (count-splits (take n l) up t)
-
-pub found_within : (l : List ℕ) (n t at : ℕ) → n ≤ length l → Ascending (take n l) → at ≡ count_below (take n l) t → at ≤ n
-found_within l n t at room up is = omega (arith, (found l n t at up is).within, length-take-le n l room)
-
--- a list with t put in at an index, and with the term at an index taken out
-abbrev with-term : ℕ → ℕ → List ℕ → List ℕ
-with-term t at f = take at f ++ (t ∷ drop at f)
-
-abbrev without : ℕ → List ℕ → List ℕ
-without at f = take at f ++ drop (suc at) f
+use Rattle.search.specs.Ascending.{Ascending}
+use Rattle.search.proofs.Laws.{ascending-below, ascending-upto, ascending-rest}
+use Rattle.poly.specs.Terms.{toggle, over, Written}
+use Rattle.poly.proofs.Running.{toggle-written}
 
 -- `toggle` at the index of its term: where the term is not there yet, and where it is
-toggle-new : (t : ℕ) (l : List ℕ) (at : ℕ) → Bracket l t at at → (at < length l → get_or l at 0 ≡ t → ⊥)
-    → toggle t l ≡ with-term t at l
+toggle-new : (t : ℕ) (l : List ℕ) (at : ℕ) → at ≤ length l → ((k : ℕ) → k < at → get_or l k 0 < t)
+    → ((k : ℕ) → at ≤ k → k < length l → t < get_or l k 0) → toggle t l ≡ take at l ++ (t ∷ drop at l)
 unfolding toggle
-toggle-new t [] at p new = let none : at ≡ 0 = omega (arith, p.within) in rw none
-toggle-new t (x ∷ l) zero p new =
-    rw (le-ltb x t (p.above 0 (omega arith) (omega arith)), ne_eqb x t (new (omega arith)))
-toggle-new t (x ∷ l) (suc at) p new =
-    rw (lt-ltb x t (p.below 0 (omega arith)))
-    (ap (λ (r : List ℕ). x ∷ r) (toggle-new t l at (place_rest p) (λ h. new (omega arith))))
+toggle-new t [] at within below above = let none : at ≡ 0 = omega arith in rw none
+toggle-new t (x ∷ l) zero within below above =
+    rw (le-ltb x t (omega (arith, above 0)), ne_eqb x t (omega (arith, above 0)))
+toggle-new t (x ∷ l) (suc at) within below above =
+    rw (lt-ltb x t (below 0 (omega arith)))
+    (ap (λ (r : List ℕ). x ∷ r)
+    (toggle-new t l at (omega arith) (λ k h. below (suc k) (omega arith)) (λ k h h'. above (suc k) (omega arith) (omega arith))))
 
-toggle-old : (t : ℕ) (l : List ℕ) (at : ℕ) → Bracket l t at at → at < length l → get_or l at 0 ≡ t
-    → toggle t l ≡ without at l
+toggle-old : (t : ℕ) (l : List ℕ) (at : ℕ) → Ascending l → at < length l → get_or l at 0 ≡ t
+    → toggle t l ≡ take at l ++ drop (suc at) l
 unfolding toggle
-toggle-old t [] at p within here = absurd (omega arith)
-toggle-old t (x ∷ l) zero p within here = rw (le-ltb x t (p.above 0 (omega arith) (omega arith)), eq-eqb x t here)
-toggle-old t (x ∷ l) (suc at) p within here =
-    rw (lt-ltb x t (p.below 0 (omega arith)))
-    (ap (λ (r : List ℕ). x ∷ r) (toggle-old t l at (place_rest p) (omega arith) here))
+toggle-old t [] at up within here = absurd (omega arith)
+toggle-old t (x ∷ l) zero up within here = rw (le-ltb x t (omega arith), eq-eqb x t here)
+toggle-old t (x ∷ l) (suc at) up within here =
+    rw (lt-ltb x t (omega (arith, ascending-below up 0 (suc at) (omega arith) within)))
+    (ap (λ (r : List ℕ). x ∷ r) (toggle-old t l at (ascending-rest up) (omega arith) here))
 
--- an entry of a list that is split at `at` and goes on with r
-entry-before : (f r : List ℕ) (at i : ℕ) → at ≤ length f → i < at → get_or (take at f ++ r) i 0 ≡ get_or f i 0
-entry-before f r at i room h =
-    get_or-append (take at f) r 0 i (simp length-take (omega arith)) ∙ get_or-take at f i 0 h
-
-entry-from : (f r : List ℕ) (at j : ℕ) → at ≤ length f → get_or (take at f ++ r) (at + j) 0 ≡ get_or r j 0
-entry-from f r at j room =
-    ap (λ (k : ℕ). get_or (take at f ++ r) (k + j) 0) (sym (length-take-le at f room)) ∙ get_or-append-add (take at f) r j 0
-
--- A list with t over its start is known by its entries.
-over-is : (t old new : List ℕ) → length new ≡ length old → length t ≤ length old
-    → ((i : ℕ) → i < length t → get_or new i 0 ≡ get_or t i 0)
-    → ((i : ℕ) → length t ≤ i → get_or new i 0 ≡ get_or old i 0)
-    → new ≡ over t old
-over-is t old new long room front beyond =
-    ext_get_or 0 new (over t old) (simp (length-append, length-drop) (omega arith)) (λ i h. go i (dec_lt i (length t)))
+-- what moving the terms above an index does to a list whose first n entries are a polynomial
+take-out-moves : (l : List ℕ) (n at : ℕ) → at < n → n ≤ length l
+    → copy_within l (at + 1) n at ≡ over (take at (take n l) ++ drop (suc at) (take n l)) l
+take-out-moves l n at less room = rw (parts, size) refl
   where
-    far : (j : ℕ) → get_or (over t old) (length t + j) 0 ≡ get_or old (length t + j) 0
-    far j = get_or-append-add t (drop (length t) old) j 0 ∙ get_or-drop (length t) old j 0
+    parts : take at (take n l) ++ drop (suc at) (take n l) ≡ take at l ++ take (n - (at + 1)) (drop (at + 1) l)
+    parts = ap₂ (λ (a b : List ℕ). a ++ b) (take-take at n l (omega arith)) (rw (← add-one) (sym (between_is l (at + 1) n)))
 
-    go : (i : ℕ) → Dec (i < length t) → get_or new i 0 ≡ get_or (over t old) i 0
-    go i (yes h) = front i h ∙ sym (get_or-append t (drop (length t) old) 0 i h)
-    go i (no h) =
-        let back : length t + (i - length t) ≡ i = omega arith in
-        beyond i (omega arith) ∙ sym (rw back at (far (i - length t)))
+    size : length (take at l ++ take (n - (at + 1)) (drop (at + 1) l)) ≡ at + (n - (at + 1))
+    size = simp (length-append, length-take, length-drop) (omega arith)
 
-pub put-in-toggles : (old new : List ℕ) {n t at : ℕ} → Bracket (take n old) t at at → n < length old
-    → (at < n → get_or old at 0 ≡ t → ⊥) → length new ≡ length old → PutIn old new n at t
-    → (n + 1 ≡ length (toggle t (take n old))) × (new ≡ over (toggle t (take n old)) old)
-put-in-toggles old new {n} {t} {at} p room fresh long put =
-    rw is (sym size', over-is (with-term t at (take n old)) old new long (omega (arith, size')) front (λ i h. put.beyond i (omega (arith, size'))))
+put-in-moves : (l : List ℕ) (n at t : ℕ) → at ≤ n → n < length l
+    → slice_set (copy_within l at n (at + 1)) at t ≡ over (take at (take n l) ++ (t ∷ drop at (take n l))) l
+put-in-moves l n at t upto room = rw (parts, size, take_more l at 0 (omega arith), append_assoc, append_assoc, append_assoc) (set_at (take at l) _ _ t at (length-take-le at l (omega arith)))
   where
-    size : length (take n old) ≡ n
-    size = length-take-le n old (omega arith)
+    parts : take at (take n l) ++ (t ∷ drop at (take n l)) ≡ take at l ++ (t ∷ take (n - at) (drop at l))
+    parts = ap₂ (λ (a b : List ℕ). a ++ (t ∷ b)) (take-take at n l upto) (sym (between_is l at n))
 
-    is : toggle t (take n old) ≡ with-term t at (take n old)
-    is = toggle-new t (take n old) at p
-        (λ h e. fresh (omega (arith, size)) (sym (get_or-take n old at 0 (omega (arith, size))) ∙ e))
+    size : length (take at l ++ (t ∷ take (n - at) (drop at l))) ≡ at + 1 + (n - at)
+    size = simp (length-append, length-take, length-drop) (omega arith)
 
-    size' : length (with-term t at (take n old)) ≡ n + 1
-    size' = simp (length-append, length-take, length-drop) (omega (arith, size, p.within))
-
-    moved : (j : ℕ) → at + suc j < n + 1
-        → get_or new (at + suc j) 0 ≡ get_or (with-term t at (take n old)) (at + suc j) 0
-    moved j h =
-        let next : at + j + 1 ≡ at + suc j = omega arith in
-        rw next at (put.moved (at + j) (omega arith) (omega arith))
-        ∙ sym (get_or-take n old (at + j) 0 (omega arith))
-        ∙ sym (get_or-drop at (take n old) j 0)
-        ∙ sym (entry-from (take n old) (t ∷ drop at (take n old)) at (suc j) (omega (arith, size, p.within)))
-
-    later : (i : ℕ) → i < n + 1 → (k : ℕ) → at + k ≡ i
-        → get_or new i 0 ≡ get_or (with-term t at (take n old)) i 0
-    later i h zero e =
-        let here : i ≡ at = omega arith in
-        rw here
-        (put.here
-        ∙ sym (rw (add-zero at) at (entry-from (take n old) (t ∷ drop at (take n old)) at 0 (omega (arith, size, p.within)))))
-    later i h (suc k) e = rw (sym e) (moved k (omega arith))
-
-    go : (i : ℕ) → i < n + 1 → Dec (i < at)
-        → get_or new i 0 ≡ get_or (with-term t at (take n old)) i 0
-    go i h (yes less) =
-        put.before i less ∙ sym (get_or-take n old i 0 (omega (arith, size, p.within)))
-        ∙ sym (entry-before (take n old) (t ∷ drop at (take n old)) at i (omega (arith, size, p.within)) less)
-    go i h (no more) = later i h (i - at) (omega arith)
-
-    front : (i : ℕ) → i < length (with-term t at (take n old))
-        → get_or new i 0 ≡ get_or (with-term t at (take n old)) i 0
-    front i h = go i (omega (arith, size')) (dec_lt i at)
-
-pub take-out-toggles : (old new : List ℕ) {n t at : ℕ} → Bracket (take n old) t at at → n ≤ length old → at < n → get_or old at 0 ≡ t
-    → length new ≡ length old → TakenOut old new n at
-    → (n - 1 ≡ length (toggle t (take n old))) × (new ≡ over (toggle t (take n old)) old)
-take-out-toggles old new {n} {t} {at} p room within there long taken =
-    rw is (sym size', over-is (without at (take n old)) old new long (omega (arith, size')) front (λ i h. taken.beyond i (omega (arith, size'))))
+-- the search among the first n terms, and the move that follows
+pub take-out-toggles : (old new : List ℕ) (n t at : ℕ) → n < length old → Ascending (take n old)
+    → IsBinarySearchResult (λ y. nat_cmp y t) (take n old) (Ok at) → new ≡ copy_within old (at + 1) n at
+    → Written (toggle t (take n old)) (n - 1) (n + 1) old new
+take-out-toggles old new n t at room up there moved =
+    toggle-written old new n t (n - 1) room (rw is (simp (length-append, length-take, length-drop) (omega (arith, less)), moved ∙ take-out-moves old n at less (omega arith)))
   where
-    size : length (take n old) ≡ n
-    size = length-take-le n old room
+    here : (at < length (take n old)) × (get_or (take n old) at 0 ≡ t)
+    here = searched (take n old) t (Ok at) there (ascending-upto up)
 
-    is : toggle t (take n old) ≡ without at (take n old)
-    is = toggle-old t (take n old) at p (omega (arith, size)) (get_or-take n old at 0 within ∙ there)
+    less : at < n
+    less = omega (arith, here.0, length-take-le n old (omega arith))
 
-    size' : length (without at (take n old)) ≡ n - 1
-    size' = simp (length-append, length-take, length-drop) (omega arith)
+    is : toggle t (take n old) ≡ take at (take n old) ++ drop (suc at) (take n old)
+    is = toggle-old t (take n old) at up here.0 here.1
 
-    moved : (j : ℕ) → at + j < n - 1 → get_or new (at + j) 0 ≡ get_or (without at (take n old)) (at + j) 0
-    moved j h =
-        let next : at + j + 1 ≡ suc at + j = omega arith in
-        rw next at (taken.moved (at + j) (omega arith) (omega arith))
-        ∙ sym (get_or-take n old (suc at + j) 0 (omega arith))
-        ∙ sym (get_or-drop (suc at) (take n old) j 0)
-        ∙ sym (entry-from (take n old) (drop (suc at) (take n old)) at j (omega (arith, size)))
+pub put-in-toggles : (old new : List ℕ) (n t at : ℕ) → n < length old → Ascending (take n old)
+    → IsBinarySearchResult (λ y. nat_cmp y t) (take n old) (Err at) → new ≡ slice_set (copy_within old at n (at + 1)) at t
+    → Written (toggle t (take n old)) (n + 1) (n + 1) old new
+put-in-toggles old new n t at room up apart moved =
+    toggle-written old new n t (n + 1) room (rw is (simp (length-append, length-take, length-drop) (omega (arith, less)), moved ∙ put-in-moves old n at t less room))
+  where
+    split : (at ≤ length (take n old)) × ((k : ℕ) → k < at → get_or (take n old) k 0 < t) × ((k : ℕ) → at ≤ k → k < length (take n old) → t < get_or (take n old) k 0)
+    split = searched (take n old) t (Err at) apart (ascending-upto up)
 
-    go : (i : ℕ) → i < n - 1 → Dec (i < at) → get_or new i 0 ≡ get_or (without at (take n old)) i 0
-    go i h (yes less) =
-        taken.before i less ∙ sym (get_or-take n old i 0 (omega arith))
-        ∙ sym (entry-before (take n old) (drop (suc at) (take n old)) at i (omega (arith, size)) less)
-    go i h (no more) =
-        let back : at + (i - at) ≡ i = omega arith in
-        rw back at (moved (i - at) (omega arith))
+    less : at ≤ n
+    less = omega (arith, split.0, length-take-le n old (omega arith))
 
-    front : (i : ℕ) → i < length (without at (take n old))
-        → get_or new i 0 ≡ get_or (without at (take n old)) i 0
-    front i h = go i (omega (arith, size')) (dec_lt i at)
+    is : toggle t (take n old) ≡ take at (take n old) ++ (t ∷ drop at (take n old))
+    is = toggle-new t (take n old) at split.0 split.1 split.2

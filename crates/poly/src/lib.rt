@@ -6,47 +6,23 @@
 ghost use Rattle.std.specs.Prelude.{◌≡◌, ℕ, ◌+◌, ◌*◌, ◌≤◌, ◌<◌, length, take};
 ghost use Rattle.search.specs.Ascending.{Ascending};
 ghost use Rattle.poly.specs.Terms.{Written, toggle, sum, sum_times, sum_product, over};
-ghost use Rattle.poly.specs.Places.{PutIn, TakenOut};
-
-// Moves the terms from `at` on one index up, the last first, and puts a term there.
-fn put_in(list: &mut [u64], count: usize, at: usize, term: u64)
-    requires { (at ≤ count) × (count < length list.old) }
-    ensures { PutIn list.old list.new count at term }
-{
-    let mut i = count;
-    while i > at {
-        list[i] = list[i - 1];
-        i -= 1;
-    }
-    list[at] = term;
-}
-
-// Moves the terms after `at` one index down, the first first.
-fn take_out(list: &mut [u64], count: usize, at: usize)
-    requires { (at < count) × (count ≤ length list.old) }
-    ensures { TakenOut list.old list.new count at }
-{
-    let mut i = at;
-    while i + 1 < count {
-        list[i] = list[i + 1];
-        i += 1;
-    }
-}
 
 // Adds a term to the first count, and gives the new count.
 fn toggle(list: &mut [u64], count: usize, term: u64) -> usize
     requires { (count < length list.old) × Ascending (take count list.old) }
-    ensures { (result ≡ length (toggle term (take count list.old))) × (list.new ≡ over (toggle term (take count list.old)) list.old) }
+    ensures { Written (toggle term (take count list.old)) result (count + 1) list.old list.new }
 {
-    let at = search::first_at_or_above(&list[..count], term);
-    if at < count {
-        if list[at] == term {
-            take_out(list, count, at);
-            return count - 1;
+    match list[..count].binary_search(&term) {
+        Ok(at) => {
+            list.copy_within(at + 1..count, at);
+            count - 1
+        }
+        Err(at) => {
+            list.copy_within(at..count, at + 1);
+            list[at] = term;
+            count + 1
         }
     }
-    put_in(list, count, at, term);
-    count + 1
 }
 
 // Adds x times each term of b to the first count terms, and gives the new count.
@@ -55,15 +31,14 @@ fn add_times(list: &mut [u64], count: usize, x: u64, b: &[u64]) -> usize
     ensures { Written (sum_times (take count list.old) x b.now) result (count + length b.now) list.old list.new }
 {
     let mut n = count;
-    let mut i = 0;
-    while i < b.len() {
-        n = toggle(list, n, x | b[i]);
-        i += 1;
+    for y in b {
+        n = toggle(list, n, x | *y);
     }
     n
 }
 
 // Adds the terms of b: b times the constant one.
+#[tactic(auto, using(crate::proofs::Running::times_one))]
 pub fn add(list: &mut [u64], count: usize, b: &[u64]) -> usize
     requires { (count + length b.now ≤ length list.old) × Ascending (take count list.old) }
     ensures { Written (sum (take count list.old) b.now) result (count + length b.now) list.old list.new }
@@ -77,10 +52,8 @@ pub fn add_product(list: &mut [u64], count: usize, a: &[u64], b: &[u64]) -> usiz
     ensures { Written (sum_product (take count list.old) a.now b.now) result (count + length a.now * length b.now) list.old list.new }
 {
     let mut n = count;
-    let mut i = 0;
-    while i < a.len() {
-        n = add_times(list, n, a[i], b);
-        i += 1;
+    for x in a {
+        n = add_times(list, n, *x, b);
     }
     n
 }

@@ -1,7 +1,5 @@
 -- Lists that rise strictly, and where a number stands in a list.
-use Rattle.std.specs.Prelude.{ℕ, suc, ◌+◌, ◌≤◌, ◌<◌, cond, List, [], ◌∷◌, length, get_or, ltb, eqb}
-use Rattle.search.specs.declared.Found.{Found}
-use Rattle.search.specs.declared.Found.TheVariants.{At, Nothing}
+use Rattle.std.specs.Prelude.{ℕ, suc, ◌+◌, ◌≤◌, ◌<◌, cond, List, [], ◌∷◌, length, get_or, ltb, eqb, Option, Some, None, option_map}
 
 -- Each element is below the next one.
 pub record Ascending (l : List ℕ) : Type 0 where
@@ -17,12 +15,7 @@ unfoldable pub count_below : List ℕ → ℕ → ℕ
 count_below [] x = 0
 count_below (a ∷ l) x = cond (ltb a x) (suc (count_below l x)) (count_below l x)
 
--- An index into a list is one larger in the list with one more element before it.
-abbrev pub later : Found → Found
-later (At i) = At (suc i)
-later Nothing = Nothing
-
 -- Where x stands: the first index whose element is x.
-unfoldable pub place_of : List ℕ → ℕ → Found
-place_of [] x = Nothing
-place_of (a ∷ l) x = cond (eqb a x) (At 0) (later (place_of l x))
+unfoldable pub place_of : List ℕ → ℕ → Option ℕ
+place_of [] x = None
+place_of (a ∷ l) x = cond (eqb a x) (Some 0) (option_map suc (place_of l x))

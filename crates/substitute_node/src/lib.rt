@@ -1,144 +1,113 @@
 // A node's statements, read where they stand in an accepted sheet, are substituted into its condition. Each statement's bytes are read once.
 #![tactic(auto)]
 
-ghost use Rattle.std.specs.Prelude.{◌≡◌, ℕ, ◌≤◌, length};
+ghost use Rattle.std.specs.Prelude.{◌≡◌, ℕ, ◌≤◌, ◌<◌, length};
 ghost use Rattle.sheet_field.specs.Field.{WentOn};
 ghost use Rattle.sheet_expression.specs.Expression.{expression_at};
-ghost use Rattle.sheet_node.specs.Node.{statement_at, statement_of, statements_from};
-ghost use Rattle.substitution.specs.Words.{table_of};
-ghost use Rattle.substitute_node.specs.Node.{Room, Lent, Idle, Stepped, Passed, MadeNode};
+ghost use Rattle.sheet_node.specs.Node.{statement_at, statements_from};
+ghost use Rattle.substitution.specs.Held.{table_of};
+ghost use Rattle.substitute_node.specs.Node.{Idle, Stepped, Passed, MadeNode};
 
+use expr::Tree;
 use sheet_field::Place;
-use substitution::Written;
+use substitution::Held;
 
-// What one statement leaves: whether its substituted value is within its limit, that nothing is held where `idle`, and the offset after
-// the statement.
+// A node's condition with its statements substituted, and the offset after the condition.
 #[derive(Clone, Copy)]
-pub struct Step {
-    pub fits: bool,
-    pub idle: bool,
-    pub next: Place,
+pub struct SubstitutedNode<'a> {
+    pub condition: Tree<'a>,
+    pub end: usize,
 }
 
-// Where the words of a node's substituted condition start, or that they are too many; and the offset after the condition, where they are not.
+// What a statement leaves: that nothing is held where `idle`, and the offset after the statement.
 #[derive(Clone, Copy)]
-pub struct SubstitutedNode {
-    pub written: Written,
-    pub next: Place,
-}
-
-// The statement at an offset, which was read whole: an assignment's value is substituted and assigned, any other statement ends all that is held.
-fn take_statement(
-    s: &[u8],
-    p: Place,
-    types: &[u8],
+struct Step {
     idle: bool,
-    table: &mut [u64],
-    lengths: &mut [usize],
-    words: &mut [u64],
-    out: &mut [u64],
-) -> Step
-    requires lent { Lent types.now table.old lengths.old words.old out.old }
-    requires went_on { WentOn (statement_at types.now s.now p).next }
-    requires idle { Idle idle lengths.old }
-    ensures { (result.next ≡ (statement_at types.now s.now p).next) × Stepped result.fits table.new lengths.new (table_of table.old lengths.old) (statement_of (statement_at types.now s.now p)) × Idle result.idle lengths.new }
-{
-    let r = sheet_node::statement_at(s, p, words);
-    let next = r.next;
-    if !r.assigned {
-        if idle {
-            return Step {
-                fits: true,
-                idle,
-                next,
-            };
-        }
-        substitution::clear(lengths);
-        return Step {
-            fits: true,
-            idle: true,
-            next,
-        };
-    }
-    let n = 2 * (r.records as usize);
-    let fits = substitution::take_assignment(r.variable, &words[..n], table, lengths, out);
-    Step {
-        fits,
-        idle: false,
-        next,
-    }
+    next: Place,
 }
 
-// The n statements from an offset on, which were read whole, with nothing held before them, and the offset after them; no fit where a substituted value is
-// too long.
-fn take_statements(
-    s: &[u8],
-    p: Place,
-    types: &[u8],
-    n: u64,
-    table: &mut [u64],
-    lengths: &mut [usize],
-    words: &mut [u64],
-    out: &mut [u64],
-) -> Step
-    requires room { Room n types.now table.old lengths.old words.old out.old }
-    requires went_on { WentOn (statements_from types.now s.now p n).next }
-    ensures { Passed result table.new lengths.new (statements_from types.now s.now p n) }
-{
-    substitution::clear(lengths);
-    let mut idle = true;
-    let mut next = p;
-    let mut i: u64 = 0;
-    while i < n {
-        let r = take_statement(s, next, types, idle, table, lengths, words, out);
-        if !r.fits {
-            return Step {
-                fits: false,
-                idle,
-                next,
-            };
-        }
-        idle = r.idle;
-        next = r.next;
-        i += 1;
-    }
-    Step {
-        fits: true,
-        idle,
-        next,
-    }
+// What the substitution of a node of up to N variables works in: what is held for each, the words of the records that are read, and of those that are
+// written.
+#[derive(Drop)]
+pub struct Room<const N: usize> {
+    held: Held<N>,
+    words: [u64; 256],
+    out: [u64; 256],
 }
 
-// A node's condition with its n statements substituted, at the end of 256 borrowed words. The statements from `body` on and the condition after them were
-// read whole, and are read once more, with nothing checked again.
-pub fn substitute_node(
-    s: &[u8],
-    types: &[u8],
-    body: Place,
-    n: u64,
-    table: &mut [u64],
-    lengths: &mut [usize],
-    words: &mut [u64],
-    out: &mut [u64],
-) -> SubstitutedNode
-    requires room { Room n types.now table.old lengths.old words.old out.old }
-    requires went_on { WentOn (statements_from types.now s.now body n).next }
-    requires went_on_2 { WentOn (expression_at (length types.now) s.now (statements_from types.now s.now body n).next).next }
-    ensures { MadeNode result.written result.next out.new (statements_from types.now s.now body n).list (expression_at (length types.now) s.now (statements_from types.now s.now body n).next) }
-{
-    let passed = take_statements(s, body, types, n, table, lengths, words, out);
-    let condition = passed.next;
-    if !passed.fits {
-        return SubstitutedNode {
-            written: Written::TooLong,
-            next: condition,
-        };
+impl<const N: usize> Room<N> {
+    pub fn new() -> Self {
+        Room {
+            held: Held::new(),
+            words: [0; 256],
+            out: [0; 256],
+        }
     }
-    let e = sheet_expression::expression_at(s, sheet_field::start(condition), words);
-    let k = 2 * (e.records as usize);
-    let written = substitution::substitute(&words[..k], table, lengths, out);
-    SubstitutedNode {
-        written,
-        next: Place::At(e.end),
+
+    // The statement at an offset, which was read whole: an assignment's value is substituted and assigned, any other statement ends all that is held. None
+    // where the substituted value is too long.
+    fn take_statement(&mut self, s: &[u8], p: Place, types: &[u8], idle: bool) -> Option<Step>
+        requires few { length types.now ≤ N }
+        requires went_on { WentOn (statement_at types.now s.now p).next }
+        requires idle { Idle idle (table_of self.old.held) }
+        ensures { Stepped result (table_of self.old.held) (table_of self.new.held) (statement_at types.now s.now p) }
+    {
+        let statement = sheet_node::statement_at(s, p, &mut self.words);
+        let next = statement.next;
+        if !statement.assigned {
+            if !idle {
+                self.held.clear();
+            }
+            return Some(Step { idle: true, next });
+        }
+        let n = 2 * statement.records as usize;
+        let value = Tree::new(&self.words[..n]);
+        self.held
+            .take_assignment(statement.variable, value, &mut self.out)?;
+        Some(Step { idle: false, next })
+    }
+
+    // The n statements from an offset on, which were read whole, with nothing held before them, and the offset after them; none where a substituted value is
+    // too long.
+    fn take_statements(&mut self, s: &[u8], from: Place, types: &[u8], n: u64) -> Option<Place>
+        requires few { 0 < n → length types.now ≤ N }
+        requires went_on { WentOn (statements_from types.now s.now from n).next }
+        ensures { Passed result (table_of self.new.held) (statements_from types.now s.now from n) }
+    {
+        self.held.clear();
+        let mut idle = true;
+        let mut next = from;
+        for _ in 0..n {
+            let step = self.take_statement(s, next, types, idle)?;
+            idle = step.idle;
+            next = step.next;
+        }
+        Some(next)
+    }
+
+    // A node's condition with its n statements substituted; none where it, or a value before it, is too long. The statements from `body` on and the condition
+    // after them were read whole, and are read once more, with nothing checked again.
+    pub fn substitute(
+        &mut self,
+        s: &[u8],
+        types: &[u8],
+        body: Place,
+        n: u64,
+    ) -> Option<SubstitutedNode<'_>>
+        requires few { 0 < n → length types.now ≤ N }
+        requires went_on { WentOn (statements_from types.now s.now body n).next }
+        requires went_on_2 { WentOn (expression_at (length types.now) s.now (statements_from types.now s.now body n).next).next }
+        ensures { MadeNode result (statements_from types.now s.now body n).list (expression_at (length types.now) s.now (statements_from types.now s.now body n).next) }
+    {
+        let condition = self.take_statements(s, body, types, n)?;
+        let e = sheet_expression::expression_at(s, sheet_field::start(condition), &mut self.words);
+        let k = 2 * e.records as usize;
+        let condition = self
+            .held
+            .substitute(Tree::new(&self.words[..k]), &mut self.out)?;
+        Some(SubstitutedNode {
+            condition,
+            end: e.end,
+        })
     }
 }

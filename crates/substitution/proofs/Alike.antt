@@ -1,5 +1,6 @@
 -- A pointer and an unsigned 64 are told apart by no operator, promotion or conversion. A function of a type that is the same at 8 and at 7 is the same at two
 -- types between which an assignment is no fault, and all of these are such functions.
+use Rattle.std.specs.Prelude.{Option, Some, None}
 use mathlib.Core.Path.{◌≡◌, refl, sym, ap, ap₂, ◌∙◌}
 use mathlib.Core.Bool.{Bool, true, false, cond}
 use mathlib.Core.List.{List, [], ◌∷◌, ◌++◌, map}
@@ -9,8 +10,6 @@ use lib.ListN.{get_or}
 use borrow.Author.Tests.{eqb-true}
 use Rattle.expr.specs.Types.{promoted, together, binary_type, plain_type, same_type}
 use Rattle.arith.specs.Numbers.{bits, negative, number, convert, count}
-use Rattle.value.specs.declared.Value.{Value}
-use Rattle.value.specs.declared.Value.TheVariants.{Of, NoValue}
 use Rattle.value.specs.Operators.{taken, Operation, Operator, arithmetics, shifts, comparisons, on_common, on_left, operators, no_operator, strict, operate, truth_of, integer_of, is_logic, connect}
 
 -- two types that are one but for pointer and unsigned 64
@@ -46,9 +45,9 @@ pub bits-alike : (s t : ℕ) → Alike s t → bits s ≡ bits t
 unfolding bits
 bits-alike s t h = sym (on-plain bits refl s) ∙ ap bits h ∙ on-plain bits refl t
 
-pub taken-alike : (s s' t : ℕ) (v : Value) → Alike s s' → taken s t v ≡ taken s' t v
-taken-alike s s' t (Of x) h = ap Of (sym (convert-plain s t x) ∙ ap (λ (k : ℕ). convert k t x) h ∙ convert-plain s' t x)
-taken-alike s s' t NoValue h = refl
+pub taken-alike : (s s' t : ℕ) (v : Option ℕ) → Alike s s' → taken s t v ≡ taken s' t v
+taken-alike s s' t (Some x) h = ap Some (sym (convert-plain s t x) ∙ ap (λ (k : ℕ). convert k t x) h ∙ convert-plain s' t x)
+taken-alike s s' t None h = refl
 
 together-plain : (s t : ℕ) → together (plain_type s) (plain_type t) ≡ together s t
 together-plain s t = rw (promoted-plain s, promoted-plain t)
@@ -99,18 +98,18 @@ operators-blind =
     blind-map on_common (map on_left shifts ++ map on_common comparisons) common-blind
     (blind-map on_left (map on_common comparisons) left-blind (comparisons-blind comparisons) shifts) arithmetics
 
-operate-plain : (o s t : ℕ) (u v : Value) → operate o (plain_type s) (plain_type t) u v ≡ operate o s t u v
+operate-plain : (o s t : ℕ) (u v : Option ℕ) → operate o (plain_type s) (plain_type t) u v ≡ operate o s t u v
 unfolding operate
 operate-plain o s t u v = by (is_logic o) u v
   where
-    by : (b : Bool) (u v : Value)
+    by : (b : Bool) (u v : Option ℕ)
         → cond b (integer_of (connect o (truth_of u) (truth_of v))) (strict o (plain_type s) (plain_type t) u v)
         ≡ cond b (integer_of (connect o (truth_of u) (truth_of v))) (strict o s t u v)
     by true u v = refl
-    by false (Of x) (Of y) = operators-blind o s t x y
-    by false (Of x) NoValue = refl
-    by false NoValue v = refl
+    by false (Some x) (Some y) = operators-blind o s t x y
+    by false (Some x) None = refl
+    by false None v = refl
 
-pub operate-alike : (o s s' t t' : ℕ) (u v : Value) → Alike s s' → Alike t t' → operate o s t u v ≡ operate o s' t' u v
+pub operate-alike : (o s s' t t' : ℕ) (u v : Option ℕ) → Alike s s' → Alike t t' → operate o s t u v ≡ operate o s' t' u v
 operate-alike o s s' t t' u v h k =
     sym (operate-plain o s t u v) ∙ ap₂ (λ (a b : ℕ). operate o a b u v) h k ∙ operate-plain o s' t' u v

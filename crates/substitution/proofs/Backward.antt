@@ -6,48 +6,34 @@ use Prim.Native.Nat.{ℕ, zero, suc, ◌+◌, ◌*◌, ◌-◌, ◌≤◌, ◌<�
 use mathlib.Core.Path.{◌≡◌, refl, sym, ap, ap₂, subst, ◌∙◌}
 use mathlib.Core.Bool.{Bool, true, false, cond, ◌&&◌, false≢true}
 use mathlib.Core.List.{List, [], ◌∷◌, ◌++◌, map, append_assoc, append-nil}
-use native.Mathlib.Decide.{dec_lt}
 use native.Mathlib.Omega.{arith}
 use lib.Dec.{eqb, lit<}
-use lib.ListN.{length, get_or, take, drop, length-append, length-take, length-drop, get_or-eq_default}
-use lib.Seq.{paste, take-add, take-length, take-append-add, drop-append-add, drop-length, drop_at, length-take-le}
+use lib.ListN.{length, get_or, take, drop, length-append, length-drop}
+use lib.Seq.{take_all, take-append-add, drop-append-add, drop-length, take_at, drop_at}
 use borrow.Author.Tests.{eq-eqb, ne_eqb, eqb-true, lt-ltb, le-ltb}
+use Rattle.std.proofs.lemmas.Bool.{ltb-false}
 use Rattle.expr.specs.Codes.{kind_variable, kind_load}
 use Rattle.expr.specs.Tree.{Expr, tag_of, value_of, own, flat, size, flats, kind_of, argument_of, arity_of, tree_of, Wf}
 use Rattle.expr.specs.Tree.Expr.{variable, constant, condition_true, condition_false, effect, load, cast, binary, ternary}
 use Rattle.expr.specs.Scan.{is_load}
-use Rattle.expr.proofs.Laws.{kids, kids-arity, kind-of, argument-of, flat-root, flats-append, flat-size}
-use Rattle.expr.proofs.Parts.{Ending, stack-ending, flats-length}
+use Rattle.expr.proofs.Laws.{wf-flat, tree_of-flat, kids, kids-arity, kind-of, argument-of, flat-root, flats-append, flat-size}
+use Rattle.expr.proofs.Parts.{flats-length}
 use Rattle.expr.proofs.Scans.{load-tag}
 use Rattle.substitution.specs.Substitution.{Entry, free, held, Table, standing, substitute, most_records, long}
-use Rattle.substitution.specs.Words.{slot, table_of, Slots, held_words, pending_after}
+use Rattle.substitution.specs.Held.{entry_for, pending_after}
 
 pub too_long_lem : (e : Expr) → 256 < length (flat e) → long e ≡ true
 too_long_lem e h = lt-ltb most_records (size e) (omega (arith, flat-size e))
 
+-- the words of a tree that is not too long
+pub few-words : (ws : List ℕ) → Wf ws → {e : Expr} → tree_of ws ≡ e → long e ≡ false → length ws ≤ 256
+few-words ws wf {e} is short =
+    omega (arith, ap length wf, flat-size (tree_of ws), ltb-false most_records (size (tree_of ws)) (ap long is ∙ short))
+
 pub not-long : (e : Expr) → length (flat e) ≤ 256 → long e ≡ false
 not-long e h = le-ltb most_records (size e) (omega (arith, flat-size e))
 
--- the words that stand for a record, case by case
-module _ (lengths : List ℕ) (left tag : ℕ) where
-  pub words-there : {k n : ℕ} → left ≡ 0 → k ≡ kind_of tag → k ≡ kind_variable → n ≡ argument_of tag → get_or lengths n 0 ≡ held_words lengths left tag
-  unfolding held_words
-  words-there {k} {n} l p q r =
-      let z : kind_of tag ≡ 0 = sym p ∙ q in
-      rw (eq-eqb left 0 l, eq-eqb (kind_of tag) 0 z, r)
-
-  pub words-beyond : {k n : ℕ} → left ≡ 0 → k ≡ kind_of tag → k ≡ kind_variable → n ≡ argument_of tag → length lengths ≤ n → 0 ≡ held_words lengths left tag
-  words-beyond {k} {n} l p q r far = sym (get_or-eq_default lengths 0 far) ∙ words-there l p q r
-
-  pub words-other : {k : ℕ} → left ≡ 0 → k ≡ kind_of tag → (k ≡ kind_variable → ⊥) → 0 ≡ held_words lengths left tag
-  unfolding held_words
-  words-other {k} l p q = rw (eq-eqb left 0 l, ne_eqb (kind_of tag) 0 (λ z. q (p ∙ z)))
-
-  pub words-under : (left ≡ 0 → ⊥) → 0 ≡ held_words lengths left tag
-  unfolding held_words
-  words-under l = rw (ne_eqb left 0 l)
-
--- and the trees that are pending behind it
+-- the trees that are pending behind a record, case by case
 module _ (left tag : ℕ) where
   pub pending-load : {k : ℕ} → left ≡ 0 → k ≡ kind_of tag → k ≡ kind_load → 1 ≡ pending_after left tag
   unfolding pending_after
@@ -127,10 +113,10 @@ stood h n e st q = rw q
 
 -- ---- one record
 
--- The record that ends at `from` is taken: `part` is written for it, and the trees before it are left, with left' of them under a load.
-pub record Cut (h : Table) (rs : List ℕ) (trees : List Expr) (from left : ℕ) (part : List ℕ) (left' : ℕ) : Type 0 where
+-- The last record is taken: `part` is written for it, and the trees of the words before it are left, with left' of them under a load.
+pub record Cut (h : Table) (trees : List Expr) (front : List ℕ) (left : ℕ) (part : List ℕ) (left' : ℕ) : Type 0 where
   pub next : List Expr
-  pub words : take (from - 2) rs ≡ flats next
+  pub words : front ≡ flats next
   pub enough : left' ≤ length next
   pub same : flats (mixed h left trees) ≡ flats (mixed h left' next) ++ part
 
@@ -146,24 +132,6 @@ variable-of (load t a) h = absurd (omega (arith, kind-of 5 t (lit< tt)))
 variable-of (cast t a) h = absurd (omega (arith, kind-of 6 t (lit< tt)))
 variable-of (binary o a b) h = absurd (omega (arith, kind-of 7 o (lit< tt)))
 variable-of (ternary c a b) h = absurd (omega arith)
-
--- n words of a list from an offset on, as the code takes them
-abbrev pub part : List ℕ → ℕ → ℕ → List ℕ
-part l a n = take (a + n - a) (drop a l)
-
-pub part-is : (l : List ℕ) (a n : ℕ) → part l a n ≡ take n (drop a l)
-part-is l a n = let z : a + n - a ≡ n = omega arith in rw z
-
-pub part_length : (l : List ℕ) (a n : ℕ) → a + n ≤ length l → length (part l a n) ≡ n
-part_length l a n h = rw (part-is l a n) (length-take-le n (drop a l) (rw (length-drop a l) (omega arith)))
-
--- the words between two offsets, where the start is known up to the second
-part-behind : (l body w : List ℕ) (a n : ℕ) → take (a + n) l ≡ body ++ w → length body ≡ a → take n (drop a l) ≡ w
-part-behind l body w a n h size =
-    sym (drop_at (take a l) (take n (drop a l)) a front) ∙ ap (drop a) (sym (take-add a n l) ∙ h) ∙ drop_at body w a size
-  where
-    front : length (take a l) ≡ a
-    front = omega (arith, length-take a l, ap length h, length-take (a + n) l, length-append body w)
 
 -- the words of a stack end in its top tree's own
 top-words : (d : Expr) (st : List Expr) → flats (d ∷ st) ≡ flats (kids d ++ st) ++ own d
@@ -224,197 +192,175 @@ own-record h (suc k) d st few free-here =
       same = rw is (passed h d st k);
     }
 
--- where no words stand for the record, no value is held for it
-none-held : (table lengths : List ℕ) (d : Expr) → held_words lengths 0 (tag_of d) ≡ 0
-    → (n : ℕ) (e : Expr) → d ≡ variable n → table_of table lengths n ≡ held e → ⊥
-unfolding held_words table_of tag_of
-none-held table lengths d none n e is there =
+-- where nothing is held for the record, nothing is held for its variable
+none-held : (h : Table) (d : Expr) → entry_for h 0 (tag_of d) ≡ free → (n : ℕ) (e : Expr) → d ≡ variable n → h n ≡ held e → ⊥
+unfolding entry_for tag_of
+none-held h d none n e is there =
     let tag : tag_of d ≡ 0 + 16 * n = ap tag_of is in
     let kind : kind_of (tag_of d) ≡ 0 = ap kind_of tag ∙ kind-of 0 n (lit< tt) in
     let number : argument_of (tag_of d) ≡ n = ap argument_of tag ∙ argument-of 0 n (lit< tt) in
-    let zero-words : get_or lengths n 0 ≡ 0 = rw (eq-eqb (kind_of (tag_of d)) 0 kind, number) at none in
-    let lost : free ≡ held e = rw (eq-eqb (get_or lengths n 0) 0 zero-words) at there in
+    let empty : h n ≡ free = rw (eq-eqb (kind_of (tag_of d)) 0 kind, number) at none in
     let z : ◌≡◌ {A = ℕ} 0 1 = cc in
     omega arith
 
--- where words do, they are those of the variable's slot
-record Stands (lengths : List ℕ) (left tag n : ℕ) : Type 0 where
+-- where something is, it is what is held for its variable
+record Stands (h : Table) (left tag : ℕ) (e : Expr) : Type 0 where
   outside : left ≡ 0
   kind : kind_of tag ≡ kind_variable
-  words : get_or lengths (argument_of tag) 0 ≡ n
+  value : h (argument_of tag) ≡ held e
 
-stands : (lengths : List ℕ) (left tag n : ℕ) → n ≡ held_words lengths left tag → (n ≡ 0 → ⊥) → Stands lengths left tag n
-unfolding held_words
-stands lengths left tag n is some = by (eqb left 0) (eqb (kind_of tag) kind_variable) refl refl is
+stands : (h : Table) (left tag : ℕ) (e : Expr) → entry_for h left tag ≡ held e → Stands h left tag e
+unfolding entry_for
+stands h left tag e is = by (eqb left 0) (eqb (kind_of tag) kind_variable) refl refl is
   where
-    by : (a b : Bool) → eqb left 0 ≡ a → eqb (kind_of tag) kind_variable ≡ b → n ≡ cond (a && b) (get_or lengths (argument_of tag) 0) 0
-        → Stands lengths left tag n
-    by true true p q is = record { outside = eqb-true left 0 p; kind = eqb-true (kind_of tag) kind_variable q; words = sym is }
-    by true false p q is = absurd (some is)
-    by false b p q is = absurd (some is)
+    by : (a b : Bool) → eqb left 0 ≡ a → eqb (kind_of tag) kind_variable ≡ b → cond (a && b) (h (argument_of tag)) free ≡ held e → Stands h left tag e
+    by true true p q is = record { outside = eqb-true left 0 p; kind = eqb-true (kind_of tag) kind_variable q; value = is }
+    by true false p q is = let z : ◌≡◌ {A = ℕ} 0 1 = cc in absurd (omega arith)
+    by false b p q is = let z : ◌≡◌ {A = ℕ} 0 1 = cc in absurd (omega arith)
 
-pub held-slot : (table lengths : List ℕ) (v : ℕ) → (get_or lengths v 0 ≡ 0 → ⊥) → table_of table lengths v ≡ held (tree_of (slot table lengths v))
-unfolding table_of
-held-slot table lengths v some = rw (ne_eqb (get_or lengths v 0) 0 some)
+-- the last record of words, and the words before it
+pub record Split (rest front record_lem : List ℕ) : Type 0 where
+  pub long : length front + 2 ≡ length rest
+  pub front_is : front ≡ take (length rest - 2) rest
+  pub record_is : record_lem ≡ drop (length rest - 2) rest
+
+pub split : {rest front last : List ℕ} → (front ≡ take (length rest - 2) rest) × (last ≡ drop (length rest - 2) rest) × (length front + 2 ≡ length rest) → Split rest front last
+split s = record { long = s.2; front_is = s.0; record_is = s.1 }
 
 -- the record at the top of a stack
-module _ (table lengths rs : List ℕ) (from left : ℕ) (d : Expr) (st : List Expr) (within : from ≤ length rs)
-    (words : take from rs ≡ flats (d ∷ st)) (few : left ≤ length (d ∷ st)) where
-  end : Ending rs from (flats (kids d ++ st)) (tag_of d) (value_of d)
-  end = stack-ending rs from d st within words
+module _ (h : Table) {rest front last : List ℕ} (left : ℕ) (d : Expr) (st : List Expr) (s : Split rest front last)
+    (words : rest ≡ flats (d ∷ st)) (few : left ≤ length (d ∷ st)) where
+  whole : rest ≡ flats (kids d ++ st) ++ own d
+  whole = words ∙ top-words d st
 
-  own-top : (n : ℕ) → n ≡ held_words lengths left (get_or rs (from - 2) 0) → n ≡ 0
-      → Cut (table_of table lengths) rs (d ∷ st) from left (part rs (from - 2) 2) (pending_after left (get_or rs (from - 2) 0))
-  own-top n is none =
-      let no_words : held_words lengths left (tag_of d) ≡ 0 = sym (rw end.tag_there at is) ∙ none in
-      let o : Own (table_of table lengths) left d st = own-record (table_of table lengths) left d st few
-      (λ l. none-held table lengths d (rw l at no_words)) in
-      let back : from - 2 + 2 ≡ from = omega (arith, end.size) in
-      let words-here : part rs (from - 2) 2 ≡ own d =
-      part-is rs (from - 2) 2
-      ∙ part-behind rs (flats (kids d ++ st)) (own d) (from - 2) 2 (rw back (words ∙ top-words d st)) (omega (arith, end.size)) in
+  front-size : length (flats (kids d ++ st)) ≡ length rest - 2
+  front-size = omega (arith, ap length whole, length-append (flats (kids d ++ st)) (own d))
+
+  front-words : front ≡ flats (kids d ++ st)
+  front-words = s.front_is ∙ ap (take (length rest - 2)) whole ∙ take_at (flats (kids d ++ st)) (own d) (length rest - 2) front-size
+
+  last-words : last ≡ own d
+  last-words = s.record_is ∙ ap (drop (length rest - 2)) whole ∙ drop_at (flats (kids d ++ st)) (own d) (length rest - 2) front-size
+
+  tag-there : get_or last 0 0 ≡ tag_of d
+  tag-there = ap (λ (l : List ℕ). get_or l 0 0) last-words
+
+  own-top : entry_for h left (get_or last 0 0) ≡ free → Cut h (d ∷ st) front left last (pending_after left (get_or last 0 0))
+  own-top none =
+      let o : Own h left d st = own-record h left d st few (λ l. none-held h d (subst (λ (k : ℕ). entry_for h k (tag_of d) ≡ free) l (subst (λ (t : ℕ). entry_for h left t ≡ free) tag-there none))) in
       record {
         next = kids d ++ st;
-        words = end.front;
-        enough = rw end.tag_there o.enough;
-        same = rw (words-here, end.tag_there) o.same;
+        words = front-words;
+        enough = subst (λ (t : ℕ). pending_after left t ≤ length (kids d ++ st)) (sym tag-there) o.enough;
+        same =
+            o.same ∙ ap₂ (λ (t : ℕ) (l : List ℕ). flats (mixed h (pending_after left t) (kids d ++ st)) ++ l) (sym tag-there) (sym last-words);
       }
 
-  held-top : Slots table lengths → (n a : ℕ) → n ≡ held_words lengths left (get_or rs (from - 2) 0) → (n ≡ 0 → ⊥)
-      → a ≡ argument_of (get_or rs (from - 2) 0) → Cut (table_of table lengths) rs (d ∷ st) from left (part table (256 * a) n) left
-  unfolding kids Wf
-  held-top slots n a is some number =
-      let s : Stands lengths left (get_or rs (from - 2) 0) n = stands lengths left (get_or rs (from - 2) 0) n is some in
-      let var : d ≡ variable a =
-      variable-of d (ap kind_of (sym end.tag_there) ∙ s.kind) ∙ ap variable (ap argument_of (sym end.tag_there) ∙ sym number) in
-      let size_of : get_or lengths a 0 ≡ n = ap (λ (k : ℕ). get_or lengths k 0) number ∙ s.words in
-      let whole : flat (tree_of (slot table lengths a)) ≡ slot table lengths a = slots.whole a (omega arith) in
-      let words-here : part table (256 * a) n ≡ flat (tree_of (slot table lengths a)) =
-      part-is table (256 * a) n ∙ ap (λ (k : ℕ). take k (drop (256 * a) table)) (sym size_of) ∙ sym whole in
+  held-top : (e : Expr) (ws : List ℕ) → ws ≡ flat e → entry_for h left (get_or last 0 0) ≡ held e → Cut h (d ∷ st) front left ws left
+  unfolding kids
+  held-top e ws is there =
+      let s : Stands h left (tag_of d) e = stands h left (tag_of d) e (subst (λ (t : ℕ). entry_for h left t ≡ held e) tag-there there) in
+      let var : d ≡ variable (argument_of (tag_of d)) = variable-of d s.kind in
       record {
         next = st;
-        words = end.front ∙ ap (λ (e : Expr). flats (kids e ++ st)) var;
+        words = front-words ∙ ap (λ (e : Expr). flats (kids e ++ st)) var;
         enough = rw s.outside (omega arith);
-        same = rw (words-here, s.outside, var)
-            (stood (table_of table lengths) a (tree_of (slot table lengths a)) st (held-slot table lengths a (omega arith)));
+        same = rw (is, s.outside, var) (stood h (argument_of (tag_of d)) e st s.value);
       }
 
-pub record Writing (table lengths rs out : List ℕ) (from at left : ℕ) : Type 0 where
+pub record Writing (h : Table) (e : Expr) (rest out : List ℕ) (at left : ℕ) : Type 0 where
   pub trees : List Expr
-  pub within : from ≤ length rs
-  pub words : take from rs ≡ flats trees
+  pub words : rest ≡ flats trees
+  pub short : length rest ≤ 256
   pub enough : left ≤ length trees
   pub full : length out ≡ 256
   pub upto : at ≤ 256
-  pub due : flats (mixed (table_of table lengths) left trees) ++ drop at out ≡ flat (substitute (table_of table lengths) (tree_of rs))
+  pub due : flats (mixed h left trees) ++ drop at out ≡ flat (substitute h e)
 
-pub writing_start : (table lengths rs out : List ℕ) → Wf rs → length out ≡ 256 → Writing table lengths rs out (length rs) (length out) 0
-unfolding Wf flats mixed
-writing_start table lengths rs out wf full = record {
-  trees = tree_of rs ∷ [];
-  within = omega arith;
-  words = take-length rs ∙ sym wf;
+pub writing_start : (h : Table) (ws out : List ℕ) → Wf ws → length ws ≤ 256 → length out ≡ 256 → Writing h (tree_of ws) ws out 256 0
+unfolding flats mixed
+writing_start h ws out wf short full = record {
+  trees = tree_of ws ∷ [];
+  words = sym wf;
+  short = short;
   enough = omega arith;
   full = full;
   upto = omega arith;
-  due = rw (drop-length out) (append-nil (flat (substitute (table_of table lengths) (tree_of rs))));
+  due = rw (sym full, drop-length out) (append-nil (flat (substitute h (tree_of ws))));
 }
 
-module _ {table lengths rs out : List ℕ} {from at left : ℕ} (w : Writing table lengths rs out from at left) (more : 0 < from) where
+module _ {h : Table} {e : Expr} {rest out front last : List ℕ} {at left : ℕ} (w : Writing h e rest out at left) (s : Split rest front last) where
   none_left : w.trees ≡ [] → ⊥
   unfolding flats
-  none_left e = omega (arith, length-take-le from rs w.within, ap length (w.words ∙ ap flats e))
+  none_left e = omega (arith, s.long, ap length (w.words ∙ ap flats e))
 
-  pub two-left : 2 ≤ from
-  two-left = by w.trees refl
+  pub own-cut : entry_for h left (get_or last 0 0) ≡ free → Cut h w.trees front left last (pending_after left (get_or last 0 0))
+  own-cut none = by w.trees refl
     where
-      by : (st : List Expr) → w.trees ≡ st → 2 ≤ from
+      by : (st : List Expr) → w.trees ≡ st → Cut h st front left last (pending_after left (get_or last 0 0))
       by [] e = absurd (none_left e)
-      by (d ∷ st) e = omega (arith, (stack-ending rs from d st w.within (w.words ∙ ap flats e)).size)
+      by (d ∷ st) e = own-top h left d st s (w.words ∙ ap flats e) (subst (λ (t : List Expr). left ≤ length t) e w.enough) none
 
-  pub own-cut : (n l : ℕ) → n ≡ held_words lengths left (get_or rs (from - 2) 0) → n ≡ 0 → l ≡ pending_after left (get_or rs (from - 2) 0)
-      → Cut (table_of table lengths) rs w.trees from left (part rs (from - 2) 2) l
-  own-cut n l is none next = rw next (by w.trees refl)
+  pub held_cut : (d : Expr) (ws : List ℕ) → ws ≡ flat d → entry_for h left (get_or last 0 0) ≡ held d → Cut h w.trees front left ws left
+  held_cut d ws is there = by w.trees refl
     where
-      by : (st : List Expr) → w.trees ≡ st
-          → Cut (table_of table lengths) rs st from left (part rs (from - 2) 2) (pending_after left (get_or rs (from - 2) 0))
+      by : (st : List Expr) → w.trees ≡ st → Cut h st front left ws left
       by [] e = absurd (none_left e)
-      by (d ∷ st) e =
-          own-top table lengths rs from left d st w.within (w.words ∙ ap flats e) (subst (λ (t : List Expr). left ≤ length t) e w.enough) n is none
-
-  pub held_cut : Slots table lengths → (n a : ℕ) → n ≡ held_words lengths left (get_or rs (from - 2) 0) → (n ≡ 0 → ⊥)
-      → a ≡ argument_of (get_or rs (from - 2) 0) → Cut (table_of table lengths) rs w.trees from left (part table (256 * a) n) left
-  held_cut slots n a is some number = by w.trees refl
-    where
-      by : (st : List Expr) → w.trees ≡ st → Cut (table_of table lengths) rs st from left (part table (256 * a) n) left
-      by [] e = absurd (none_left e)
-      by (d ∷ st) e =
-          held-top table lengths rs from left d st w.within (w.words ∙ ap flats e) (subst (λ (t : List Expr). left ≤ length t) e w.enough) slots n a
-          is some number
+      by (t ∷ st) e = held-top h left t st s (w.words ∙ ap flats e) (subst (λ (t : List Expr). left ≤ length t) e w.enough) d ws is there
 
 -- A record's words are put before what is written.
-module _ {table lengths rs out : List ℕ} {from at left left' : ℕ} {words-here : List ℕ} (w : Writing table lengths rs out from at left)
-    (c : Cut (table_of table lengths) rs w.trees from left words-here left') where
-  whole_words : (flats (mixed (table_of table lengths) left' c.next) ++ words-here) ++ drop at out
-      ≡ flat (substitute (table_of table lengths) (tree_of rs))
+module _ {h : Table} {e : Expr} {rest out front words-here : List ℕ} {at left left' : ℕ} (w : Writing h e rest out at left)
+    (c : Cut h w.trees front left words-here left') where
+  whole_words : (flats (mixed h left' c.next) ++ words-here) ++ drop at out ≡ flat (substitute h e)
   whole_words = ap (λ (l : List ℕ). l ++ drop at out) (sym c.same) ∙ w.due
 
   -- there is no space for them
-  pub writing-full : at < length words-here → long (substitute (table_of table lengths) (tree_of rs)) ≡ true
+  pub writing-full : at < length words-here → long (substitute h e) ≡ true
   writing-full less =
       let all = simp (length-append, length-drop) at (ap length whole_words) in
-      too_long_lem (substitute (table_of table lengths) (tree_of rs)) (omega (arith, w.full, w.upto, all))
+      too_long_lem (substitute h e) (omega (arith, w.full, w.upto, all))
 
-  pub pending-few : length rs ≤ 256 → left' ≤ 256
-  pending-few h = omega (arith, c.enough, flats-length c.next, ap length c.words, length-take (from - 2) rs)
+  pub pending-few : length front ≤ length rest → left' ≤ 256
+  pending-few h = omega (arith, w.short, c.enough, flats-length c.next, ap length c.words)
 
-  pub writing_more : (new : List ℕ) (at' : ℕ) → at' + length words-here ≡ at → 2 ≤ from → length new ≡ length out
-      → new ≡ paste out at' words-here (length words-here) → Writing table lengths rs new (from - 2) at' left'
-  writing_more new at' place two long-new is = record {
+  pub writing_more : (new : List ℕ) (at' : ℕ) → at' + length words-here ≡ at → length front ≤ length rest → length new ≡ length out
+      → drop at' new ≡ words-here ++ drop at out → Writing h e front new at' left'
+  writing_more new at' place less long-new behind = record {
     trees = c.next;
-    within = omega (arith, w.within);
     words = c.words;
+    short = omega (arith, w.short);
     enough = c.enough;
     full = long-new ∙ w.full;
     upto = omega (arith, w.upto);
     due =
-        ap (λ (l : List ℕ). flats (mixed (table_of table lengths) left' c.next) ++ l) behind
-        ∙ sym (append_assoc (flats (mixed (table_of table lengths) left' c.next)) words-here (drop at out))
+        ap (λ (l : List ℕ). flats (mixed h left' c.next) ++ l) behind
+        ∙ sym (append_assoc (flats (mixed h left' c.next)) words-here (drop at out))
         ∙ whole_words;
   }
+
+-- Where no record is left, nothing is left to be written.
+module _ {h : Table} {e : Expr} {rest out : List ℕ} {at left : ℕ} (w : Writing h e rest out at left) (none : length rest < 2) where
+  pub written : drop at out ≡ flat (substitute h e)
+  unfolding flats mixed
+  written =
+      sym (ap (λ (l : List ℕ). l ++ drop at out)
+      (empty w.trees (omega (arith, none, ap length w.words)) w.enough))
+      ∙ w.due
     where
-      behind : drop at' new ≡ words-here ++ drop at out
-      behind =
-          ap (drop at') (is ∙ append_assoc (take at' out) (take (length words-here) words-here) (drop (at' + length words-here) out))
-          ∙ drop_at (take at' out) (take (length words-here) words-here ++ drop (at' + length words-here) out) at'
-          (length-take-le at' out (omega (arith, w.full, w.upto)))
-          ∙ ap₂ (λ (l : List ℕ) (k : ℕ). l ++ drop k out) (take-length words-here) place
+      empty : (st : List Expr) → length (flats st) < 2 → left ≤ length st → flats (mixed h left st) ≡ []
+      empty [] h few = let z : left ≡ 0 = omega arith in rw z
+      empty (d ∷ st) h few = absurd (omega (arith, flats-length (d ∷ st)))
 
--- At the first record nothing is left to be written.
-pub writing-end : {table lengths rs out : List ℕ} {from at left : ℕ} → Writing table lengths rs out from at left → from ≤ 0
-    → (drop at out ≡ flat (substitute (table_of table lengths) (tree_of rs))) × (long (substitute (table_of table lengths) (tree_of rs)) ≡ false)
-unfolding flats mixed
-writing-end {table} {lengths} {rs} {out} {from} {at} {left} w none = (all, not-long (substitute (table_of table lengths) (tree_of rs)) (omega (arith, length-drop at out, ap length all, w.full)))
-  where
-    empty : (st : List Expr) → length (flats st) ≤ 0 → left ≤ length st → flats (mixed (table_of table lengths) left st) ≡ []
-    empty [] h few = let z : left ≡ 0 = omega arith in rw z
-    empty (d ∷ st) h few = absurd (omega (arith, flats-length (d ∷ st)))
+  pub written-short : long (substitute h e) ≡ false
+  written-short = not-long (substitute h e) (omega (arith, length-drop at out, ap length written, w.full))
 
-    all : drop at out ≡ flat (substitute (table_of table lengths) (tree_of rs))
-    all =
-        sym (ap (λ (l : List ℕ). l ++ drop at out)
-        (empty w.trees (omega (arith, ap length w.words, length-take from rs)) w.enough))
-        ∙ w.due
+  -- the words behind it, as the code takes them
+  module _ {ws : List ℕ} (is : ws ≡ take (256 - at) (drop at out)) where
+    words-are : ws ≡ flat (substitute h e)
+    words-are = is ∙ take_all (256 - at) (drop at out) (omega (arith, length-drop at out, w.full)) ∙ written
 
--- The offset that a held value is copied from.
-pub held_place : {table lengths : List ℕ} → Slots table lengths → (left tag n a : ℕ) → n ≡ held_words lengths left tag → (n ≡ 0 → ⊥) → a ≡ argument_of tag
-    → (a < 32) × (256 * a + n ≤ length table)
-held_place {table} {lengths} slots left tag n a is some number =
-    let s : Stands lengths left tag n = stands lengths left tag n is some in
-    let size_of : get_or lengths a 0 ≡ n = ap (λ (k : ℕ). get_or lengths k 0) number ∙ s.words in
-    let small : a < length lengths = inside a size_of (dec_lt a (length lengths)) in
-    (omega (arith, slots.places), omega (arith, slots.few a, slots.room))
-  where
-    inside : (a : ℕ) → get_or lengths a 0 ≡ n → Dec (a < length lengths) → a < length lengths
-    inside a e (yes h) = h
-    inside a e (no h) = absurd (some (sym e ∙ get_or-eq_default lengths 0 (omega arith)))
+    pub written_tree : Wf ws
+    written_tree = subst Wf (sym words-are) (wf-flat (substitute h e))
+
+    pub written_is : tree_of ws ≡ substitute h e
+    written_is = ap tree_of words-are ∙ tree_of-flat (substitute h e)

@@ -1,51 +1,23 @@
--- The held table in borrowed words: what an entry reads, and what ends, clears or stores an entry.
-use Prim.Native.Nat.{ℕ, ◌+◌, ◌*◌, ◌-◌, ◌≤◌, ◌<◌}
+-- What is held, slot by slot: what stands where, what ends, and what is held instead.
+use Prim.Native.Nat.{ℕ, zero, suc, ◌+◌, ◌*◌, ◌%◌, ◌≤◌, ◌<◌}
 use mathlib.Core.Path.{◌≡◌, refl, sym, ap, subst, fun_ext, ◌∙◌}
-use mathlib.Core.Logic.{◌⊎◌, inl, inr}
 use mathlib.Core.Bool.{Bool, true, false, cond, not, ◌&&◌, ◌||◌}
-use mathlib.Core.List.{List, ◌++◌, append_assoc}
+use mathlib.Core.List.{List, [], ◌∷◌, ◌++◌}
 use native.Mathlib.Decide.{dec_lt, ℕ_discrete}
 use native.Mathlib.Omega.{arith}
 use lib.Dec.{eqb, lit<}
-use lib.ListN.{length, get_or, take, drop, set, length-drop, length-set, take-append-drop, get_or-eq_default, replicate, length-replicate, get_or-replicate}
-use lib.Seq.{paste, drop-paste, length-paste, drop-drop, drop-append-le, take-append-le, take-length, drop_at, take_at, length-take-le, get_or-set_same, get_or-set_other, ext_get_or}
+use lib.ListN.{length, get_or, take, drop, set, length-set, replicate, length-replicate}
+use lib.Seq.{get_or-take}
 use borrow.Author.Tests.{eq-eqb, ne_eqb, eqb-true, eqb-false}
 use Rattle.expr.specs.Codes.{kind_variable}
 use Rattle.expr.specs.Tree.{Expr, Wf, tree_of, tag_of, kind_of, argument_of}
 use Rattle.expr.specs.Tree.Expr.{variable, constant, condition_true, condition_false, effect, load, cast, binary, ternary}
 use Rattle.expr.specs.Scan.{any_node, any_tag, plain_expr, reads}
 use Rattle.expr.proofs.Scans.{any-tree, any_here, any-on, any-end}
-use Rattle.expr.proofs.Laws.{kind-of, argument-of, wf-two}
-use Rattle.substitution.specs.Substitution.{free, held, Table, nothing_held, entry_reads, kept, ended, holdable, entry_of, assigned}
-use Rattle.substitution.specs.Words.{slot, table_of, Slots, Holds, ended_tag, kept_length}
-use Rattle.substitution.proofs.Backward.{part, part-is, held-slot}
-
-free-slot : (table lengths : List ℕ) (w : ℕ) → get_or lengths w 0 ≡ 0 → table_of table lengths w ≡ free
-unfolding table_of
-free-slot table lengths w none = rw (eq-eqb (get_or lengths w 0) 0 none)
-
-part-slot : (table lengths : List ℕ) (w : ℕ) → part table (256 * w) (get_or lengths w 0) ≡ slot table lengths w
-part-slot table lengths w = part-is table (256 * w) (get_or lengths w 0)
-
--- where an entry stands
-pub slot-within : {table lengths : List ℕ} → Slots table lengths → (w : ℕ) → w < length lengths → 256 * w + get_or lengths w 0 ≤ length table
-slot-within slots w h = omega (arith, slots.room, slots.places, slots.few w)
-
-pub entry-tree : {table lengths : List ℕ} → Slots table lengths → (w : ℕ) → (get_or lengths w 0 ≡ 0 → ⊥) → Wf (part table (256 * w) (get_or lengths w 0))
-entry-tree {table} {lengths} slots w some = subst Wf (sym (part-slot table lengths w)) (slots.whole w (omega arith))
-
--- what an entry reads
-module _ (table lengths : List ℕ) (w v : ℕ) where
-  pub held_reads : {r : Bool} → (get_or lengths w 0 ≡ 0 → ⊥) → r ≡ reads v (tree_of (part table (256 * w) (get_or lengths w 0)))
-      → r ≡ entry_reads v (table_of table lengths w)
-  held_reads some is =
-      is ∙ ap (λ (l : List ℕ). reads v (tree_of l)) (part-slot table lengths w) ∙ ap (entry_reads v) (sym (held-slot table lengths w some))
-
-  pub free-reads : get_or lengths w 0 ≡ 0 → false ≡ entry_reads v (table_of table lengths w)
-  free-reads none = ap (entry_reads v) (sym (free-slot table lengths w none))
-
-  pub beyond-reads : length lengths ≤ w → false ≡ entry_reads v (table_of table lengths w)
-  beyond-reads far = free-reads (get_or-eq_default lengths 0 far)
+use Rattle.expr.proofs.Laws.{kind-of, argument-of, wf-two, flat-even}
+use Rattle.substitution.specs.declared.slot.Slot.{Slot}
+use Rattle.substitution.specs.Substitution.{Entry, free, held, Table, nothing_held, entry_reads, kept, ended, holdable, entry_of, assigned}
+use Rattle.substitution.specs.Held.{entry_in, table_in, ended_tag}
 
 -- a record that is another variable whose held value ends
 module _ (v : ℕ) (h : Table) (tag : ℕ) where
@@ -83,68 +55,90 @@ ended-tag v h (cast t a) = ended-none v h (6 + 16 * t) (sym (kind-of 6 t (lit< t
 ended-tag v h (binary o a b) = ended-none v h (7 + 16 * o) (sym (kind-of 7 o (lit< tt))) (omega arith)
 ended-tag v h (ternary c a b) = ended-none v h 8 refl (omega arith)
 
--- the scan of a value for such a record: it is in the words from i on, or nowhere
-module _ (v : ℕ) (h : Table) (value : List ℕ) (i : ℕ) (so_far : any_tag (ended_tag v h) value ≡ any_tag (ended_tag v h) (drop i value)) where
-  pub scan-found : {t : Bool} → Wf value → i < length value → t ≡ ended_tag v h (get_or value i 0) → t ≡ true → true ≡ any_node (ended v h) (tree_of value)
-  scan-found {t} wf less is found =
-      sym (sym (any-tree (ended_tag v h) (ended v h) (ended-tag v h) value wf) ∙ so_far ∙ any_here (ended_tag v h) value i less (sym is ∙ found))
+pub words-even : (ws : List ℕ) → Wf ws → length ws % 2 ≡ 0
+words-even ws wf = ap (λ (l : List ℕ). length l % 2) (sym wf) ∙ flat-even (tree_of ws)
 
-  pub scan-on : {t : Bool} → i < length value → t ≡ ended_tag v h (get_or value i 0) → t ≡ false
-      → any_tag (ended_tag v h) value ≡ any_tag (ended_tag v h) (drop (i + 2) value)
-  scan-on {t} less is none = so_far ∙ any-on (ended_tag v h) value i less (sym is ∙ none)
+-- the scan of a value for such a record: it is in the rest of the words, or nowhere
+module _ (v : ℕ) (h : Table) (value rest : List ℕ) (so_far : any_tag (ended_tag v h) value ≡ any_tag (ended_tag v h) rest) where
+  pub scan_found : {first : List ℕ} {t : Bool} → Wf value → first ≡ take 2 rest → 2 ≤ length rest → t ≡ ended_tag v h (get_or first 0 0) → t ≡ true
+      → true ≡ any_node (ended v h) (tree_of value)
+  scan_found {first} {t} wf first-is long is found =
+      let tag : get_or first 0 0 ≡ get_or rest 0 0 = ap (λ (l : List ℕ). get_or l 0 0) first-is ∙ get_or-take 2 rest 0 0 (omega arith) in
+      sym (sym (any-tree (ended_tag v h) (ended v h) (ended-tag v h) value wf) ∙ so_far
+      ∙ any_here (ended_tag v h) rest 0 (omega arith) (ap (ended_tag v h) (sym tag) ∙ sym is ∙ found))
 
-  pub scan-end : Wf value → length value ≤ i → false ≡ any_node (ended v h) (tree_of value)
-  scan-end wf past =
-      sym (sym (any-tree (ended_tag v h) (ended v h) (ended-tag v h) value wf) ∙ so_far ∙ any-end (ended_tag v h) value i past)
+  pub scan_on : {first after : List ℕ} {t : Bool} → first ≡ take 2 rest → after ≡ drop 2 rest → 2 ≤ length rest → t ≡ ended_tag v h (get_or first 0 0) → t ≡ false
+      → any_tag (ended_tag v h) value ≡ any_tag (ended_tag v h) after
+  scan_on {first} {after} {t} first-is after-is long is none =
+      let tag : get_or first 0 0 ≡ get_or rest 0 0 = ap (λ (l : List ℕ). get_or l 0 0) first-is ∙ get_or-take 2 rest 0 0 (omega arith) in
+      so_far ∙ any-on (ended_tag v h) rest 0 (omega arith) (ap (ended_tag v h) (sym tag) ∙ sym is ∙ none) ∙ ap (any_tag (ended_tag v h)) (sym after-is)
 
--- a value is held
-pub holdable-by : (v : ℕ) (h : Table) (e : Expr) {a b : Bool} → a ≡ plain_expr e → b ≡ any_node (ended v h) e → (a && not b) ≡ holdable v h e
-unfolding holdable
-holdable-by v h e p q = rw (p, q)
+  pub scan_end : Wf value → length rest % 2 ≡ 0 → length rest < 2 → false ≡ any_node (ended v h) (tree_of value)
+  scan_end wf even short =
+      sym (sym (any-tree (ended_tag v h) (ended v h) (ended-tag v h) value wf) ∙ so_far ∙ any-end (ended_tag v h) rest 0 (omega arith))
 
--- the length that is kept
-pub kept-none : (v : ℕ) (table lengths : List ℕ) (w : ℕ) {r : Bool} → r ≡ entry_reads v (table_of table lengths w) → (eqb w v || r) ≡ true
-    → 0 ≡ kept_length v table lengths w
-unfolding kept_length
-kept-none v table lengths w is ends = rw (← is, ends)
+-- what stands where
+pub beyond : (slots : List Slot) (v : ℕ) → length slots ≤ v → table_in slots v ≡ free
+unfolding table_in
+beyond [] v far = refl
+beyond (s ∷ rest) zero far = absurd (omega arith)
+beyond (s ∷ rest) (suc v) far = beyond rest v (omega arith)
 
-pub kept_same : (v : ℕ) (table lengths : List ℕ) (w : ℕ) {r : Bool} → r ≡ entry_reads v (table_of table lengths w) → (eqb w v || r) ≡ false
-    → get_or lengths w 0 ≡ kept_length v table lengths w
-unfolding kept_length
-kept_same v table lengths w is stays = rw (← is, stays)
+pub there : (slots : List Slot) (v : ℕ) (d : Slot) → v < length slots → table_in slots v ≡ entry_in (get_or slots v d)
+unfolding table_in
+there [] v d below = absurd (omega arith)
+there (s ∷ rest) zero d below = refl
+there (s ∷ rest) (suc v) d below = there rest v d (omega arith)
 
--- entries end one after the other: those before w have
-pub record Stopping (v : ℕ) (table old new : List ℕ) (w : ℕ) : Type 0 where
-  pub within : w ≤ length old
-  pub size : length new ≡ length old
-  pub done : (k : ℕ) → k < w → get_or new k 0 ≡ kept_length v table old k
-  pub rest : (k : ℕ) → w ≤ k → get_or new k 0 ≡ get_or old k 0
+all-free : (n : ℕ) (s : Slot) → entry_in s ≡ free → (v : ℕ) → table_in (replicate n s) v ≡ free
+unfolding table_in
+all-free zero s none v = refl
+all-free (suc n) s none zero = none
+all-free (suc n) s none (suc v) = all-free n s none v
 
--- a table in words goes by each length
-same-entry : (table old new : List ℕ) (k : ℕ) → get_or new k 0 ≡ get_or old k 0 → table_of table new k ≡ table_of table old k
-unfolding table_of
-same-entry table old new k e = rw e
+-- slots that hold nothing
+pub none_held : (n : ℕ) (s : Slot) → entry_in s ≡ free → table_in (replicate n s) ≡ nothing_held
+none_held n s none = fun_ext (all-free n s none)
 
-same_kept : (v : ℕ) (table old new : List ℕ) (k : ℕ) → get_or new k 0 ≡ get_or old k 0 → kept_length v table new k ≡ kept_length v table old k
-unfolding kept_length
-same_kept v table old new k e = rw (same-entry table old new k e, e)
+-- a slot that holds a tree
+pub entry_held : (s : Slot) (ws : List ℕ) → Wf ws → s.length ≡ length ws → take (length ws) s.words.0 ≡ ws → entry_in s ≡ held (tree_of ws)
+entry_held s ws wf size is = rw (size, ne_eqb (length ws) 0 (λ z. omega (arith, wf-two ws wf)), is)
 
-pub stop-none : (v : ℕ) (table old : List ℕ) → Stopping v table old old 0
-stop-none v table old = record { within = omega arith; size = refl; done = λ k h. absurd (omega arith); rest = λ k h. refl }
+-- one slot is written
+own-slot : (slots : List Slot) (i : ℕ) (s : Slot) → i < length slots → table_in (set slots i s) i ≡ entry_in s
+unfolding table_in
+own-slot [] i s below = absurd (omega arith)
+own-slot (x ∷ rest) zero s below = refl
+own-slot (x ∷ rest) (suc i) s below = own-slot rest i s (omega arith)
 
-pub stop-more : {v : ℕ} {table old new : List ℕ} {w r : ℕ} → Stopping v table old new w → w < length old → r ≡ kept_length v table new w
-    → Stopping v table old (set new w r) (w + 1)
-stop-more {v} {table} {old} {new} {w} {r} s less is = record {
-  within = omega arith;
-  size = length-set new w r ∙ s.size;
-  done = λ k h. by k h (ℕ_discrete k w);
-  rest = λ k h. get_or-set_other new w k r 0 (omega arith) ∙ s.rest k (omega arith);
-}
+other_slot : (slots : List Slot) (i : ℕ) (s : Slot) (k : ℕ) → (k ≡ i → ⊥) → table_in (set slots i s) k ≡ table_in slots k
+unfolding table_in
+other_slot [] i s k off = refl
+other_slot (x ∷ rest) zero s zero off = absurd (off refl)
+other_slot (x ∷ rest) zero s (suc k) off = refl
+other_slot (x ∷ rest) (suc i) s zero off = refl
+other_slot (x ∷ rest) (suc i) s (suc k) off = other_slot rest i s k (λ z. off (ap suc z))
+
+-- all that is held ends: the slots before i are free
+pub record Clearing (slots : List Slot) (i : ℕ) : Type 0 where
+  pub done : (k : ℕ) → k < i → table_in slots k ≡ free
+
+pub clear_none : (slots : List Slot) → Clearing slots 0
+clear_none slots = record { done = λ k h. absurd (omega arith) }
+
+pub clear_more : {slots : List Slot} {i : ℕ} (s : Slot) → Clearing slots i → i < length slots → entry_in s ≡ free → Clearing (set slots i s) (i + 1)
+clear_more {slots} {i} s c below none = record { done = λ k h. by k h (ℕ_discrete k i) }
   where
-    by : (k : ℕ) → k < w + 1 → Dec (k ≡ w) → get_or (set new w r) k 0 ≡ kept_length v table old k
-    by k h (yes e) =
-        rw e (get_or-set_same new w r 0 (omega (arith, s.size)) ∙ is ∙ same_kept v table old new w (s.rest w (omega arith)))
-    by k h (no ne) = get_or-set_other new w k r 0 ne ∙ s.done k (omega arith)
+    by : (k : ℕ) → k < i + 1 → Dec (k ≡ i) → table_in (set slots i s) k ≡ free
+    by k h (yes e) = rw e (own-slot slots i s below ∙ none)
+    by k h (no off) = other_slot slots i s k off ∙ c.done k (omega arith)
+
+pub clear_end : {slots : List Slot} {i : ℕ} → Clearing slots i → length slots ≤ i → table_in slots ≡ nothing_held
+clear_end {slots} {i} c end = fun_ext (λ k. by k (dec_lt k i))
+  where
+    by : (k : ℕ) → Dec (k < i) → table_in slots k ≡ free
+    by k (yes h) = c.done k h
+    by k (no far) = beyond slots k (omega arith)
 
 kept_free : (v : ℕ) (h : Table) (k : ℕ) → h k ≡ free → kept v h k ≡ free
 unfolding kept
@@ -154,231 +148,59 @@ kept_free v h k none = rw none (by (eqb k v))
     by true = refl
     by false = refl
 
--- a length is kept or becomes 0
-kept_either : (v : ℕ) (table old : List ℕ) (k : ℕ) → (kept_length v table old k ≡ get_or old k 0) ⊎ (kept_length v table old k ≡ 0)
-unfolding kept_length
-kept_either v table old k = by (eqb k v || entry_reads v (table_of table old k))
-  where
-    by : (b : Bool) → (cond b 0 (get_or old k 0) ≡ get_or old k 0) ⊎ (cond b 0 (get_or old k 0) ≡ 0)
-    by true = inr refl
-    by false = inl refl
+-- what an assignment to v ends, slot by slot: those before i are passed
+pub record Ending (v : ℕ) (h : Table) (slots : List Slot) (i : ℕ) : Type 0 where
+  pub done : (k : ℕ) → k < i → table_in slots k ≡ kept v h k
+  pub rest : (k : ℕ) → i ≤ k → table_in slots k ≡ h k
 
-stopped-either : {v : ℕ} {table old new : List ℕ} {w : ℕ} → Stopping v table old new w → (k : ℕ)
-    → (get_or new k 0 ≡ get_or old k 0) ⊎ (get_or new k 0 ≡ 0)
-stopped-either {v} {table} {old} {new} {w} s k = by (dec_lt k w)
-  where
-    by : Dec (k < w) → (get_or new k 0 ≡ get_or old k 0) ⊎ (get_or new k 0 ≡ 0)
-    by (yes h) = rw (s.done k h) (kept_either v table old k)
-    by (no h) = inl (s.rest k (omega arith))
+pub end_none : (v : ℕ) (slots : List Slot) → Ending v (table_in slots) slots 0
+end_none v slots = record { done = λ k h. absurd (omega arith); rest = λ k h. refl }
 
-pub stopping-slots : {v : ℕ} {table old new : List ℕ} {w : ℕ} → Slots table old → Stopping v table old new w → Slots table new
-stopping-slots {v} {table} {old} {new} {w} slots s = record {
-  room = omega (arith, slots.room, s.size);
-  places = omega (arith, slots.places, s.size);
-  few = λ k. few-by k (stopped-either s k);
-  whole = λ k h. whole_by k h (stopped-either s k);
-}
-  where
-    few-by : (k : ℕ) → (get_or new k 0 ≡ get_or old k 0) ⊎ (get_or new k 0 ≡ 0) → get_or new k 0 ≤ 256
-    few-by k (inl e) = omega (arith, slots.few k)
-    few-by k (inr e) = omega arith
-
-    whole_by : (k : ℕ) → 0 < get_or new k 0 → (get_or new k 0 ≡ get_or old k 0) ⊎ (get_or new k 0 ≡ 0) → Wf (slot table new k)
-    whole_by k h (inl e) = rw e (slots.whole k (omega arith))
-    whole_by k h (inr e) = absurd (omega arith)
-
-entry_kept : (v : ℕ) (table old new : List ℕ) (k : ℕ) → get_or new k 0 ≡ kept_length v table old k → table_of table new k ≡ kept v (table_of table old) k
-unfolding kept kept_length
-entry_kept v table old new k e = by (eqb k v || entry_reads v (table_of table old k)) e
-  where
-    by : (b : Bool) → get_or new k 0 ≡ cond b 0 (get_or old k 0) → table_of table new k ≡ cond b free (table_of table old k)
-    by true e = free-slot table new k e
-    by false e = same-entry table old new k e
-
--- beyond the slots nothing is held
-beyond-kept : (v : ℕ) (table old new : List ℕ) (k : ℕ) → get_or new k 0 ≡ get_or old k 0 → get_or old k 0 ≡ 0
-    → table_of table new k ≡ kept v (table_of table old) k
-beyond-kept v table old new k e none = free-slot table new k (e ∙ none) ∙ sym (kept_free v (table_of table old) k (free-slot table old k none))
-
-pub stopping-end : {v : ℕ} {table old new : List ℕ} {w : ℕ} → Slots table old → Stopping v table old new w → length new ≤ w
-    → Holds table new (kept v (table_of table old))
-stopping-end {v} {table} {old} {new} {w} slots s end = record {
-  slots = stopping-slots slots s;
-  holds = fun_ext (λ k. by k (dec_lt k w));
-}
-  where
-    by : (k : ℕ) → Dec (k < w) → table_of table new k ≡ kept v (table_of table old) k
-    by k (yes h) = entry_kept v table old new k (s.done k h)
-    by k (no h) = beyond-kept v table old new k (s.rest k (omega arith)) (get_or-eq_default old 0 (omega (arith, s.size)))
-
--- all lengths are made 0: those before i are
-pub record Clearing (old new : List ℕ) (i : ℕ) : Type 0 where
-  pub within : i ≤ length old
-  pub size : length new ≡ length old
-  pub done : (k : ℕ) → k < i → get_or new k 0 ≡ 0
-
-pub clear_none : (old : List ℕ) → Clearing old old 0
-clear_none old = record { within = omega arith; size = refl; done = λ k h. absurd (omega arith) }
-
-pub clear-more : {old new : List ℕ} {i : ℕ} → Clearing old new i → i < length old → Clearing old (set new i 0) (i + 1)
-clear-more {old} {new} {i} s less = record {
-  within = omega arith;
-  size = length-set new i 0 ∙ s.size;
-  done = λ k h. by k h (ℕ_discrete k i);
-}
-  where
-    by : (k : ℕ) → k < i + 1 → Dec (k ≡ i) → get_or (set new i 0) k 0 ≡ 0
-    by k h (yes e) = rw e (get_or-set_same new i 0 0 (omega (arith, s.size)))
-    by k h (no ne) = get_or-set_other new i k 0 0 ne ∙ s.done k (omega arith)
-
-pub clear-end : {old new : List ℕ} {i : ℕ} → Clearing old new i → length new ≤ i → new ≡ replicate (length old) 0
-clear-end {old} {new} {i} s end =
-    ext_get_or 0 new (replicate (length old) 0) (s.size ∙ sym (length-replicate (length old) 0))
-    (λ k h. s.done k (omega arith) ∙ sym (get_or-replicate (length old) k 0 0 (omega (arith, s.size))))
-
-all_none : (n v : ℕ) → ◌≡◌ {A = ℕ} (get_or (replicate n 0) v 0) 0
-all_none n v = by (dec_lt v n)
-  where
-    by : Dec (v < n) → ◌≡◌ {A = ℕ} (get_or (replicate n 0) v 0) 0
-    by (yes h) = get_or-replicate n v 0 0 h
-    by (no h) =
-        let past : length (replicate {A = ℕ} n 0) ≤ v = omega (arith, length-replicate {A = ℕ} n 0) in
-        get_or-eq_default (replicate n 0) 0 past
-
--- then nothing is held
-pub cleared : (table : List ℕ) (n : ℕ) → 256 * n ≤ length table → n ≤ 32 → Holds table (replicate n 0) nothing_held
-cleared table n room places = record {
-  slots = record {
-    room = omega (arith, length-replicate {A = ℕ} n 0);
-    places = omega (arith, length-replicate {A = ℕ} n 0);
-    few = λ v. omega (arith, all_none n v);
-    whole = λ v h. absurd (omega (arith, all_none n v));
-  };
-  holds = fun_ext (λ v. free-slot table (replicate n 0) v (all_none n v));
-}
-
--- ---- a value is stored in its variable's slot
-
-own-place : (d s : List ℕ) (at : ℕ) → at ≤ length d → take (length s) (drop at (paste d at s (length s))) ≡ s
-own-place d s at room =
-    ap (λ (l : List ℕ). take (length s) (drop at l)) (append_assoc (take at d) (take (length s) s) (drop (at + length s) d))
-    ∙ ap (take (length s)) (drop_at (take at d) (take (length s) s ++ drop (at + length s) d) at (length-take-le at d room))
-    ∙ ap (λ (l : List ℕ). take (length s) (l ++ drop (at + length s) d)) (take-length s)
-    ∙ take_at s (drop (at + length s) d) (length s) refl
-
--- what stands before the slot, and behind what is stored, is as it was
-front_same : (x y z : List ℕ) (a n : ℕ) → a + n ≤ length x → take n (drop a (x ++ y)) ≡ take n (drop a (x ++ z))
-front_same x y z a n h =
-    ap (take n) (drop-append-le a x y (omega arith)) ∙ take-append-le n (drop a x) y far
-    ∙ sym (ap (take n) (drop-append-le a x z (omega arith)) ∙ take-append-le n (drop a x) z far)
-  where
-    far : n ≤ length (drop a x)
-    far = omega (arith, length-drop a x)
-
-before-place : (d s : List ℕ) (at a n : ℕ) → at ≤ length d → a + n ≤ at
-    → take n (drop a (paste d at s (length s))) ≡ take n (drop a d)
-before-place d s at a n room h =
-    ap (λ (l : List ℕ). take n (drop a l)) (append_assoc (take at d) (take (length s) s) (drop (at + length s) d))
-    ∙ front_same (take at d) (take (length s) s ++ drop (at + length s) d) (drop at d) a n (omega (arith, length-take-le at d room))
-    ∙ ap (λ (l : List ℕ). take n (drop a l)) (take-append-drop at d)
-
-behind-place : (d s : List ℕ) (at a : ℕ) → at + length s ≤ length d → at + length s ≤ a → drop a (paste d at s (length s)) ≡ drop a d
-behind-place d s at a room h =
-    let split : a ≡ at + length s + (a - (at + length s)) = omega arith in
-    ap (λ (k : ℕ). drop k (paste d at s (length s))) split
-    ∙ sym (drop-drop (a - (at + length s)) (at + length s) (paste d at s (length s)))
-    ∙ ap (drop (a - (at + length s))) (drop-paste d at s (length s) (omega arith) (omega arith))
-    ∙ drop-drop (a - (at + length s)) (at + length s) d
-    ∙ ap (λ (k : ℕ). drop k d) (sym split)
-
-other_place : (d s : List ℕ) (v w n : ℕ) → 256 * v + 256 ≤ length d → length s ≤ 256 → n ≤ 256 → (w ≡ v → ⊥)
-    → take n (drop (256 * w) (paste d (256 * v) s (length s))) ≡ take n (drop (256 * w) d)
-other_place d s v w n room fits few off = by (dec_lt w v)
-  where
-    by : Dec (w < v) → take n (drop (256 * w) (paste d (256 * v) s (length s))) ≡ take n (drop (256 * w) d)
-    by (yes h) = before-place d s (256 * v) (256 * w) n (omega arith) (omega arith)
-    by (no h) = ap (take n) (behind-place d s (256 * v) (256 * w) (omega arith) (omega arith))
-
-module _ {table lengths : List ℕ} {h : Table} (b : Holds table lengths h) (v : ℕ) (small : v < length lengths) (value : List ℕ) (wf : Wf value) (fits : length value ≤ 256) where
-  stored-table : List ℕ
-  stored-table = paste table (256 * v) value (length value)
-
-  stored-lengths : List ℕ
-  stored-lengths = set lengths v (length value)
-
-  own-length : get_or stored-lengths v 0 ≡ length value
-  unfolding stored-lengths
-  own-length = get_or-set_same lengths v (length value) 0 small
-
-  own-slot : slot stored-table stored-lengths v ≡ value
-  unfolding stored-table
-  own-slot = rw own-length (own-place table value (256 * v) (omega (arith, b.slots.room)))
-
-  other_length : (w : ℕ) → (w ≡ v → ⊥) → get_or stored-lengths w 0 ≡ get_or lengths w 0
-  unfolding stored-lengths
-  other_length w off = get_or-set_other lengths v w (length value) 0 off
-
-  other-slot : (w : ℕ) → (w ≡ v → ⊥) → slot stored-table stored-lengths w ≡ slot table lengths w
-  unfolding stored-table
-  other-slot w off = rw (other_length w off) (other_place table value v w (get_or lengths w 0) (omega (arith, b.slots.room)) fits (b.slots.few w) off)
-
-  own-entry : table_of stored-table stored-lengths v ≡ held (tree_of value)
-  own-entry =
-      held-slot stored-table stored-lengths v (λ z. omega (arith, wf-two value wf, own-length)) ∙ ap (λ (l : List ℕ). held (tree_of l)) own-slot
-
-  other-entry : (w : ℕ) → (w ≡ v → ⊥) → table_of stored-table stored-lengths w ≡ h w
-  unfolding table_of
-  other-entry w off = rw (other-slot w off, other_length w off) (ap (λ (t : Table). t w) b.holds)
-
-  stored-slots : Slots stored-table stored-lengths
-  unfolding stored-table stored-lengths
-  stored-slots = record {
-    room =
-        omega (
-          arith,
-          b.slots.room,
-          length-paste table (256 * v) value (length value) (omega (arith, b.slots.room)) (omega arith),
-          length-set lengths v (length value),
-        );
-    places = omega (arith, b.slots.places, length-set lengths v (length value));
-    few = λ w. few-by w (ℕ_discrete w v);
-    whole = λ w some. whole_by w some (ℕ_discrete w v);
+module _ {v : ℕ} {h : Table} {slots : List Slot} {i : ℕ} (c : Ending v h slots i) where
+  end_set : (s : Slot) → i < length slots → entry_in s ≡ kept v h i → Ending v h (set slots i s) (i + 1)
+  end_set s below is = record {
+    done = λ k less. by k less (ℕ_discrete k i);
+    rest = λ k more. other_slot slots i s k (λ e. omega arith) ∙ c.rest k (omega arith);
   }
     where
-      few-by : (w : ℕ) → Dec (w ≡ v) → get_or stored-lengths w 0 ≤ 256
-      few-by w (yes e) = rw e (omega (arith, own-length))
-      few-by w (no off) = omega (arith, other_length w off, b.slots.few w)
+      by : (k : ℕ) → k < i + 1 → Dec (k ≡ i) → table_in (set slots i s) k ≡ kept v h k
+      by k less (yes e) = rw e (own-slot slots i s below ∙ is)
+      by k less (no off) = other_slot slots i s k off ∙ c.done k (omega arith)
 
-      whole_by : (w : ℕ) → 0 < get_or stored-lengths w 0 → Dec (w ≡ v) → Wf (slot stored-table stored-lengths w)
-      whole_by w some (yes e) = rw (e, own-slot) wf
-      whole_by w some (no off) = rw (other-slot w off) (b.slots.whole w (omega (arith, other_length w off)))
+  pub end_more : (d new : Slot) → i < length slots
+      → entry_in new ≡ cond (eqb i v || entry_reads v (entry_in (get_or slots i d))) free (entry_in (get_or slots i d)) → Ending v h (set slots i new) (i + 1)
+  unfolding kept
+  end_more d new below ends =
+      let here : h i ≡ entry_in (get_or slots i d) = sym (c.rest i (omega arith)) ∙ there slots i d below in
+      end_set new below (ends ∙ ap (λ (e : Entry). cond (eqb i v || entry_reads v e) free e) (sym here))
 
--- After an assignment: the value is held, or it is not.
-pub assigned-held : {table lengths table' : List ℕ} (g : Table) (v : ℕ) (value : List ℕ) {hold : Bool} → Holds table lengths (kept v g) → v < length lengths → Wf value
-    → length value ≤ 256 → hold ≡ holdable v g (tree_of value) → hold ≡ true → table' ≡ paste table (256 * v) value (length value)
-    → Holds table' (set lengths v (length value)) (assigned v (tree_of value) g)
-unfolding assigned stored-table stored-lengths
-assigned-held {table} {lengths} {table'} g v value {hold} b small wf fits is yes-held new = rw new (record {
-  slots = stored-slots b v small value wf fits;
-  holds = fun_ext (λ w. by w (eqb w v) refl);
-})
+  pub end_all : length slots ≤ i → table_in slots ≡ kept v h
+  unfolding kept
+  end_all end = fun_ext (λ k. by k (dec_lt k i))
+    where
+      by : (k : ℕ) → Dec (k < i) → table_in slots k ≡ kept v h k
+      by k (yes less) = c.done k less
+      by k (no far) =
+          let none : h k ≡ free = sym (c.rest k (omega arith)) ∙ beyond slots k (omega arith) in
+          beyond slots k (omega arith) ∙ sym (kept_free v h k none)
+
+-- the value is held, or it is not
+pub assigned_held : (g : Table) (v : ℕ) (e : Expr) (slots : List Slot) (s : Slot) → table_in slots ≡ kept v g → v < length slots → entry_in s ≡ held e
+    → holdable v g e ≡ true → table_in (set slots v s) ≡ assigned v e g
+unfolding assigned
+assigned_held g v e slots s before below is yes-held = fun_ext (λ w. by w (eqb w v) refl)
   where
-    entry : entry_of v g (tree_of value) ≡ held (tree_of value)
-    entry = rw (← is, yes-held)
+    by : (w : ℕ) (t : Bool) → eqb w v ≡ t → table_in (set slots v s) w ≡ cond t (entry_of v g e) (kept v g w)
+    by w true q = rw (eqb-true w v q, yes-held) (own-slot slots v s below ∙ is)
+    by w false q = other_slot slots v s w (eqb-false w v q) ∙ ap (λ (t : Table). t w) before
 
-    by : (w : ℕ) (t : Bool) → eqb w v ≡ t
-        → table_of (paste table (256 * v) value (length value)) (set lengths v (length value)) w ≡ cond t (entry_of v g (tree_of value)) (kept v g w)
-    by w true e = rw (eqb-true w v e) (own-entry b v small value wf fits ∙ sym entry)
-    by w false e = other-entry b v small value wf fits w (eqb-false w v e)
-
-pub assigned-free : {table lengths : List ℕ} (g : Table) (v : ℕ) (value : List ℕ) {hold : Bool} → Holds table lengths (kept v g)
-    → hold ≡ holdable v g (tree_of value) → hold ≡ false → Holds table lengths (assigned v (tree_of value) g)
+pub assigned_free : (g : Table) (v : ℕ) (e : Expr) (t : Table) → t ≡ kept v g → holdable v g e ≡ false → t ≡ assigned v e g
 unfolding assigned kept
-assigned-free {table} {lengths} g v value {hold} b is not-held = record { slots = b.slots; holds = b.holds ∙ fun_ext (λ w. by w (eqb w v)) }
+assigned_free g v e t before not-held = before ∙ fun_ext (λ w. by w (eqb w v))
   where
-    entry : entry_of v g (tree_of value) ≡ free
-    entry = rw (← is, not-held)
+    entry : entry_of v g e ≡ free
+    entry = rw not-held
 
-    by : (w : ℕ) (t : Bool) → cond (t || entry_reads v (g w)) free (g w) ≡ cond t (entry_of v g (tree_of value)) (cond (t || entry_reads v (g w)) free (g w))
+    by : (w : ℕ) (t : Bool) → cond (t || entry_reads v (g w)) free (g w) ≡ cond t (entry_of v g e) (cond (t || entry_reads v (g w)) free (g w))
     by w true = sym entry
     by w false = refl

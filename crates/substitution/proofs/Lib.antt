@@ -9,6 +9,5 @@ pub mod Admitted
 pub mod Backward
 -- the held table in borrowed words
 pub mod Entries
-pub mod Taken
 -- where nothing is held
 pub mod Nothing

@@ -22,5 +22,5 @@ nothing-changes (ternary c a b) = rw (nothing-changes c, nothing-changes a, noth
 
 -- a condition without statements before it
 pub nothing-assigned : (ws : List ℕ) → Wf ws → length ws ≤ 256 → with_assignments [] (tree_of ws) ≡ into (tree_of ws)
-unfolding substituted Wf
+unfolding substituted
 nothing-assigned ws wf short = rw (nothing-changes (tree_of ws), not-long (tree_of ws) (rw wf short))

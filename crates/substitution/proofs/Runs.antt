@@ -4,6 +4,7 @@
 -- An assignment changes ρ only at what is not held afterwards. So a held expression keeps its value where it reads no such variable but those that had
 -- their present value already. It may read a variable w that is held itself, by the value from before; what ends w must then end it too. That is why
 -- it reads all that w's expression reads (`closed`), and why a new value that reads a variable whose held value just ends is not held (N16).
+use Rattle.std.specs.Prelude.{Option, Some, None}
 use mathlib.Core.Path.{◌≡◌, refl, sym, ap, ◌∙◌}
 use mathlib.Core.Bool.{Bool, true, false, cond, not, ◌||◌, false≢true}
 use mathlib.Core.List.{List, [], ◌∷◌}
@@ -22,10 +23,6 @@ use Rattle.expr.specs.Types.{type_of}
 use Rattle.expr.specs.Admission.{AdmittedAll}
 use Rattle.expr.proofs.Plainness.{plain-parts}
 use Rattle.arith.specs.Numbers.{bits}
-use Rattle.value.specs.declared.Value.{Value}
-use Rattle.value.specs.declared.Value.TheVariants.{Of, NoValue}
-use Rattle.value.specs.declared.Truth.{Truth}
-use Rattle.value.specs.declared.Truth.TheVariants.{NoOutcome}
 use Rattle.value.specs.Operators.{chosen, truth_of}
 use Rattle.value.specs.Evaluation.{Values, Contents, Memory, Effects, shared, ev}
 use Rattle.value.specs.Run.{Choices, update, given, run_from, run}
@@ -192,7 +189,7 @@ beside free x y = y
 beside (held e) x y = x
 
 module _ {types : List ℕ} {h : Table} {ρ ν : Values} (p : Present types h ρ ν) (v : ℕ) (s : Expr) (x : ℕ) (m₀ : Memory) (f₀ : Effects)
-    (alike : Alike (type_of types s) (get_or types v 0)) (is : ev types ρ ν m₀ f₀ s ≡ Of x)
+    (alike : Alike (type_of types s) (get_or types v 0)) (is : ev types ρ ν m₀ f₀ s ≡ Some x)
     (closed-new : has_load s ≡ false → (w : ℕ) (d : Expr) → h w ≡ held d → reads w s ≡ true → (y : ℕ) → reads y d ≡ true → reads y s ≡ true) where
   after : Values
   after w = beside (assigned v s h w) (ρ w) (update v x ν w)
@@ -216,11 +213,11 @@ module _ {types : List ℕ} {h : Table} {ρ ν : Values} (p : Present types h ρ
       by (held d) q = refl
 
   -- the value fits its variable
-  fits : Of x ≡ chosen (get_or types v 0) x
+  fits : Some x ≡ chosen (get_or types v 0) x
   fits =
       let small : x < 2 ^ bits (type_of types s) = rw is at (ev-typed types ρ ν m₀ f₀ s) in
       let width : bits (type_of types s) ≡ bits (get_or types v 0) = bits-alike (type_of types s) (get_or types v 0) alike in
-      ap Of (sym (mod-eq_of_lt (rw width at small)))
+      ap Some (sym (mod-eq_of_lt (rw width at small)))
 
   value-new : holdable v h s ≡ true → (σ : Values) (m : Memory) (f : Effects) → ev types after σ m f s ≡ chosen (get_or types v 0) x
   unfolding assigned
@@ -280,7 +277,7 @@ record Next (types : List ℕ) (h : Table) (ν : Values) : Type 0 where
   present : Present types h at ν
 
 assigns : {types : List ℕ} {h : Table} {ρ ν : Values} → Present types h ρ ν → (v x : ℕ) (e : Expr) (m : Memory) (f : Effects)
-    → Alike (type_of types e) (get_or types v 0) → ev types ν ν m f e ≡ Of x → Next types (assigned v (substitute h e) h) (update v x ν)
+    → Alike (type_of types e) (get_or types v 0) → ev types ν ν m f e ≡ Some x → Next types (assigned v (substitute h e) h) (update v x ν)
 assigns {types} {h} {ρ} {ν} p v x e m f alike is = record {
   at = after p v (substitute h e) x m f same value reads_all;
   present = present-after p v (substitute h e) x m f same value reads_all;
@@ -289,7 +286,7 @@ assigns {types} {h} {ρ} {ν} p v x e m f alike is = record {
     same : Alike (type_of types (substitute h e)) (get_or types v 0)
     same = type-kept types h (stands-typed p) e ∙ alike
 
-    value : ev types ρ ν m f (substitute h e) ≡ Of x
+    value : ev types ρ ν m f (substitute h e) ≡ Some x
     value = value-kept types h ρ ν (stands-typed p) (stands-for p) m f e ∙ is
 
     reads_all : has_load (substitute h e) ≡ false → (w : ℕ) (d : Expr) → h w ≡ held d → reads w (substitute h e) ≡ true
@@ -303,7 +300,7 @@ pub never : {a : Expr} → too_long ≡ into a → ⊥
 never q = let z : ◌≡◌ {A = ℕ} 0 1 = cc in omega arith
 
 -- What holds of every evaluation of the substituted condition, and where there is no outcome, holds of the outcome of every run.
-module _ (types : List ℕ) (condition result : Expr) (P : Truth → Type 0) (without : P NoOutcome)
+module _ (types : List ℕ) (condition result : Expr) (P : Option Bool → Type 0) (without : P None)
     (each : (ρ σ : Values) (m : Contents) (f : Effects) → P (truth_of (ev types ρ σ (shared m) f result))) (c : Choices) where
   from : (statements : List Statement) → AdmittedAll types statements → (h : Table) (ρ ν : Values) → Present types h ρ ν → (i : ℕ)
       → substituted h statements condition ≡ into result → P (run_from types c condition i statements ν)
@@ -323,14 +320,14 @@ module _ (types : List ℕ) (condition result : Expr) (P : Truth → Type 0) (wi
       (λ x is q. let next = assigns p v x e (c.memory i) (c.effects i) (same_alike (type_of types e) (get_or types v 0) t.0.typed) is in
       from rest t.1 (assigned v (substitute h e) h) next.at (update v x ν) next.present (suc i) q)
     where
-      by : (u : Value) → ev types ν ν (c.memory i) (c.effects i) e ≡ u → (b : Bool)
+      by : (u : Option ℕ) → ev types ν ν (c.memory i) (c.effects i) e ≡ u → (b : Bool)
           → cond b too_long (substituted (assigned v (substitute h e) h) rest condition) ≡ into result
-          → ((x : ℕ) → ev types ν ν (c.memory i) (c.effects i) e ≡ Of x
+          → ((x : ℕ) → ev types ν ν (c.memory i) (c.effects i) e ≡ Some x
           → substituted (assigned v (substitute h e) h) rest condition ≡ into result → P (run_from types c condition (suc i) rest (update v x ν)))
           → P (given u (λ x. run_from types c condition (suc i) rest (update v x ν)))
       by u is true q next = absurd (never q)
-      by NoValue is false q next = without
-      by (Of x) is false q next = next x is q
+      by None is false q next = without
+      by (Some x) is false q next = next x is q
 
   pub every-run : (statements : List Statement) → AdmittedAll types statements → with_assignments statements condition ≡ into result
       → P (run types statements condition c)

@@ -1,3 +1,3 @@
 pub mod Substitution
-pub mod Words
+pub mod Held
 pub mod Examples

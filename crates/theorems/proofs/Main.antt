@@ -1,5 +1,6 @@
 -- The theorems about the product, together: each with a sentence, and its statement as a whole. Their proofs are in the files that they cite. Who
 -- believes the definitions that stand in a statement need not read on; docs/TRUST.md lists them for each.
+use Rattle.std.specs.Prelude.{Some, None}
 use Prim.Native.Nat.{ℕ, ◌<◌, ◌≤◌}
 use mathlib.Core.Path.{◌≡◌}
 use mathlib.Core.List.{List}
@@ -9,7 +10,6 @@ use lib.ListN.{length}
 use Rattle.expr.specs.Codes.{op_equal, op_not_equal}
 use Rattle.expr.specs.Tree.{Expr}
 use Rattle.expr.specs.Tree.Expr.{binary}
-use Rattle.value.specs.declared.Truth.TheVariants as truth
 use Rattle.value.specs.Evaluation.{Values, Contents, Effects, shared, ev}
 use Rattle.value.specs.Run.{Choices, run}
 use Rattle.sheet.specs.declared.Sheet.{Sheet}
@@ -200,7 +200,7 @@ evaluations = answers-run
 -- Where an answer comes from the run, it is refusal 14 exactly when no run from the borrowed values has an outcome.
 pub no-outcome : (s : List ℕ) (number : ℕ) (values : List ℕ) → AnswerFromRun (evaluation_answer s number values)
     → (evaluation_answer s number values ≡ refused 14 (node_place s number))
-    ↔ ((c : Choices) → StartsFrom (node_numbered s number).types values c → node_run s number c ≡ truth.NoOutcome)
+    ↔ ((c : Choices) → StartsFrom (node_numbered s number).types values c → node_run s number c ≡ None)
 no-outcome = fourteen
 
 -- The evaluation refuses with reading's numbers or with 13 to 16; so 0, which a C host gets with an answer, is no refusal.
@@ -223,5 +223,5 @@ pub worked-sheets : Worked
 worked-sheets = as-worked
 
 -- The probe table's node is undecided (a marked row), and must be: there is a run in which its two sides agree.
-pub probe-table : (c : Choices) × (run probe.types probe.statements probe.condition c ≡ truth.Holds)
+pub probe-table : (c : Choices) × (run probe.types probe.statements probe.condition c ≡ Some true)
 probe-table = probe-run

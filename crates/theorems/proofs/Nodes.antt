@@ -1,5 +1,6 @@
 -- Nodes: a verdict is right of every run that has an outcome. The substituted condition speaks for every run (crate substitution),
 -- and `decide` is right of every evaluation of it (crate decide); that constants are below their width goes through substitution.
+use Rattle.std.specs.Prelude.{Option, Some, None}
 use Prim.Native.Nat.{ℕ, zero, suc, ◌<◌, ◌≤◌}
 use mathlib.Core.Path.{◌≡◌, refl, sym, subst}
 use mathlib.Core.Bool.{Bool, true, false, cond, ◌||◌}
@@ -15,11 +16,6 @@ use Rattle.expr.specs.Tree.{Expr, flat}
 use Rattle.expr.specs.Tree.Expr.{variable, constant, condition_true, condition_false, effect, load, cast, binary, ternary}
 use Rattle.expr.specs.Statement.{Statement}
 use Rattle.expr.specs.Statement.Statement.{assignment, other}
-use Rattle.value.specs.declared.Value.{Value}
-use Rattle.value.specs.declared.Value.TheVariants.{Of, NoValue}
-use Rattle.value.specs.declared.Truth.{Truth}
-use Rattle.value.specs.declared.Truth.TheVariants.{NoOutcome}
-use Rattle.value.specs.declared.Truth.TheVariants as truth
 use Rattle.value.specs.Operators.{truth_of, operate, operators, arithmetics, shifts, comparisons}
 use Rattle.expr.specs.Types.{bits, plain_type, promoted, common, constant_type, binary_type, type_of}
 use Rattle.arith.specs.Numbers.{convert, number, residue, negative}
@@ -152,12 +148,12 @@ abbrev pub Fair : Node → Type 0
 Fair n = AdmittedNode n.types n.statements n.condition
 
 -- the run of a node has an outcome that is as the verdict says
-abbrev pub AsSaid : Verdict → Truth → Type 0
-AsSaid v t = (t ≡ NoOutcome → ⊥) → Meets v t
+abbrev pub AsSaid : Verdict → Option Bool → Type 0
+AsSaid v t = (t ≡ None → ⊥) → Meets v t
 
-outcome-has : (u : Value) → (truth_of u ≡ NoOutcome → ⊥) → Has u
-outcome-has (Of x) h = tt
-outcome-has NoValue h = h refl
+outcome-has : (u : Option ℕ) → (truth_of u ≡ None → ⊥) → Has u
+outcome-has (Some x) h = tt
+outcome-has None h = h refl
 
 given-same : {v w : Verdict} → Given v ≡ Given w → v ≡ w
 given-same q = cc
@@ -204,7 +200,7 @@ numbered-fair s sheet small read number = go (dec_lt number (length (sheet_at s)
     go (no high) = rw (get_or-eq_default (sheet_at s).nodes.list no_node {n = number} (omega arith)) none-fair
 
 numbers-meet : (v : Verdict) (value reason : ℕ) (went : Bool) → verdict_numbers v ≡ decision value reason
-    → Meets v (cond went truth.Holds truth.Fails) → value ≡ cond went 1 0
+    → Meets v (cond went (Some true) (Some false)) → value ≡ cond went 1 0
 numbers-meet (Always r) value reason true e h = cc
 numbers-meet (Always r) value reason false e h = let z : ◌≡◌ {A = ℕ} 0 1 = cc in absurd (omega arith)
 numbers-meet (Never r) value reason true e h = let z : ◌≡◌ {A = ℕ} 0 1 = cc in absurd (omega arith)
@@ -212,7 +208,7 @@ numbers-meet (Never r) value reason false e h = cc
 numbers-meet Undecided value reason went e h = let z : ◌≡◌ {A = ℕ} 0 1 = cc in absurd (omega arith)
 numbers-meet NoBranch value reason went e h = let z : ◌≡◌ {A = ℕ} 0 1 = cc in absurd (omega arith)
 
-some-outcome : (went : Bool) (t : Truth) → t ≡ cond went truth.Holds truth.Fails → t ≡ NoOutcome → ⊥
+some-outcome : (went : Bool) (t : Option Bool) → t ≡ cond went (Some true) (Some false) → t ≡ None → ⊥
 some-outcome true t is none = let z : ◌≡◌ {A = ℕ} 0 1 = cc in omega arith
 some-outcome false t is none = let z : ◌≡◌ {A = ℕ} 0 1 = cc in omega arith
 
@@ -283,6 +279,6 @@ evaluation-agrees s small number values got value reason e q =
     go (suc k) bit says = omega (arith, bit, node-runs s small number value reason q true (lent values, says))
 
 -- The probe table: a slot that is moved by an odd step and then copied. The two are equal afterwards, as this run shows, so no verdict may say that they never are.
-pub probe-run : (c : Choices) × (run probe.types probe.statements probe.condition c ≡ truth.Holds)
+pub probe-run : (c : Choices) × (run probe.types probe.statements probe.condition c ≡ Some true)
 unfolding run_from ev type_of operate operators arithmetics shifts comparisons promoted common constant_type binary_type bits plain_type convert number residue negative
 probe-run = (lent [], refl)

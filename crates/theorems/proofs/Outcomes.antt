@@ -1,5 +1,6 @@
 -- Evaluation, by the answers that its contract speaks of: whatever the bytes, the number and the borrowed values, an answer is what every run of that
 -- node does that starts from those values.
+use Rattle.std.specs.Prelude.{Option, None}
 use Prim.Native.Nat.{ℕ, ◌≤◌, ◌<◌}
 use mathlib.Core.Path.{◌≡◌, refl, sym, ap, ◌∙◌}
 use mathlib.Core.List.{List}
@@ -17,8 +18,6 @@ use Rattle.sheet.specs.declared.Reading.TheVariants as reading
 use Rattle.sheet.specs.Sheet.{sheet_at, reading_of, no_node, node_numbered, node_place}
 use Rattle.sheet.proofs.ByNumber.{node-places-count, nth-node-read, nth-node-is}
 use Rattle.sheet.proofs.Refusals.{ByReading, reading-number}
-use Rattle.value.specs.declared.Truth.{Truth}
-use Rattle.value.specs.declared.Truth.TheVariants as truth
 use Rattle.value.specs.Run.{Choices}
 use Rattle.evaluate_node.specs.declared.Evaluation.{Evaluation}
 use Rattle.evaluate_node.specs.declared.Evaluation.TheVariants as evaluation
@@ -41,7 +40,7 @@ declared-only s sheet read number below =
     rw (← nth-node-is s sheet read number {places = places} {r = node} refl there refl no_node)
     (reads-declared s (At (get_or places number 0)) {a = r.on.0} r.on.1)
 
-says : (e : Evaluation) (t : Truth) → Gives e t → SaysOf (in_numbers e) t
+says : (e : Evaluation) (t : Option Bool) → Gives e t → SaysOf (in_numbers e) t
 says evaluation.Holds t h = h
 says evaluation.Fails t h = h
 says (evaluation.Refused k at) t h = h
@@ -95,16 +94,16 @@ lent-starts types values v below = refl
 -- The theorem on 14: where an answer comes from the run, it is 14 exactly when no run that starts from the borrowed values has an outcome.
 pub fourteen : (s : List ℕ) (number : ℕ) (values : List ℕ) → AnswerFromRun (evaluation_answer s number values)
     → (evaluation_answer s number values ≡ refused 14 (node_place s number))
-    ↔ ((c : Choices) → StartsFrom (node_numbered s number).types values c → node_run s number c ≡ truth.NoOutcome)
+    ↔ ((c : Choices) → StartsFrom (node_numbered s number).types values c → node_run s number c ≡ None)
 fourteen s number values from = (
   (λ e c starts. said (evaluation_answer s number values) (node_run s number c) e (answers-run s number values c starts)),
   (λ none.
       let c = lent values in
       let starts = lent-starts (node_numbered s number).types values in
-      answer-outcome s number values c starts from ∙ ap (λ (t : Truth). in_numbers (on_truth (node_place s number) t)) (none c starts)),
+      answer-outcome s number values c starts from ∙ ap (λ (t : Option Bool). in_numbers (on_truth (node_place s number) t)) (none c starts)),
 )
   where
-    said : (a : Evaluated) (t : Truth) → a ≡ refused 14 (node_place s number) → SaysOf a t → t ≡ truth.NoOutcome
+    said : (a : Evaluated) (t : Option Bool) → a ≡ refused 14 (node_place s number) → SaysOf a t → t ≡ None
     said a t e h = let g : SaysOf (refused 14 (node_place s number)) t = rw e at h in g refl
 
 -- the numbers that the evaluation refuses with: reading's 1 to 9, 13, and the node's 14 to 16

@@ -1,5 +1,5 @@
 -- Runs: of a block, and of a block or node alike; and when a branch is forced.
-use Rattle.std.specs.Prelude.{ℕ, zero, suc, ◌≡◌, List, Bool, cond}
+use Rattle.std.specs.Prelude.{Option, Some, None, ℕ, zero, suc, ◌≡◌, List, Bool, cond}
 use Rattle.isa.specs.declared.Mnemonic.{Mnemonic}
 use Rattle.isa.specs.declared.Instruction.{Instruction}
 use Rattle.concrete.specs.Concrete.{Processor, Choice, executed_all, outcome}
@@ -9,8 +9,6 @@ use Rattle.machine.specs.Registers.{nothing_known}
 use Rattle.machine.specs.Rules.{stepped_all}
 use Rattle.verdict.specs.Numbers.{Numbers}
 use Rattle.sheet.specs.Sheet.{node_numbered}
-use Rattle.value.specs.declared.Truth.{Truth}
-use Rattle.value.specs.declared.Truth.TheVariants as truth
 use Rattle.value.specs.Run.{Choices, run}
 use Rattle.answer_block.specs.Block.{block_answer}
 use Rattle.answer_node.specs.Node.{node_answer}
@@ -31,14 +29,14 @@ pub record BlockRun (s : List ℕ) (number : ℕ) (went : Bool) : Type 0 where
   pub jumps : outcome last.mnemonic (executed_all start before free) chosen ≡ went
 
 -- the run of the node of that number
-abbrev pub node_run : List ℕ → ℕ → Choices → Truth
+abbrev pub node_run : List ℕ → ℕ → Choices → Option Bool
 node_run s number c = run (node_numbered s number).types (node_numbered s number).statements (node_numbered s number).condition c
 
 -- What an answer says of a run's outcome: 1 that the condition holds, 0 that it does not, 14 that there is none; other refusals say nothing.
-abbrev pub SaysOf : Evaluated → Truth → Type 0
-SaysOf (evaluated zero) t = t ≡ truth.Fails
-SaysOf (evaluated (suc value)) t = t ≡ truth.Holds
-SaysOf (refused number place) t = number ≡ 14 → t ≡ truth.NoOutcome
+abbrev pub SaysOf : Evaluated → Option Bool → Type 0
+SaysOf (evaluated zero) t = t ≡ Some false
+SaysOf (evaluated (suc value)) t = t ≡ Some true
+SaysOf (refused number place) t = number ≡ 14 → t ≡ None
 
 -- an answer that comes from the node's run: an outcome, or 14
 abbrev pub AnswerFromRun : Evaluated → Type 0
@@ -57,7 +55,7 @@ answer_for s (node number) = node_answer s number
 -- Some run of it has an outcome, and this one: the branch jumps, or the condition holds, or not (M24, M29, N20, N23, S34).
 abbrev pub Ends : List ℕ → Source → Bool → Type 0
 Ends s (block number) went = BlockRun s number went
-Ends s (node number) went = (c : Choices) × (node_run s number c ≡ cond went truth.Holds truth.Fails)
+Ends s (node number) went = (c : Choices) × (node_run s number c ≡ cond went (Some true) (Some false))
 
 -- Forced (a term of the scope document) one way: the branch jumps, or does not, in every concrete state that agrees with
 -- what is known, whatever is unknown (M21).

@@ -1,5 +1,6 @@
 -- What the value of an expression does not depend on: the effects where nothing has a value of its own; memory and what variables are inside
 -- loads where there is no load; a variable that is not read; in a condition, the position of a load. Assumes nothing.
+use Rattle.std.specs.Prelude.{Option, Some, None}
 use mathlib.Core.Path.{◌≡◌, refl, sym, ap, ap₂, ◌∙◌}
 use mathlib.Core.Bool.{Bool, true, false, cond, ◌||◌, false≢true}
 use mathlib.Core.List.{List, []}
@@ -13,8 +14,6 @@ use Rattle.expr.specs.Tree.Expr.{variable, constant, condition_true, condition_f
 use Rattle.expr.specs.Types.{type_of}
 use Rattle.expr.specs.Scan.{any_node, is_effect, is_load, is_variable, has_own_value, has_load, reads}
 use Rattle.value.specs.Operators.{chosen, taken, operate}
-use Rattle.value.specs.declared.Value.{Value}
-use Rattle.value.specs.declared.Value.TheVariants.{Of, NoValue}
 use Rattle.value.specs.Evaluation.{Values, Contents, Memory, Effects, under, shared, loaded, ev}
 use Rattle.value.specs.Run.{update}
 use Rattle.laws.proofs.Booleans.{or_left, or_right, in_left, in_right}
@@ -119,14 +118,14 @@ without-variable types v x y ρ σ m f e h =
 -- ---- loads in a condition
 
 -- a load by its address as a pointer
-found : ℕ → Contents → Value → Value
-found t m (Of x) = chosen t (m t x)
-found t m NoValue = NoValue
+found : ℕ → Contents → Option ℕ → Option ℕ
+found t m (Some x) = chosen t (m t x)
+found t m None = None
 
-loaded_found : (t s : ℕ) (m : Contents) (v : Value) → loaded t s m v ≡ found t m (taken s 8 v)
+loaded_found : (t s : ℕ) (m : Contents) (v : Option ℕ) → loaded t s m v ≡ found t m (taken s 8 v)
 unfolding found
-loaded_found t s m (Of x) = refl
-loaded_found t s m NoValue = refl
+loaded_found t s m (Some x) = refl
+loaded_found t s m None = refl
 
 -- in a condition two loads of one type agree where their addresses do
 pub loads-agree : (types : List ℕ) (ρ σ : Values) (m : Contents) (f f' : Effects) (t : ℕ) (a b : Expr)

@@ -1,5 +1,6 @@
 -- Evaluation on borrowed values is a node's run. An expression without load and effect does not look at memory, at the effects or at what variables
 -- are inside loads; so each statement of a run, on values that stand in a list, is one evaluation. Assumes nothing.
+use Rattle.std.specs.Prelude.{Option, Some, None}
 use mathlib.Core.Path.{◌≡◌, refl, sym, ap, fun_ext, ◌∙◌}
 use mathlib.Core.Bool.{Bool, true, false, cond}
 use mathlib.Core.List.{List, [], ◌∷◌}
@@ -11,9 +12,6 @@ use lib.Seq.{get_or-set_same, get_or-set_other}
 use borrow.Author.Tests.{eqb-true, eqb-false}
 use Rattle.expr.specs.Tree.{Expr}
 use Rattle.expr.specs.Scan.{has_own_value, has_load}
-use Rattle.value.specs.declared.Value.{Value}
-use Rattle.value.specs.declared.Value.TheVariants.{Of, NoValue}
-use Rattle.value.specs.declared.Truth.TheVariants.{NoOutcome}
 use Rattle.value.specs.Operators.{truth_of}
 use Rattle.value.specs.Evaluation.{Values, Memory, Effects, shared, ev, evaluated, settled}
 use Rattle.expr.specs.Statement.{Statement}
@@ -50,17 +48,17 @@ module _ (types : List ℕ) (c : Choices) (condition : Expr) (i : ℕ) (values :
 
   module _ (v : ℕ) (e : Expr) (rest : List Statement) (p : Plain e) where
     -- an assignment goes on from the list with its variable's value stored
-    pub assigns : (x : ℕ) → v < length values → evaluated types values e ≡ Of x
+    pub assigns : (x : ℕ) → v < length values → evaluated types values e ≡ Some x
         → run_from types c condition i (assignment v e ∷ rest) (lent values) ≡ run_from types c condition (suc i) rest (lent (ListN.set values v x))
     unfolding run_from
     assigns x h g =
-        ap (λ (u : Value). given u (λ x. run_from types c condition (suc i) rest (update v x (lent values)))) (run_value (c.memory i) e p ∙ g)
+        ap (λ (u : Option ℕ). given u (λ x. run_from types c condition (suc i) rest (update v x (lent values)))) (run_value (c.memory i) e p ∙ g)
         ∙ ap (run_from types c condition (suc i) rest) (lent-set values v x h)
 
     -- or has no outcome
-    pub stops : evaluated types values e ≡ NoValue → run_from types c condition i (assignment v e ∷ rest) (lent values) ≡ NoOutcome
+    pub stops : evaluated types values e ≡ None → run_from types c condition i (assignment v e ∷ rest) (lent values) ≡ None
     unfolding run_from
-    stops g = ap (λ (u : Value). given u (λ x. run_from types c condition (suc i) rest (update v x (lent values)))) (run_value (c.memory i) e p ∙ g)
+    stops g = ap (λ (u : Option ℕ). given u (λ x. run_from types c condition (suc i) rest (update v x (lent values)))) (run_value (c.memory i) e p ∙ g)
 
   -- after the last statement the outcome is the condition's
   pub ends : Plain condition → run_from types c condition i [] (lent values) ≡ settled types values condition

@@ -1,116 +1,131 @@
 // The value of an expression on given values of its variables.
 #![tactic(auto)]
 
-ghost use Rattle.std.specs.Prelude.{◌≡◌, true, false, cond, ◌-◌, ◌%◌, ◌^◌, ◌≤◌, ◌<◌, length, get_or};
-ghost use Rattle.expr.specs.Codes.{kind_effect, kind_ternary};
-ghost use Rattle.expr.specs.Tree.{kind_of, Wf, tree_of};
-ghost use Rattle.arith.specs.Numbers.{bits, quotient, remainder};
-ghost use Rattle.value.specs.Operators.{Typed, integer_of, truth_of, flag, taken, divides, arithmetics, shifts, comparisons, no_operation, operators, no_operator, strict};
+ghost use Rattle.std.specs.Prelude.{◌≡◌, None, true, cond, ◌+◌, ◌-◌, ◌^◌, ◌≤◌, ◌<◌, length, get_or, is_some, IfSome};
+ghost use Rattle.expr.specs.Codes.{signed32};
+ghost use Rattle.expr.specs.Root.{root_of, root_argument};
+ghost use Rattle.expr.specs.Scan.{plain_expr};
+ghost use Rattle.expr.specs.Tree.{tree_of};
+ghost use Rattle.expr.specs.Tree.Expr.{cast as cast_tree, binary as binary_tree, ternary as ternary_tree};
+ghost use Rattle.expr.specs.Types.{binary_type, type_of};
+ghost use Rattle.expr.specs.declared.Root.TheVariants as root;
+ghost use Rattle.arith.specs.Numbers.{bits};
+ghost use Rattle.value.specs.Operators.{Typed, Typed-prop, integer_of, chosen as chosen_of, flag, taken as taken_at, arithmetics, shifts, comparisons, no_operation, operators, no_operator, strict as strict_of, is_logic as is_logic_of, connect};
 ghost use Rattle.value.specs.Evaluation.{evaluated, settled};
-ghost use Rattle.value.specs.Root.{root_tag, logic_root, settles as settles_of};
-ghost use Rattle.value.specs.Promises.{Ready, Evaluates};
 
-// What an expression yields as an integer: the bit pattern of its type, or nothing after a division by zero.
-#[derive(Clone, Copy)]
-pub enum Value {
-    Of(u64),
-    NoValue,
-}
+use expr::{Root, Tree};
 
-// What an expression yields as a condition.
-#[derive(Clone, Copy)]
-pub enum Truth {
-    Holds,
-    Fails,
-    NoOutcome,
-}
-
-// A value with the static type of its expression.
+// What an expression yields, the bit pattern of its type or nothing after a division by zero, with its static type.
 #[derive(Clone, Copy)]
 pub struct TypedValue {
-    pub value: Value,
+    pub value: Option<u64>,
     pub typing: u64,
+    ghost typed: { Typed typing value } by { Typed-prop typing value },
+}
+
+impl TypedValue {
+    fn converted(self, t: u64) -> Option<u64>
+        ensures { result ≡ taken_at self.typing t self.value }
+    {
+        self.value.map(|x| arith::converted(self.typing, t, x))
+    }
+
+    // The value taken at type t.
+    fn taken(self, t: u64) -> TypedValue
+        ensures value { result.value ≡ taken_at self.typing t self.value }
+        ensures typing { result.typing ≡ t }
+    {
+        TypedValue {
+            value: self.converted(t),
+            typing: t,
+        }
+    }
+}
+
+// A pattern of type t from the low bits of a number.
+fn chosen(t: u64, x: u64) -> TypedValue
+    ensures value { result.value ≡ chosen_of t x }
+    ensures typing { result.typing ≡ t }
+{
+    TypedValue {
+        value: Some(arith::cut(t, x)),
+        typing: t,
+    }
+}
+
+// Of type t, after a division by zero.
+fn no_value(t: u64) -> TypedValue
+    ensures value { result.value ≡ None }
+    ensures typing { result.typing ≡ t }
+{
+    TypedValue {
+        value: None,
+        typing: t,
+    }
 }
 
 // A condition as an integer.
-fn integer_of(c: Truth) -> Value
-    ensures { result ≡ integer_of c }
+fn integer_of(holds: Option<bool>) -> Option<u64>
+    ensures { result ≡ integer_of holds }
 {
-    match c {
-        Truth::Holds => Value::Of(1),
-        Truth::Fails => Value::Of(0),
-        Truth::NoOutcome => Value::NoValue,
+    holds.map(u64::from)
+}
+
+// A condition's value.
+fn logic(holds: Option<bool>) -> TypedValue
+    ensures value { result.value ≡ integer_of holds }
+    ensures typing { result.typing ≡ signed32 }
+{
+    TypedValue {
+        value: integer_of(holds),
+        typing: expr::SIGNED_32,
     }
 }
 
-// An integer as a condition.
-fn truth_of(v: Value) -> Truth
-    ensures { result ≡ truth_of v }
-{
-    match v {
-        Value::Of(x) => { if x == 0 { Truth::Fails } else { Truth::Holds } }
-        Value::NoValue => Truth::NoOutcome,
-    }
-}
-
-fn flagged(b: bool) -> Value
+fn flagged(b: bool) -> Option<u64>
     ensures { result ≡ flag b }
 {
-    if b { Value::Of(1) } else { Value::Of(0) }
-}
-
-// The quotient, or what is left of the dividend; nothing where the divisor is zero.
-fn ratio(whole: bool, t: u64, a: u64, b: u64) -> Value
-    requires a_bound { a < 2 ^ bits t }
-    requires b_bound { b < 2 ^ bits t }
-    ensures { result ≡ divides b (cond whole (quotient t a b) (remainder t a b)) }
-{
-    if b == 0 {
-        return Value::NoValue;
-    }
-    let d = arith::divided(t, a, b);
-    if whole {
-        Value::Of(d.quotient)
-    } else {
-        Value::Of(d.remainder)
-    }
+    Some(u64::from(b))
 }
 
 // + - × / % & | ^ on two values of type t.
-fn arithmetic(operator: u64, t: u64, a: u64, b: u64) -> Value
+#[tactic(auto, unfolding(crate::specs::Operators::arithmetics))]
+fn arithmetic(operator: u64, t: u64, a: u64, b: u64) -> Option<u64>
     requires a_bound { a < 2 ^ bits t }
     requires b_bound { b < 2 ^ bits t }
     ensures { result ≡ get_or arithmetics operator no_operation t a b }
 {
     match operator {
-        expr::ADD => Value::Of(arith::sum(t, a, b)),
-        expr::SUB => Value::Of(arith::difference(t, a, b)),
-        expr::MUL => Value::Of(arith::product(t, a, b)),
-        expr::DIV => ratio(true, t, a, b),
-        expr::MOD => ratio(false, t, a, b),
-        expr::AND => Value::Of(a & b),
-        expr::OR => Value::Of(a | b),
-        expr::XOR => Value::Of(a ^ b),
-        _ => Value::NoValue,
+        expr::ADD => Some(arith::sum(t, a, b)),
+        expr::SUB => Some(arith::difference(t, a, b)),
+        expr::MUL => Some(arith::product(t, a, b)),
+        expr::DIV => arith::checked_div(t, a, b),
+        expr::MOD => arith::checked_rem(t, a, b),
+        expr::AND => Some(a & b),
+        expr::OR => Some(a | b),
+        expr::XOR => Some(a ^ b),
+        _ => None,
     }
 }
 
 // << and >> on a value of type t.
-fn shifted(operator: u64, t: u64, a: u64, k: u64) -> Value
+#[tactic(auto, unfolding(crate::specs::Operators::shifts))]
+fn shifted(operator: u64, t: u64, a: u64, k: u64) -> Option<u64>
     requires le_operator { (8 ≤ operator) × (operator < 10) }
     requires a_bound { a < 2 ^ bits t }
     requires k_bound { k < 64 }
     ensures { result ≡ get_or shifts (operator - 8) no_operation t a k }
 {
     if operator == expr::SHL {
-        Value::Of(arith::shift_left(t, a, k))
+        Some(arith::shift_left(t, a, k))
     } else {
-        Value::Of(arith::shift_right(t, a, k))
+        Some(arith::shift_right(t, a, k))
     }
 }
 
 // == != < <= > >= on two values of type t.
-fn compared(operator: u64, t: u64, a: u64, b: u64) -> Value
+#[tactic(auto, unfolding(crate::specs::Operators::comparisons))]
+fn compared(operator: u64, t: u64, a: u64, b: u64) -> Option<u64>
     requires le_operator { 10 ≤ operator }
     requires a_bound { a < 2 ^ bits t }
     requires b_bound { b < 2 ^ bits t }
@@ -123,12 +138,12 @@ fn compared(operator: u64, t: u64, a: u64, b: u64) -> Value
         expr::LESS_EQUAL => flagged(!arith::below(t, b, a)),
         expr::GREATER => flagged(arith::below(t, b, a)),
         expr::GREATER_EQUAL => flagged(!arith::below(t, a, b)),
-        _ => Value::NoValue,
+        _ => None,
     }
 }
 
 // An operator up to >= on a of type ta and b of type tb.
-fn binary(operator: u64, ta: u64, tb: u64, a: u64, b: u64) -> Value
+fn binary(operator: u64, ta: u64, tb: u64, a: u64, b: u64) -> Option<u64>
     requires a_bound { a < 2 ^ bits ta }
     requires b_bound { b < 2 ^ bits tb }
     ensures { result ≡ get_or operators operator no_operator ta tb a b }
@@ -152,40 +167,30 @@ fn binary(operator: u64, ta: u64, tb: u64, a: u64, b: u64) -> Value
 }
 
 // An operator that needs both sides.
-fn operated(operator: u64, ta: u64, tb: u64, u: Value, v: Value) -> Value
-    requires typed { Typed ta u }
-    requires typed_2 { Typed tb v }
-    ensures { result ≡ strict operator ta tb u v }
+fn strict(operator: u64, left: TypedValue, right: TypedValue) -> Option<u64>
+    ensures { result ≡ strict_of operator left.typing right.typing left.value right.value }
 {
-    match u {
-        Value::Of(a) => match v {
-            Value::Of(b) => binary(operator, ta, tb, a, b),
-            Value::NoValue => Value::NoValue,
-        },
-        Value::NoValue => Value::NoValue,
+    let a = left.value?;
+    let b = right.value?;
+    binary(operator, left.typing, right.typing, a, b)
+}
+
+// Its value and its type.
+fn operated(operator: u64, left: TypedValue, right: TypedValue) -> TypedValue
+    ensures value { result.value ≡ strict_of operator left.typing right.typing left.value right.value }
+    ensures typing { result.typing ≡ binary_type operator left.typing right.typing }
+{
+    TypedValue {
+        value: strict(operator, left, right),
+        typing: expr::binary_type(operator, left.typing, right.typing),
     }
 }
 
-// A value of type s taken at type t.
-fn retyped(s: u64, t: u64, v: Value) -> Value
-    requires { Typed s v }
-    ensures { result ≡ taken s t v }
+// Whether the operator is && or ||.
+fn is_logic(operator: u64) -> bool
+    ensures { result ≡ is_logic_of operator }
 {
-    match v {
-        Value::Of(x) => Value::Of(arith::converted(s, t, x)),
-        Value::NoValue => Value::NoValue,
-    }
-}
-
-// Whether the left side of && or || settles the whole.
-fn settles(operator: u64, left: Truth) -> bool
-    ensures { result ≡ settles_of operator left }
-{
-    match left {
-        Truth::Holds => operator != expr::LOGICAL_AND,
-        Truth::Fails => operator == expr::LOGICAL_AND,
-        Truth::NoOutcome => true,
-    }
+    (operator == expr::LOGICAL_AND) | (operator == expr::LOGICAL_OR)
 }
 
 // The value given for the variable of this number; 0 where none is given.
@@ -193,164 +198,132 @@ fn lent(values: &[u64], number: u64) -> u64
     ensures { result ≡ get_or values.now number 0 }
 {
     let i = number as usize;
-    if i < values.len() {
-        return values[i];
-    }
-    0
+    if i < values.len() { values[i] } else { 0 }
 }
 
-// Whether the root is && or ||.
-fn is_logic(rs: &[u64]) -> bool
-    requires { Wf rs.now }
-    ensures { result ≡ logic_root rs.now }
-{
-    let tag = rs[rs.len() - 2];
-    let operator = expr::argument(tag);
-    (expr::kind(tag) == expr::BINARY)
-        & ((operator == expr::LOGICAL_AND) | (operator == expr::LOGICAL_OR))
+// A tree that can be evaluated: at most 128 records, without load and effect.
+#[derive(Clone, Copy)]
+pub struct Plain<'a> {
+    pub tree: Tree<'a>,
+    pub ghost few: { length tree.words.now ≤ 256 },
+    pub ghost plain: { plain_expr (tree_of tree.words.now) ≡ true },
 }
 
-// A variable, a constant, true or false.
-fn leaf(rs: &[u64], types: &[u8], values: &[u64]) -> TypedValue
-    requires ready { Ready rs.now }
-    requires rs_bound { kind_of (root_tag rs.now) < kind_effect }
-    ensures { Evaluates result types.now values.now (tree_of rs.now) }
-{
-    let n = rs.len() - 2;
-    let tag = rs[n];
-    let t = expr::record_type(tag, types, 0, 0);
-    let pattern = match expr::kind(tag) {
-        expr::VARIABLE => arith::cut(t, lent(values, expr::argument(tag))),
-        expr::CONSTANT => arith::cut(t, rs[n + 1]),
-        expr::TRUE => 1,
-        _ => 0,
-    };
-    TypedValue {
-        value: Value::Of(pattern),
-        typing: t,
-    }
-}
-
-// The value of a tree without load and effect.
-#[cycle(condition_integer_logical_numeric_ternary)]
-pub fn integer(rs: &[u64], types: &[u8], values: &[u64]) -> TypedValue
-    requires { Ready rs.now }
-    ensures { Evaluates result types.now values.now (tree_of rs.now) }
-{
-    if is_logic(rs) {
-        let v = integer_of(logical(rs, types, values));
-        return TypedValue {
-            value: v,
-            typing: expr::SIGNED_32,
-        };
-    }
-    numeric(rs, types, values)
-}
-
-// The tree as a condition.
-#[cycle(condition_integer_logical_numeric_ternary)]
-pub fn condition(rs: &[u64], types: &[u8], values: &[u64]) -> Truth
-    requires { Ready rs.now }
-    ensures { result ≡ settled types.now values.now (tree_of rs.now) }
-{
-    if is_logic(rs) {
-        return logical(rs, types, values);
-    }
-    let r = numeric(rs, types, values);
-    let v = r.value;
-    truth_of(v)
-}
-
-// A tree whose root is && or ||: its sides are conditions, and the right one is evaluated only where the left one does not settle it.
-#[cycle(condition_integer_logical_numeric_ternary)]
-fn logical(rs: &[u64], types: &[u8], values: &[u64]) -> Truth
-    requires ready { Ready rs.now }
-    requires rs_value { logic_root rs.now ≡ true }
-    ensures { integer_of result ≡ evaluated types.now values.now (tree_of rs.now) }
-{
-    let n = rs.len() - 2;
-    let operator = expr::argument(rs[n]);
-    let m = expr::last_start(&rs[..n]);
-    let left = condition(&rs[..m], types, values);
-    if settles(operator, left) {
-        return left;
-    }
-    condition(&rs[m..n], types, values)
-}
-
-// A tree with another root: its value is made of its children's.
-#[cycle(condition_integer_logical_numeric_ternary)]
-fn numeric(rs: &[u64], types: &[u8], values: &[u64]) -> TypedValue
-    requires ready { Ready rs.now }
-    requires rs_value { logic_root rs.now ≡ false }
-    ensures { Evaluates result types.now values.now (tree_of rs.now) }
-{
-    let n = rs.len() - 2;
-    let tag = rs[n];
-    let kind = expr::kind(tag);
-    if kind < expr::EFFECT {
-        return leaf(rs, types, values);
-    }
-    let t = expr::argument(tag);
-    if kind == expr::CAST {
-        let a = integer(&rs[..n], types, values);
-        let v = a.value;
-        return TypedValue {
-            value: retyped(a.typing, t, v),
-            typing: t,
-        };
-    }
-    if kind == expr::TERNARY {
-        return ternary(rs, types, values);
-    }
-    let m = expr::last_start(&rs[..n]);
-    let a = integer(&rs[..m], types, values);
-    let b = integer(&rs[m..n], types, values);
-    let u = a.value;
-    let v = b.value;
-    TypedValue {
-        value: operated(t, a.typing, b.typing, u, v),
-        typing: expr::binary_type(t, a.typing, b.typing),
-    }
-}
-
-// A ternary: the arm that its condition chooses is evaluated, of the other the type alone is found.
-#[cycle(condition_integer_logical_numeric_ternary)]
-fn ternary(rs: &[u64], types: &[u8], values: &[u64]) -> TypedValue
-    requires ready { Ready rs.now }
-    requires rs_value { kind_of (root_tag rs.now) ≡ kind_ternary }
-    ensures { Evaluates result types.now values.now (tree_of rs.now) }
-{
-    let n = rs.len() - 2;
-    let m = expr::last_start(&rs[..n]);
-    let l = expr::last_start(&rs[..m]);
-    let then = &rs[l..m];
-    let otherwise = &rs[m..n];
-    match condition(&rs[..l], types, values) {
-        Truth::Holds => {
-            let a = integer(then, types, values);
-            let v = a.value;
-            let t = expr::joined(a.typing, expr::static_type(otherwise, types));
-            TypedValue {
-                value: retyped(a.typing, t, v),
-                typing: t,
-            }
+impl<'a> Plain<'a> {
+    // The tree, if it is plain.
+    pub fn of(tree: Tree<'a>) -> Option<Plain<'a>>
+        requires { length tree.words.now ≤ 256 }
+        ensures plain { is_some result ≡ plain_expr (tree_of tree.entry.words.now) }
+        ensures same { IfSome result (λ e. e.tree.words.now ≡ tree.entry.words.now) }
+    {
+        if tree.is_plain() {
+            Some(Plain { tree })
+        } else {
+            None
         }
-        Truth::Fails => {
-            let b = integer(otherwise, types, values);
-            let v = b.value;
-            let t = expr::joined(expr::static_type(then, types), b.typing);
-            TypedValue {
-                value: retyped(b.typing, t, v),
-                typing: t,
-            }
+    }
+
+    // What is cast.
+    fn child(self) -> Plain<'a>
+        requires { root_of (tree_of self.tree.words.now) ≡ root.Cast }
+        ensures tree { tree_of self.entry.tree.words.now ≡ cast_tree (root_argument (tree_of self.entry.tree.words.now)) (tree_of result.tree.words.now) }
+        ensures size { length result.tree.words.now + 2 ≡ length self.entry.tree.words.now }
+    {
+        Plain {
+            tree: self.tree.child(),
         }
-        Truth::NoOutcome => TypedValue {
-            value: Value::NoValue,
-            typing: expr::joined(
-                expr::static_type(then, types),
-                expr::static_type(otherwise, types),
-            ),
-        },
+    }
+
+    // An operator's sides.
+    fn sides(self) -> (Plain<'a>, Plain<'a>)
+        requires { root_of (tree_of self.tree.words.now) ≡ root.Binary }
+        ensures tree { tree_of self.entry.tree.words.now ≡ binary_tree (root_argument (tree_of self.entry.tree.words.now)) (tree_of result.0.tree.words.now) (tree_of result.1.tree.words.now) }
+        ensures size { length result.0.tree.words.now + length result.1.tree.words.now + 2 ≡ length self.entry.tree.words.now }
+    {
+        let (left, right) = self.tree.sides();
+        (Plain { tree: left }, Plain { tree: right })
+    }
+
+    // A ternary's condition and its two arms.
+    fn arms(self) -> (Plain<'a>, Plain<'a>, Plain<'a>)
+        requires { root_of (tree_of self.tree.words.now) ≡ root.Ternary }
+        ensures tree { tree_of self.entry.tree.words.now ≡ ternary_tree (tree_of result.0.tree.words.now) (tree_of result.1.tree.words.now) (tree_of result.2.tree.words.now) }
+        ensures size { length result.0.tree.words.now + length result.1.tree.words.now + length result.2.tree.words.now + 2 ≡ length self.entry.tree.words.now }
+    {
+        let (condition, then, otherwise) = self.tree.arms();
+        (
+            Plain { tree: condition },
+            Plain { tree: then },
+            Plain { tree: otherwise },
+        )
+    }
+
+    // The tree's value.
+    #[cycle(integer_condition_logical_ternary)]
+    pub fn integer(self, types: &[u8], values: &[u64]) -> TypedValue
+        ensures value { result.value ≡ evaluated types.now values.now (tree_of self.entry.tree.words.now) }
+        ensures typing { result.typing ≡ type_of types.now (tree_of self.entry.tree.words.now) }
+    {
+        let n = self.tree.argument();
+        match self.tree.root() {
+            Root::Variable => chosen(expr::variable_type(types, n), lent(values, n)),
+            Root::Constant => chosen(expr::constant_type(n), self.tree.value()),
+            Root::True => logic(Some(true)),
+            Root::False => logic(Some(false)),
+            Root::Effect | Root::Load => unreachable!(),
+            Root::Cast => self.child().integer(types, values).taken(n),
+            Root::Binary => {
+                let (left, right) = self.sides();
+                if is_logic(n) {
+                    return logic(left.logical(n, right, types, values));
+                }
+                operated(n, left.integer(types, values), right.integer(types, values))
+            }
+            Root::Ternary => self.ternary(types, values),
+        }
+    }
+
+    // The tree as a condition.
+    #[cycle(integer_condition_logical_ternary)]
+    pub fn condition(self, types: &[u8], values: &[u64]) -> Option<bool>
+        ensures { result ≡ settled types.now values.now (tree_of self.entry.tree.words.now) }
+    {
+        self.integer(types, values).value.map(|x| x != 0)
+    }
+
+    // && or || of two sides: the right one is evaluated only where the left one does not settle it.
+    #[cycle(integer_condition_logical_ternary)]
+    fn logical(self, operator: u64, right: Plain, types: &[u8], values: &[u64]) -> Option<bool>
+        ensures { result ≡ connect operator (settled types.now values.now (tree_of self.entry.tree.words.now)) (settled types.now values.now (tree_of right.entry.tree.words.now)) }
+    {
+        let left = self.condition(types, values)?;
+        if left == (operator != expr::LOGICAL_AND) {
+            return Some(left);
+        }
+        right.condition(types, values)
+    }
+
+    // A ternary: the arm that its condition chooses is evaluated, of the other the type alone is found.
+    #[cycle(integer_condition_logical_ternary)]
+    fn ternary(self, types: &[u8], values: &[u64]) -> TypedValue
+        requires { root_of (tree_of self.tree.words.now) ≡ root.Ternary }
+        ensures value { result.value ≡ evaluated types.now values.now (tree_of self.entry.tree.words.now) }
+        ensures typing { result.typing ≡ type_of types.now (tree_of self.entry.tree.words.now) }
+    {
+        let (condition, then, otherwise) = self.arms();
+        match condition.condition(types, values) {
+            Some(true) => {
+                let a = then.integer(types, values);
+                a.taken(expr::joined(a.typing, otherwise.tree.static_type(types)))
+            }
+            Some(false) => {
+                let b = otherwise.integer(types, values);
+                b.taken(expr::joined(then.tree.static_type(types), b.typing))
+            }
+            None => no_value(expr::joined(
+                then.tree.static_type(types),
+                otherwise.tree.static_type(types),
+            )),
+        }
     }
 }

@@ -1,11 +1,16 @@
 -- Laws of slots.
 use Prim.Native.Nat.{ℕ, zero, suc, ◌+◌, ◌/◌, ◌%◌, ◌≤◌, ◌<◌}
 use mathlib.Core.Path.{◌≡◌, refl, ap}
+use mathlib.Core.Bool.{cond, not}
 use mathlib.Core.List.{List, [], ◌∷◌}
 use native.Mathlib.Omega.{arith}
 use native.Mathlib.Numerals.{add-one}
-use lib.ListN.{length, get_or, set, drop, drop_of_length-le}
+use lib.ListN.{length, get_or, set, drop}
+use lib.Dec.{eqb}
+use borrow.Author.Tests.{ne_eqb}
 use lib.Seq.{drop-cons}
+use Rattle.std.specs.List.{count_by}
+use Rattle.std.proofs.lemmas.List.Recursion.{is_count_by}
 use Rattle.verdict.specs.declared.Reason.{Reason}
 use Rattle.verdict.specs.declared.Reason.TheVariants.{Flags, EqualSides, Truth, UnsignedZero, ExactSides, Parity, Halves}
 use Rattle.verdict.specs.declared.Verdict.{Verdict}
@@ -42,16 +47,12 @@ first-stays zero later some = absurd (some refl)
 first-stays (suc x) later some = refl
 
 -- a slot that is not stays
-pub kept-old : (slots : List ℕ) (number : ℕ) (v : Verdict) → (get_or slots number 0 ≡ 0 → ⊥) → slots ≡ kept slots number v
-kept-old slots number v some = rw (first-stays (get_or slots number 0) (slot_of v) some) (set_same slots number)
+pub kept_old : (slots : List ℕ) (number : ℕ) (v : Verdict) → (get_or slots number 0 ≡ 0 → ⊥) → slots ≡ kept slots number v
+kept_old slots number v some = rw (first-stays (get_or slots number 0) (slot_of v) some) (set_same slots number)
 
 pub decided-one : (x : ℕ) → (x ≡ 0 → ⊥) → decided_of x ≡ 1
 decided-one zero some = absurd (some refl)
 decided-one (suc x) some = refl
-
-pub decided-few : (x : ℕ) → decided_of x ≤ 1
-decided-few zero = omega arith
-decided-few (suc x) = omega arith
 
 pub decided-empty : (x : ℕ) → x ≡ 0 → decided_of x ≡ 0
 decided-empty x none = rw none
@@ -61,10 +62,6 @@ pub decided-more : (slots : List ℕ) (i : ℕ) → i < length slots
     → decided_in (drop i slots) ≡ decided_of (get_or slots i 0) + decided_in (drop (i + 1) slots)
 unfolding decided_in
 decided-more slots i there = rw (add-one i, drop-cons slots i 0 there)
-
-pub decided-past : (slots : List ℕ) (i : ℕ) → length slots ≤ i → decided_in (drop i slots) ≡ 0
-unfolding decided_in
-decided-past slots i out = rw (drop_of_length-le slots out)
 
 -- the line of a slot that is not empty
 pub slot-line : (site target x : ℕ) → (x ≡ 0 → ⊥)
@@ -85,3 +82,12 @@ lines-count (s ∷ sites) (t ∷ targets) (zero ∷ slots) p q =
     let same = lines-count sites targets slots (omega arith) (omega arith) in omega arith
 lines-count (s ∷ sites) (t ∷ targets) (suc x ∷ slots) p q =
     let more = lines-count sites targets slots (omega arith) (omega arith) in omega arith
+
+-- the decided slots, as they are counted
+pub counted : (slots : List ℕ) → decided_in slots ≡ count_by (λ x. not (eqb x 0)) slots
+unfolding decided_in
+counted slots = is_count_by decided_in (λ x. not (eqb x 0)) refl by slots
+  where
+    by : (x : ℕ) (rest : List ℕ) → decided_in (x ∷ rest) ≡ cond (not (eqb x 0)) (1 + decided_in rest) (decided_in rest)
+    by zero rest = omega arith
+    by (suc x) rest = rw (ne_eqb (suc x) 0 (λ z. absurd (omega arith)))

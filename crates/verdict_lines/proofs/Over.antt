@@ -8,7 +8,7 @@ use Rattle.sheet_bytes.proofs.Spans.{Spans, spans-cut, spans-self}
 use Rattle.sheet.specs.Index.{over}
 
 -- where the list can hold them
-over-append : (bs list : List ℕ) → length bs ≤ length list → over bs list ≡ bs ++ drop (length bs) list
+pub over-append : (bs list : List ℕ) → length bs ≤ length list → over bs list ≡ bs ++ drop (length bs) list
 unfolding over
 over-append [] list fits = refl
 over-append (x ∷ bs) [] fits = absurd (omega arith)

@@ -1,12 +1,17 @@
 -- Bytes put into a list at an offset: one by one, and one list after the other.
-use Prim.Native.Nat.{ℕ, zero, suc, ◌+◌, ◌-◌, ◌/◌, ◌%◌, ◌<◌}
+use Prim.Native.Nat.{ℕ, zero, suc, ◌+◌, ◌-◌, ◌≤◌}
 use mathlib.Core.Path.{◌≡◌, refl, sym, ap, ◌∙◌}
 use mathlib.Core.List.{List, [], ◌∷◌, ◌++◌}
 use native.Mathlib.Omega.{arith}
 use native.Mathlib.Numerals.{add-one}
-use lib.ListN.{length, set, length-set, take-append-drop}
+use native.Mathlib.Nat.{div-div-eq-div-mul}
+use borrow.Rule.Slice.PartMut.{put_mid}
+use lib.ListN.{length, set, take, drop, length-drop, length-set, take-append-drop}
+use Rattle.std.specs.Int.{w64, to_le_bytes}
 use Rattle.sheet.specs.Index.{over}
 use Rattle.sheet_bytes.specs.Write.{bytes}
+use Rattle.sheet_bytes.proofs.Spans.{bytes-length}
+use Rattle.verdict_lines.proofs.Over.{over-append}
 use Rattle.verdict_lines.specs.Slots.{put_at}
 
 over_nothing : (bs : List ℕ) → over bs [] ≡ []
@@ -47,13 +52,15 @@ pub put_front : (bs list : List ℕ) → put_at 0 bs list ≡ over bs list
 unfolding put_at
 put_front bs list = refl
 
--- a number's lowest byte, and the rest of them
-pub put_byte : (at left x : ℕ) (list : List ℕ) → 0 < left
-    → put_at at (bytes left x) list ≡ put_at (at + 1) (bytes (left - 1) (x / 256)) (set list at (x % 256))
+-- a number's 8 bytes, as the code makes them
+eight-bytes : (x : ℕ) → to_le_bytes w64 x ≡ bytes 8 x
 unfolding bytes
-put_byte at zero x list some = absurd (omega arith)
-put_byte at (suc left) x list some = let one : suc left - 1 ≡ left = omega arith in rw one (put_step at (x % 256) (bytes left (x / 256)) list)
+eight-bytes x = simp div-div-eq-div-mul
 
-pub put-done : (at left x : ℕ) (list : List ℕ) → left ≡ 0 → put_at at (bytes left x) list ≡ list
-unfolding bytes
-put-done at left x list none = rw none (put-none at list)
+-- and written over a part of a list
+pub put_word : (at x : ℕ) (list new : List ℕ) → at + 8 ≤ length list → new ≡ to_le_bytes w64 x → put_mid at (at + 8 - at) list new ≡ put_at at (bytes 8 x) list
+unfolding put_at
+put_word at x list new fits is =
+    let size : at + 8 - at ≡ length (bytes 8 x) = omega (arith, bytes-length 8 x) in
+    let is-bytes : new ≡ bytes 8 x = is ∙ eight-bytes x in
+    rw (is-bytes, size) (ap (λ (l : List ℕ). take at list ++ l) (sym (over-append (bytes 8 x) (drop at list) (omega (arith, length-drop at list, bytes-length 8 x)))))

@@ -21,18 +21,19 @@ pub fn empty_slots() -> [u8; 2048]
 }
 
 // What a slot holds of a verdict: 0 where it decides nothing, else twice the reason's number, and one more for always.
+#[tactic(auto, using(crate::proofs::Decided::small))]
 fn slot_of(v: Verdict) -> u8
     ensures { result ≡ slot_of v }
 {
     match v {
         Verdict::Always(r) => 2 * verdict::reason_number(r) + 1,
         Verdict::Never(r) => 2 * verdict::reason_number(r),
-        Verdict::Undecided => 0,
-        Verdict::NoBranch => 0,
+        Verdict::Undecided | Verdict::NoBranch => 0,
     }
 }
 
 // Keeps a verdict on the instruction of that number, unless an earlier one is decided.
+#[tactic(auto, using(crate::proofs::Decided::kept_new, crate::proofs::Decided::kept_old))]
 pub fn keep(slots: &mut [u8], number: usize, v: Verdict)
     requires { number < length slots.old }
     ensures { slots.new ≡ kept slots.old number v }
@@ -42,40 +43,21 @@ pub fn keep(slots: &mut [u8], number: usize, v: Verdict)
     }
 }
 
-// How many lines a slot holds.
-fn decided_of(slot: u8) -> u64
-    ensures { result ≡ decided_of slot }
-{
-    if slot == 0 { 0 } else { 1 }
-}
-
 // How many lines there are.
+#[tactic(auto, using(crate::proofs::Decided::counted))]
 pub fn count(slots: &[u8]) -> u64
     ensures { result ≡ decided_in slots.now }
 {
-    let mut n: u64 = 0;
-    let mut i = 0;
-    while i < slots.len() {
-        n += decided_of(slots[i]);
-        i += 1;
-    }
-    n
+    slots.iter().filter(|slot| **slot != 0).count() as u64
 }
 
 // Puts a number's 8 bytes into a list, the lowest first.
+#[tactic(auto, using(crate::proofs::Puts::put_word))]
 fn put_word(list: &mut [u8], at: usize, x: u64)
     requires { at + 8 ≤ length list.old }
     ensures { list.new ≡ put_at at (bytes 8 x) list.old }
 {
-    let mut next = at;
-    let mut rest = x;
-    let mut left: u64 = 8;
-    while 0 < left {
-        list[next] = (rest % 256) as u8;
-        rest = rest / 256;
-        next += 1;
-        left -= 1;
-    }
+    list[at..at + 8].copy_from_slice(&x.to_le_bytes());
 }
 
 // Puts the line that a slot holds into a list, 18 bytes, and gives the offset after it.
@@ -101,10 +83,8 @@ pub fn write(s: &[u8], sheet: Sheet, sites: &[u64], places: &[u64], slots: &[u8]
     ensures { list.new ≡ over (records line_bytes (lines_in sites.now (targets_of (sheet_at s.now).instructions.list) slots.now)) list.old }
 {
     let mut at = 0;
-    let mut i = 0;
-    while i < slots.len() {
+    for i in 0..slots.len() {
         let target = sheet::nth_target(s, sheet, places, i);
         at = put_line(list, at, sites[i], target, slots[i]);
-        i += 1;
     }
 }

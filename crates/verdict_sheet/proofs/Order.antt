@@ -14,7 +14,7 @@ use Rattle.isa.specs.declared.Instruction.{Instruction}
 use Rattle.verdict.specs.declared.Verdict.{Verdict}
 use Rattle.verdict.specs.declared.Answer.{Answer}
 use Rattle.verdict.specs.declared.Answer.TheVariants as answer
-use Rattle.search.specs.declared.Found.{Found}
+use Rattle.std.specs.Prelude.{Option}
 use Rattle.sheet_node.specs.declared.NodeReading.{NodeReading}
 use Rattle.sheet_node.specs.Node.{node_at, node_of}
 use Rattle.sheet.specs.Sheet.{sheet_at, reading_of, no_node, node_numbered, node_place}
@@ -63,7 +63,7 @@ module _ (s : List ℕ) (sheet : Sheet) (read : reading_of s ≡ reading.Accepte
 -- the answer for one node
 module _ (s : List ℕ) {a p : List ℕ} (index : CodeIndex s a p) (node : NodeReading) (place : ℕ) {given : Answer}
     (given_is : given ≡ node_verdict (node_of s node) place) (said : List Said) where
-  pub node_through : (at : Found) {v : Verdict} {slots after : List ℕ}
+  pub node_through : (at : Option ℕ) {v : Verdict} {slots after : List ℕ}
       → SiteIs (sheet_at s).instructions.list at (last_branch (sheet_at s).instructions.list (node_of s node).addresses)
       → given ≡ answer.Given v → after ≡ kept_at slots at v → slots ≡ slots_of (sheet_at s).instructions.list said
       → Reached (sheet_at s).instructions.list progress.Through after

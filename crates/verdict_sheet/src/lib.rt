@@ -19,7 +19,6 @@ ghost use Rattle.verdict_sheet.specs.Said.{Said, saying, blocks_say, node_too, j
 ghost use Rattle.verdict_sheet.specs.Said.Judged.{all};
 ghost use Rattle.verdict_sheet.specs.Kept.{CodeIndex, if_branch, branch_ending, SiteIs, kept_at, HasSlot, slots_of, Reached};
 
-use search::Found;
 use sheet::Sheet;
 use sheet_field::{Place, Width};
 use verdict::{Answer, Verdict};
@@ -40,22 +39,15 @@ fn branch_or(
     addresses: &[u64],
     places: &[u64],
     address: u64,
-    otherwise: Found,
-) -> Found
+    otherwise: Option<usize>,
+) -> Option<usize>
     requires s_value { reading_of s.now ≡ Accepted sheet }
     requires code_index { CodeIndex s.now addresses.now places.now }
     ensures { result ≡ if_branch (sheet_at s.now).instructions.list (place_of addresses.now address) otherwise }
 {
-    let found = search::find(addresses, address);
-    match found {
-        Found::At(k) => {
-            if sheet::is_branch(s, sheet, places, k) {
-                found
-            } else {
-                otherwise
-            }
-        }
-        Found::Nothing => otherwise,
+    match search::find(addresses, address) {
+        Some(k) if sheet::is_branch(s, sheet, places, k) => Some(k),
+        _ => otherwise,
     }
 }
 
@@ -67,13 +59,13 @@ fn node_jump(
     n: u64,
     addresses: &[u64],
     places: &[u64],
-) -> Found
+) -> Option<usize>
     requires s_value { reading_of s.now ≡ Accepted sheet }
     requires code_index { CodeIndex s.now addresses.now places.now }
     ensures { SiteIs (sheet_at s.now).instructions.list result (last_branch (sheet_at s.now).instructions.list (addresses_from s.now sites n).list) }
 {
     let mut next = sites;
-    let mut jump = Found::Nothing;
+    let mut jump = None;
     let mut i: u64 = 0;
     while i < n {
         let f = sheet_field::take_field(s, next, Width::Eight);
@@ -85,31 +77,26 @@ fn node_jump(
 }
 
 // The number of the conditional branch that ends a range of instructions.
-fn last_branch(s: &[u8], sheet: Sheet, places: &[u64], range: Range) -> Found
+fn last_branch(s: &[u8], sheet: Sheet, places: &[u64], range: Range) -> Option<usize>
     requires s_value { reading_of s.now ≡ Accepted sheet }
     requires places_value { places.now ≡ (sheet_at s.now).instructions.places }
     requires end_in_bounds { range.end ≤ length places.now }
     ensures { result ≡ branch_ending (sheet_at s.now).instructions.list range.first range.end }
 {
-    let end = range.end;
-    if end <= range.first {
-        return Found::Nothing;
+    if range.end <= range.first {
+        return None;
     }
-    let last = end - 1;
-    if sheet::is_branch(s, sheet, places, last) {
-        return Found::At(last);
-    }
-    Found::Nothing
+    let last = range.end - 1;
+    sheet::is_branch(s, sheet, places, last).then_some(last)
 }
 
 // Keeps a verdict in the slot of that number, if there is one.
-fn keep_at(slots: &mut [u8], at: Found, v: Verdict)
+fn keep_at(slots: &mut [u8], at: Option<usize>, v: Verdict)
     requires { HasSlot slots.old at }
     ensures { slots.new ≡ kept_at slots.old at v }
 {
-    match at {
-        Found::At(k) => verdict_lines::keep(slots, k, v),
-        Found::Nothing => {}
+    if let Some(k) = at {
+        verdict_lines::keep(slots, k, v);
     }
 }
 
@@ -143,10 +130,8 @@ fn judge_block(
     ensures { (said : List Said) → slots.old ≡ slots_of (sheet_at s.now).instructions.list said → slots.new ≡ slots_of (sheet_at s.now).instructions.list (said ++ saying (block_site s.now number) (verdict_on s.now number)) }
 {
     let range = verdict_block::range_of(s, sheet, addresses, number, guess);
-    let at = last_branch(s, sheet, places, range);
-    match at {
-        Found::At(k) => keep_end(s, sheet, places, range, slots, k),
-        Found::Nothing => {}
+    if let Some(k) = last_branch(s, sheet, places, range) {
+        keep_end(s, sheet, places, range, slots, k);
     }
     range.end
 }

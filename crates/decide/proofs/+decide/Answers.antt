@@ -1,73 +1,88 @@
--- The proof of the cycle of calls {decide}: it calls itself on the halves of && and ||, so the measure is the words. Each case is a
--- law of proofs/Judged.antt. Assumes nothing.
-use Prim.Native.Nat.{◌-◌}
-use mathlib.Core.Path.{sym, ◌∙◌}
-use native.Mathlib.Omega.{arith}
-use lib.ListN.{length}
-use Rattle.expr.proofs.Children.{root-kind, binary-children, has-children}
-use Rattle.expr.proofs.Laws.{wf-two}
-use Rattle.expr.proofs.Parts.{root-place}
-use Rattle.parity.proofs.Calls.{lent_two, two-length}
-use Rattle.decide.proofs.Judged.{decide_true, decide-false, decide-other, decide-logic, decide-equality, decide-relation}
-use Rattle.exact.proofs.Steps.{lent-whole}
+-- Each case is a law of proofs/Judged.antt.
+use Rattle.std.proofs.Common.{◌≡◌, ◌≤◌, ◌<◌, ◌+◌, ◌||◌, ◌&&◌, true, false, eqb, refl, sym, ◌∙◌, arith}
+use Rattle.expr.proofs.Views.{sides-standing}
+use Rattle.parity.proofs.Calls.{lent_two}
+use Rattle.parity.proofs.Limits.{kept, failed}
+use Rattle.exact.proofs.Steps.{lent_whole}
+use Rattle.decide.proofs.Judged.{one-of-two, neither, decide-true, decide-false, decide-other, halves-kept, halves-past, decide-equality, decide-relation}
 use Rattle.decide.proofs.+decide.Goals as goal
+use Rattle.decide.proofs.+decide.Goals.{in_default-operator-via-then-this-lt10, in_default-operator-via-else-this-lt10+else-this-lt12}
 
-pub overflow_sub-n : goal.overflow_sub-n
-overflow_sub-n t c =
-    omega (arith, wf-two c.args.rs.now c.requires.wf)
+pub returns-in_err-decide-in-16 : goal.returns-in_err-decide-in-16
+returns-in_err-decide-in-16 t c =
+    halves-past _ c.sides.ensures.tree c.argument-operator.ensures (rw c.in-16.is refl)
+    (rw (failed _ _ c.decide.ensures c.in_err-decide-in-16.was) refl) c.from_residual.ensures.0
 
-pub bounds-rs-n : goal.bounds-rs-n
-bounds-rs-n t c =
-    omega (arith, wf-two c.args.rs.now c.requires.wf)
+pub returns-in_err-decide-in-16-2 : goal.returns-in_err-decide-in-16-2
+returns-in_err-decide-in-16-2 t c =
+    halves-past _ c.sides.ensures.tree c.argument-operator.ensures (rw c.in-16.is refl)
+    (rw ((kept _ _ c.decide.ensures c.in_ok-decide-in-16.was).0, failed _ _ c.decide-in-16.ensures c.in_err-decide-in-16-2.was) refl) c.from_residual-in_err-decide-in-16-2.ensures.0
 
-pub returns-then-kind-eq-TRUE : goal.returns-then-kind-eq-TRUE
-returns-then-kind-eq-TRUE t c =
-    decide_true (root-kind c.args.rs.now (length c.args.rs.now - 2) c.requires.wf (root-place c.args.rs.now c.requires.wf) 2 (sym c.kind-kind.ensures ∙ c.if-kind-eq-TRUE.true))
+pub returns-in_ok-decide-in-16-2 : goal.returns-in_ok-decide-in-16-2
+returns-in_ok-decide-in-16-2 t c =
+    let a = kept _ _ c.decide.ensures c.in_ok-decide-in-16.was in
+    let b = kept _ _ c.decide-in-16.ensures c.in_ok-decide-in-16-2.was in
+    halves-kept _ c.sides.ensures.tree c.argument-operator.ensures (rw c.in-16.is refl) a.0 b.0 (rw (c.in-16.is, c.both.ensures, a.1, b.1) refl)
 
-pub returns-then-kind-eq-FALSE : goal.returns-then-kind-eq-FALSE
-returns-then-kind-eq-FALSE t c =
-    decide-false (root-kind c.args.rs.now (length c.args.rs.now - 2) c.requires.wf (root-place c.args.rs.now c.requires.wf) 3 (sym c.kind-kind.ensures ∙ c.if-kind-eq-FALSE.true))
+pub returns-in_err-decide-in-17 : goal.returns-in_err-decide-in-17
+returns-in_err-decide-in-17 t c =
+    halves-past _ c.sides.ensures.tree c.argument-operator.ensures (rw c.in-17.is refl)
+    (rw (failed _ _ c.decide-in-17.ensures c.in_err-decide-in-17.was) refl) c.from_residual-in_err-decide-in-17.ensures.0
 
-pub returns-then-kind-ne-BINARY : goal.returns-then-kind-ne-BINARY
-returns-then-kind-ne-BINARY t c =
-    decide-other c.args.rs.now (length c.args.rs.now - 2) c.requires.wf (root-place c.args.rs.now c.requires.wf) (λ k. c.if-kind-eq-TRUE.false (c.kind-kind.ensures ∙ k)) (λ k. c.if-kind-eq-FALSE.false (c.kind-kind.ensures ∙ k)) (λ k. c.if-kind-ne-BINARY.true (c.kind-kind.ensures ∙ k))
+pub returns-in_err-decide-in-17-2 : goal.returns-in_err-decide-in-17-2
+returns-in_err-decide-in-17-2 t c =
+    halves-past _ c.sides.ensures.tree c.argument-operator.ensures (rw c.in-17.is refl)
+    (rw ((kept _ _ c.decide-in-17.ensures c.in_ok-decide-in-17.was).0, failed _ _ c.decide-in-17-2.ensures c.in_err-decide-in-17-2.was) refl) c.from_residual-in_err-decide-in-17-2.ensures.0
 
-pub last_start-m-requires : goal.last_start-m-requires
-last_start-m-requires t c =
-    let p = has-children c.args.rs.now (length c.args.rs.now - 2) c.requires.wf (root-place c.args.rs.now c.requires.wf) (omega (arith, (sym c.kind-kind.ensures ∙ c.if-kind-ne-BINARY.false))) in record { trees = p.0; bound = p.1 }
+pub returns-in_ok-decide-in-17-2 : goal.returns-in_ok-decide-in-17-2
+returns-in_ok-decide-in-17-2 t c =
+    let a = kept _ _ c.decide-in-17.ensures c.in_ok-decide-in-17.was in
+    let b = kept _ _ c.decide-in-17-2.ensures c.in_ok-decide-in-17-2.was in
+    halves-kept _ c.sides.ensures.tree c.argument-operator.ensures (rw c.in-17.is refl) a.0 b.0 (rw (c.in-17.is, c.either.ensures, a.1, b.1) refl)
 
-pub decide-a-requires : goal.decide-a-requires
-decide-a-requires t c =
-    let two = (binary-children c.args.rs.now (length c.args.rs.now - 2) c.requires.wf (root-place c.args.rs.now c.requires.wf) c.last_start-m.result c.last_start-m.ensures (sym c.kind-kind.ensures ∙ c.if-kind-ne-BINARY.false)) in (omega (arith, c.decreases, two.left_shorter), (two.left_wf, omega (arith, c.requires.rs_len_bound, two.left_shorter)))
+pub equality_in-requires-clause-sides_of : goal.equality_in-requires-clause-sides_of
+equality_in-requires-clause-sides_of t c = record {
+  lent = λ atoms terms table space.
+      lent_two (lent_whole c.requires table space) _ _ (sides-standing _ _ _ _ c.args.condition.wf c.sides.result.0.wf c.sides.result.1.wf c.sides.ensures.tree) c.sides.ensures.size;
+  long = omega (arith, c.sides.ensures.size);
+}
 
-pub decide-b-requires : goal.decide-b-requires
-decide-b-requires t c =
-    let two = (binary-children c.args.rs.now (length c.args.rs.now - 2) c.requires.wf (root-place c.args.rs.now c.requires.wf) c.last_start-m.result c.last_start-m.ensures (sym c.kind-kind.ensures ∙ c.if-kind-ne-BINARY.false)) in (omega (arith, c.decreases, two.right_shorter), (two.right_wf, omega (arith, c.requires.rs_len_bound, two.right_shorter)))
+pub equality_in-requires-in-10-2-clause-sides_of : goal.equality_in-requires-in-10-2-clause-sides_of
+equality_in-requires-in-10-2-clause-sides_of t c = record {
+  lent = λ atoms terms table space.
+      lent_two (lent_whole c.requires table space) _ _ (sides-standing _ _ _ _ c.args.condition.wf c.sides.result.0.wf c.sides.result.1.wf c.sides.ensures.tree) c.sides.ensures.size;
+  long = omega (arith, c.sides.ensures.size);
+}
 
-pub returns-then-operator : goal.returns-then-operator
-returns-then-operator t c =
-    decide-logic ((binary-children c.args.rs.now (length c.args.rs.now - 2) c.requires.wf (root-place c.args.rs.now c.requires.wf) c.last_start-m.result c.last_start-m.ensures (sym c.kind-kind.ensures ∙ c.if-kind-ne-BINARY.false))).tree c.argument-operator.ensures c.if-operator.true c.decide-a.ensures c.decide-b.ensures c.halves.ensures
+pub returns-in-True : goal.returns-in-True
+returns-in-True t c =
+    decide-true _ (sym c.root.ensures ∙ c.in-True.is)
 
-pub equality_short-requires : goal.equality_short-requires
-equality_short-requires t c =
-    record { sides_of = record { lent = λ atoms terms table space. lent_two (lent-whole c.requires.wf c.requires.rs_len_bound table space) (length c.args.rs.now - 2) c.last_start-m.result (root-place c.args.rs.now c.requires.wf) ((binary-children c.args.rs.now (length c.args.rs.now - 2) c.requires.wf (root-place c.args.rs.now c.requires.wf) c.last_start-m.result c.last_start-m.ensures (sym c.kind-kind.ensures ∙ c.if-kind-ne-BINARY.false))); long = omega (arith, two-length c.args.rs.now (length c.args.rs.now - 2) c.last_start-m.result (root-place c.args.rs.now c.requires.wf) ((binary-children c.args.rs.now (length c.args.rs.now - 2) c.requires.wf (root-place c.args.rs.now c.requires.wf) c.last_start-m.result c.last_start-m.ensures (sym c.kind-kind.ensures ∙ c.if-kind-ne-BINARY.false)))) }; whole_len_bound = c.if-rs-le36.true }
+pub returns-in-False : goal.returns-in-False
+returns-in-False t c =
+    decide-false _ (sym c.root.ensures ∙ c.in-False.is)
 
-pub returns-then-rs-le36 : goal.returns-then-rs-le36
-returns-then-rs-le36 t c =
-    decide-equality ((binary-children c.args.rs.now (length c.args.rs.now - 2) c.requires.wf (root-place c.args.rs.now c.requires.wf) c.last_start-m.result c.last_start-m.ensures (sym c.kind-kind.ensures ∙ c.if-kind-ne-BINARY.false))).tree c.argument-operator.ensures c.if-operator-2.true c.equality_short.ensures
+pub returns-in-10 : goal.returns-in-10
+returns-in-10 t c =
+    let low : 10 ≤ c.argument-operator.result = omega arith in
+    let high : c.argument-operator.result < 10 + 2 = omega arith in
+    decide-equality _ c.sides.ensures.tree c.argument-operator.ensures (one-of-two low high) c.equality_in.ensures
 
-pub equality_long-requires : goal.equality_long-requires
-equality_long-requires t c =
-    record { sides_of = record { lent = λ atoms terms table space. lent_two (lent-whole c.requires.wf c.requires.rs_len_bound table space) (length c.args.rs.now - 2) c.last_start-m.result (root-place c.args.rs.now c.requires.wf) ((binary-children c.args.rs.now (length c.args.rs.now - 2) c.requires.wf (root-place c.args.rs.now c.requires.wf) c.last_start-m.result c.last_start-m.ensures (sym c.kind-kind.ensures ∙ c.if-kind-ne-BINARY.false))); long = omega (arith, two-length c.args.rs.now (length c.args.rs.now - 2) c.last_start-m.result (root-place c.args.rs.now c.requires.wf) ((binary-children c.args.rs.now (length c.args.rs.now - 2) c.requires.wf (root-place c.args.rs.now c.requires.wf) c.last_start-m.result c.last_start-m.ensures (sym c.kind-kind.ensures ∙ c.if-kind-ne-BINARY.false)))) }; whole_len_bound = c.requires.rs_len_bound }
+pub returns-in-10-2 : goal.returns-in-10-2
+returns-in-10-2 t c =
+    let low : 10 ≤ c.argument-operator.result = omega arith in
+    let high : c.argument-operator.result < 10 + 2 = omega arith in
+    decide-equality _ c.sides.ensures.tree c.argument-operator.ensures (one-of-two low high) c.equality_in-in-10-2.ensures
 
-pub returns-then-operator-2 : goal.returns-then-operator-2
-returns-then-operator-2 t c =
-    decide-equality ((binary-children c.args.rs.now (length c.args.rs.now - 2) c.requires.wf (root-place c.args.rs.now c.requires.wf) c.last_start-m.result c.last_start-m.ensures (sym c.kind-kind.ensures ∙ c.if-kind-ne-BINARY.false))).tree c.argument-operator.ensures c.if-operator-2.true c.equality_long.ensures
+pub returns-in_default-operator : goal.returns-in_default-operator
+returns-in_default-operator t c =
+    elim c.in_default-operator.branch [
+      in_default-operator-via-then-this-lt10 w ↦
+        decide-relation _ c.sides.ensures.tree c.argument-operator.ensures (neither c.argument-operator.result 16 (λ e. omega arith) (λ e. omega arith)) (neither c.argument-operator.result 10 (λ e. omega arith) (λ e. omega arith)) c.relation.ensures
+    | in_default-operator-via-else-this-lt10+else-this-lt12 w ↦
+        decide-relation _ c.sides.ensures.tree c.argument-operator.ensures (neither c.argument-operator.result 16 (λ e. omega arith) (λ e. omega arith)) (neither c.argument-operator.result 10 (λ e. omega arith) (λ e. omega arith)) c.relation.ensures
+    ]
 
-pub relation-requires : goal.relation-requires
-relation-requires t c =
-    record { wf = ((binary-children c.args.rs.now (length c.args.rs.now - 2) c.requires.wf (root-place c.args.rs.now c.requires.wf) c.last_start-m.result c.last_start-m.ensures (sym c.kind-kind.ensures ∙ c.if-kind-ne-BINARY.false))).left_wf; wf_2 = ((binary-children c.args.rs.now (length c.args.rs.now - 2) c.requires.wf (root-place c.args.rs.now c.requires.wf) c.last_start-m.result c.last_start-m.ensures (sym c.kind-kind.ensures ∙ c.if-kind-ne-BINARY.false))).right_wf }
-
-pub returns : goal.returns
-returns t c =
-    decide-relation ((binary-children c.args.rs.now (length c.args.rs.now - 2) c.requires.wf (root-place c.args.rs.now c.requires.wf) c.last_start-m.result c.last_start-m.ensures (sym c.kind-kind.ensures ∙ c.if-kind-ne-BINARY.false))).tree c.argument-operator.ensures c.if-operator.false c.if-operator-2.false c.relation.ensures
+pub returns-in_default : goal.returns-in_default
+returns-in_default t c =
+    decide-other _ (λ h. c.in_default.not-True (c.root.ensures ∙ h)) (λ h. c.in_default.not-False (c.root.ensures ∙ h)) (λ h. c.in_default.not-Binary (c.root.ensures ∙ h))

@@ -2,4 +2,4 @@ use Rattle.std.proofs.Common.{length}
 use Rattle.decide.proofs.+decide.Given as goal
 
 abbrev pub decreases-decide : goal.decreases-decide
-decreases-decide l = length l.rs.now
+decreases-decide l = length l.condition.words.now

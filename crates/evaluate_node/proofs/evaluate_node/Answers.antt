@@ -17,26 +17,22 @@ pub slice_bounds-words-end : goal.slice_bounds-words-end
 slice_bounds-words-end c =
     let a = c.args in let read = c.requires in omega (arith, (condition-took a.s.now a.node read c.start.ensures (c.expression_at-e.ensures a.node.variables (condition-on a.s.now a.node read c.start.ensures))).few, c.expression_at-e.auto.out)
 
-pub slice_bounds-is_plain-end : goal.slice_bounds-is_plain-end
-slice_bounds-is_plain-end c =
+pub slice_bounds-new-end : goal.slice_bounds-new-end
+slice_bounds-new-end c =
     let a = c.args in let read = c.requires in sym (length-take-le _ _ (omega (arith, (condition-took a.s.now a.node read c.start.ensures (c.expression_at-e.ensures a.node.variables (condition-on a.s.now a.node read c.start.ensures))).few, c.expression_at-e.auto.out)))
 
-pub is_plain-requires : goal.is_plain-requires
-is_plain-requires c =
+pub new-requires : goal.new-requires
+new-requires c =
     let a = c.args in let read = c.requires in (took-tree _ _ _ (condition-took a.s.now a.node read c.start.ensures (c.expression_at-e.ensures a.node.variables (condition-on a.s.now a.node read c.start.ensures))) (this-condition a.s.now a.node read)).0
 
-pub returns-then-not-is_plain : goal.returns-then-not-is_plain
-returns-then-not-is_plain c =
-    let a = c.args in let read = c.requires in condition-refused a.s.now a.node read (condition-took a.s.now a.node read c.start.ensures (c.expression_at-e.ensures a.node.variables (condition-on a.s.now a.node read c.start.ensures))) c.is_plain.ensures c.if-not-is_plain.true a.place a.values.now
-
-pub slice_bounds-words-end-2 : goal.slice_bounds-words-end-2
-slice_bounds-words-end-2 c =
-    let a = c.args in let read = c.requires in omega (arith, (condition-took a.s.now a.node read c.start.ensures (c.expression_at-e.ensures a.node.variables (condition-on a.s.now a.node read c.start.ensures))).few, c.expression_at-e.auto.out)
-
-pub slice_bounds-run_node-end : goal.slice_bounds-run_node-end
-slice_bounds-run_node-end c =
-    let a = c.args in let read = c.requires in sym (length-take-le _ _ (omega (arith, (condition-took a.s.now a.node read c.start.ensures (c.expression_at-e.ensures a.node.variables (condition-on a.s.now a.node read c.start.ensures))).few, c.expression_at-e.auto.out)))
+pub returns-in_default : goal.returns-in_default
+returns-in_default c =
+    let a = c.args in
+    let read = c.requires in
+    condition-refused a.s.now a.node read (condition-took a.s.now a.node read c.start.ensures (c.expression_at-e.ensures a.node.variables (condition-on a.s.now a.node read c.start.ensures))) (rw c.new.ensures at c.in_default.ensures.plain) a.place a.values.now
 
 pub run_node-requires : goal.run_node-requires
 run_node-requires c =
-    let a = c.args in let read = c.requires in running a.s.now a.node read (condition-took a.s.now a.node read c.start.ensures (c.expression_at-e.ensures a.node.variables (condition-on a.s.now a.node read c.start.ensures))) c.is_plain.ensures c.if-not-is_plain.false c.node_types-types.ensures
+    let a = c.args in
+    let read = c.requires in
+    rw (c.in-Some.ensures.same, c.new.ensures) (running a.s.now a.node read (condition-took a.s.now a.node read c.start.ensures (c.expression_at-e.ensures a.node.variables (condition-on a.s.now a.node read c.start.ensures))) c.node_types-types.ensures)

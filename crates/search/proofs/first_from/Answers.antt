@@ -1,31 +1,15 @@
-use native.Mathlib.Omega.{arith}
-use Rattle.search.proofs.Laws.{below-upto, below_all}
+use Rattle.std.proofs.Common.{◌≤◌, ◌<◌, ◌∙◌, le_refl, rules, tests}
+use Rattle.std.proofs.lemmas.Slice.{between_to_end}
+use Rattle.std.proofs.lemmas.Iterator.{IsFirst-from_position, YieldsList-from_slice}
+use Rattle.search.proofs.Laws.{walked_to, walked_through}
 use Rattle.search.proofs.first_from.Goals as goal
 
-pub are_below-requires : goal.are_below-requires
-are_below-requires c =
-    c.requires
+pub returns-in-Some : goal.returns-in-Some
+returns-in-Some c =
+    walked_to c.requires (c.are_below.ensures (search rules))
+    (IsFirst-from_position _ _ _ (λ y. c.args.x ≤ y) (λ y. y < c.args.x) c.in-Some.ensures.ran (YieldsList-from_slice _ (c.iter.ensures.rest ∙ between_to_end c.args.list.now c.args.guess _ (le_refl _))) (λ a q k. search (rules, tests)) (λ a q k. search (rules, tests)))
 
-pub first_at_or_above-requires : goal.first_at_or_above-requires
-first_at_or_above-requires c =
-    c.requires
-
-pub returns-then-not-are_below : goal.returns-then-not-are_below
-returns-then-not-are_below c =
-    c.first_at_or_above.ensures
-
-pub loop-at-init : goal.loop-at-init
-loop-at-init c =
-    c.are_below.ensures c.if-not-are_below.false
-
-pub returns-then-x-list : goal.returns-then-x-list
-returns-then-x-list c =
-    below_all c.requires c.loop-at.invariant (λ h. omega arith)
-
-pub loop-at-preserved : goal.loop-at-preserved
-loop-at-preserved c =
-    below-upto c.requires c.loop-at.at (omega arith)
-
-pub returns : goal.returns
-returns c =
-    below_all c.requires c.loop-at.invariant (λ h. absurd (omega arith))
+pub returns-in-None : goal.returns-in-None
+returns-in-None c =
+    walked_through c.requires (c.are_below.ensures (search rules))
+    (IsFirst-from_position _ _ _ (λ y. c.args.x ≤ y) (λ y. y < c.args.x) c.in-None.ensures.ran (YieldsList-from_slice _ (c.iter.ensures.rest ∙ between_to_end c.args.list.now c.args.guess _ (le_refl _))) (λ a q k. search (rules, tests)) (λ a q k. search (rules, tests)))

@@ -1,11 +1,7 @@
--- `value::operated` meets its contract: binary, where both sides have a value.
--- Assumes nothing.
+-- `value::operated` meets its contract: an operator's value is of the operator's type. Assumes nothing.
+use Rattle.value.proofs.Laws.{strict-typed}
 use Rattle.value.proofs.operated.Goals as goal
 
-pub binary-requires : goal.binary-requires
-binary-requires c =
-    record { a_bound = rw c.in-Of.is at c.requires.typed; b_bound = rw c.in-Of-v.is at c.requires.typed_2 }
-
-pub returns-in-Of-v : goal.returns-in-Of-v
-returns-in-Of-v c =
-    rw (c.in-Of.is, c.in-Of-v.is) c.binary.ensures
+pub invariant_of-result : goal.invariant_of-result
+invariant_of-result c =
+    record { typed = rw (c.strict.ensures, c.binary_type.ensures) (strict-typed c.args.operator c.args.left.typing c.args.right.typing c.args.left.value c.args.right.value) }

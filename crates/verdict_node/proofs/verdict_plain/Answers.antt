@@ -1,8 +1,11 @@
 use native.Mathlib.Omega.{arith}
-use mathlib.Core.Path.{sym}
+use mathlib.Core.Path.{refl, sym, ap, ◌∙◌}
 use lib.Seq.{length-take-le}
-use Rattle.verdict_node.proofs.Judged.{whole-at, plain-on, plain-took, plain-words, judged-plain}
-use Rattle.std.proofs.Common.{rules}
+use Rattle.expr.specs.Tree.{tree_of}
+use Rattle.substitution.specs.Substitution.{into}
+use Rattle.verdict_node.specs.NodeVerdict.{on_substituted}
+use Rattle.verdict_node.proofs.Judged.{whole-at, plain-on, plain-read, judged-plain}
+use Rattle.std.proofs.Common.{rules, length}
 use Rattle.verdict_node.proofs.verdict_plain.Goals as goal
 
 pub expression_at-e-requires : goal.expression_at-e-requires
@@ -11,20 +14,27 @@ expression_at-e-requires c =
 
 pub overflow_mul-n : goal.overflow_mul-n
 overflow_mul-n c =
-    omega (arith, (plain-took _ _ (whole-at _ _ c.requires.went_on) c.requires.front_value.0 c.requires.front_value.1 c.start.ensures (c.expression_at-e.ensures _ (plain-on _ _ (whole-at _ _ c.requires.went_on) c.requires.front_value.0 c.requires.front_value.1 c.start.ensures))).few)
+    omega (arith, (plain-read _ _ (whole-at _ _ c.requires.went_on) c.requires.front_value.0 c.requires.front_value.1 c.start.ensures c.expression_at-e.ensures).few)
 
 pub slice_bounds-words-end : goal.slice_bounds-words-end
 slice_bounds-words-end c =
-    omega (arith, (plain-took _ _ (whole-at _ _ c.requires.went_on) c.requires.front_value.0 c.requires.front_value.1 c.start.ensures (c.expression_at-e.ensures _ (plain-on _ _ (whole-at _ _ c.requires.went_on) c.requires.front_value.0 c.requires.front_value.1 c.start.ensures))).few, c.expression_at-e.auto.out)
+    omega (arith, (plain-read _ _ (whole-at _ _ c.requires.went_on) c.requires.front_value.0 c.requires.front_value.1 c.start.ensures c.expression_at-e.ensures).few, c.expression_at-e.auto.out)
 
-pub slice_bounds-decide-end : goal.slice_bounds-decide-end
-slice_bounds-decide-end c =
-    sym (length-take-le _ _ (omega (arith, (plain-took _ _ (whole-at _ _ c.requires.went_on) c.requires.front_value.0 c.requires.front_value.1 c.start.ensures (c.expression_at-e.ensures _ (plain-on _ _ (whole-at _ _ c.requires.went_on) c.requires.front_value.0 c.requires.front_value.1 c.start.ensures))).few, c.expression_at-e.auto.out)))
+pub slice_bounds-new-end : goal.slice_bounds-new-end
+slice_bounds-new-end c =
+    sym (length-take-le _ _ (omega (arith, (plain-read _ _ (whole-at _ _ c.requires.went_on) c.requires.front_value.0 c.requires.front_value.1 c.start.ensures c.expression_at-e.ensures).few, c.expression_at-e.auto.out)))
 
-pub decide-requires : goal.decide-requires
-decide-requires c =
-    let p = plain-words _ _ (whole-at _ _ c.requires.went_on) c.requires.front_value.0 c.requires.front_value.1 (plain-took _ _ (whole-at _ _ c.requires.went_on) c.requires.front_value.0 c.requires.front_value.1 c.start.ensures (c.expression_at-e.ensures _ (plain-on _ _ (whole-at _ _ c.requires.went_on) c.requires.front_value.0 c.requires.front_value.1 c.start.ensures))) in record { wf = p.0; rs_len_bound = p.1 }
+pub new-requires : goal.new-requires
+new-requires c =
+    (plain-read _ _ (whole-at _ _ c.requires.went_on) c.requires.front_value.0 c.requires.front_value.1 c.start.ensures c.expression_at-e.ensures).tree
+
+pub judge-requires : goal.judge-requires
+judge-requires c =
+    omega (arith, ap length c.new.ensures, (plain-read _ _ (whole-at _ _ c.requires.went_on) c.requires.front_value.0 c.requires.front_value.1 c.start.ensures c.expression_at-e.ensures).short)
 
 pub returns : goal.returns
 returns c =
-    judged-plain _ _ (whole-at _ _ c.requires.went_on) c.requires.front_value.0 c.requires.front_value.1 (plain-took _ _ (whole-at _ _ c.requires.went_on) c.requires.front_value.0 c.requires.front_value.1 c.start.ensures (c.expression_at-e.ensures _ (plain-on _ _ (whole-at _ _ c.requires.went_on) c.requires.front_value.0 c.requires.front_value.1 c.start.ensures))) _ c.decide.ensures c.answer_at-answer.ensures c.count-a.ensures
+    let read = plain-read _ _ (whole-at _ _ c.requires.went_on) c.requires.front_value.0 c.requires.front_value.1 c.start.ensures c.expression_at-e.ensures in
+    let j = c.judge.ensures in
+    judged-plain _ _ (whole-at _ _ c.requires.went_on) c.requires.front_value.0 c.requires.front_value.1 _ read
+    (j.answer ∙ ap (λ (ws : _). on_substituted c.args.at (into (tree_of ws))) c.new.ensures) j.addresses j.sites

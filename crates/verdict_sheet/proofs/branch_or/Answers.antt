@@ -11,16 +11,16 @@ find-found-requires c =
 
 pub is_branch-requires : goal.is_branch-requires
 is_branch-requires c =
-    record { s_value = c.requires.s_value; places_value = c.requires.code_index.places; number_in_bounds = omega (arith, index-addresses c.requires.code_index, index-places c.requires.code_index c.args.sheet c.requires.s_value, place_found c.args.addresses.now c.args.address c.find-found.ensures c.in-At.is) }
+    record { s_value = c.requires.s_value; places_value = c.requires.code_index.places; number_in_bounds = omega (arith, index-addresses c.requires.code_index, index-places c.requires.code_index c.args.sheet c.requires.s_value, place_found c.args.addresses.now c.args.address c.find-found.ensures c.in-Some.is) }
 
 pub returns-then-is_branch : goal.returns-then-is_branch
 returns-then-is_branch c =
-    branch-here c.args.addresses.now (sheet_at c.args.s.now).instructions.list c.args.address c.args.otherwise c.find-found.ensures c.in-At.is (sym c.is_branch.ensures ∙ c.if-is_branch.true)
+    branch-here c.args.addresses.now (sheet_at c.args.s.now).instructions.list c.args.address c.args.otherwise c.find-found.ensures c.in-Some.is (sym c.is_branch.ensures ∙ c.if-is_branch.true)
 
 pub returns-else-is_branch : goal.returns-else-is_branch
 returns-else-is_branch c =
-    other-here c.args.addresses.now (sheet_at c.args.s.now).instructions.list c.args.address c.args.otherwise c.find-found.ensures c.in-At.is (sym c.is_branch.ensures ∙ c.if-is_branch.false)
+    other-here c.args.addresses.now (sheet_at c.args.s.now).instructions.list c.args.address c.args.otherwise c.find-found.ensures c.in-Some.is (sym c.is_branch.ensures ∙ c.if-is_branch.false)
 
-pub returns-in-Nothing : goal.returns-in-Nothing
-returns-in-Nothing c =
-    nothing-here c.args.addresses.now (sheet_at c.args.s.now).instructions.list c.args.address c.args.otherwise c.find-found.ensures c.in-Nothing.is
+pub returns-in-None : goal.returns-in-None
+returns-in-None c =
+    nothing-here c.args.addresses.now (sheet_at c.args.s.now).instructions.list c.args.address c.args.otherwise c.find-found.ensures c.in-None.is
