@@ -1,11 +1,10 @@
 -- The sentence of a block's verdict, from any bytes and any borrowed text.
-use Rattle.std.specs.Prelude.{ℕ, ◌≡◌, cond, List, ◌++◌, leb, ltb, length, drop}
+use Rattle.std.specs.Prelude.{ℕ, ◌≡◌, cond, List, ◌++◌, leb, ltb, length, drop, Result, Ok, Err}
 use Rattle.refusal.specs.Numbers.{NUMBER, TEXT}
 use Rattle.sheet.specs.declared.Reading.{Reading}
 use Rattle.sheet.specs.declared.Reading.TheVariants as reading
 use Rattle.sheet.specs.Sheet.{reading_of}
-use Rattle.sentence_text.specs.declared.Fit.{Fit}
-use Rattle.sentence_text.specs.declared.Fit.TheVariants.{Whole, Short}
+use Rattle.sentence_text.specs.declared.TooShort.{TooShort}
 use Rattle.sentence_block.specs.Sentence.{sentence_on}
 use Rattle.answer_sentence.specs.declared.Told.{Told}
 use Rattle.answer_sentence.specs.declared.Told.TheVariants as told
@@ -51,6 +50,6 @@ abbrev pub Gives : Told → List ℕ → Answered → Type 0
 Gives r text answered = (told_numbers r ≡ answered.answer) × (text ≡ answered.text)
 
 -- what the code answers by whether the text could hold the sentence
-abbrev pub told_by : Fit → Told
-told_by (Whole n) = told.Length n
-told_by (Short n) = told.Refused TEXT n
+abbrev pub told_by : Result ℕ TooShort → Told
+told_by (Ok n) = told.Length n
+told_by (Err short) = told.Refused TEXT short.needed

@@ -4,7 +4,7 @@
 ghost use Rattle.std.specs.Prelude.{◌≡◌};
 ghost use Rattle.answer_sentence.specs.Sentence.{told_by, sentence_answer, Gives};
 
-use sentence_text::Fit;
+use sentence_text::TooShort;
 use sheet::Reading;
 
 // What the operation answers: the sentence's length, or a refusal, its number and its offset.
@@ -15,12 +15,12 @@ pub enum Told {
 }
 
 // The answer by whether the text could hold the sentence.
-fn answer_of(fit: Fit) -> Told
+fn answer_of(fit: Result<usize, TooShort>) -> Told
     ensures { result ≡ told_by fit }
 {
     match fit {
-        Fit::Whole(n) => Told::Length(n),
-        Fit::Short(n) => Told::Refused(refusal::TEXT, n),
+        Ok(n) => Told::Length(n),
+        Err(short) => Told::Refused(refusal::TEXT, short.needed),
     }
 }
 
