@@ -1,5 +1,5 @@
 -- The answer for a node that was read whole, from its substituted condition in borrowed words.
-use Prim.Native.Nat.{ℕ, ◌+◌, ◌*◌, ◌-◌, ◌≤◌, ◌<◌}
+use Prim.Native.Nat.{ℕ, ◌+◌, ◌*◌, ◌≤◌}
 use mathlib.Core.Path.{◌≡◌, refl, sym, ap, ◌∙◌}
 use mathlib.Core.Bool.{Bool, true, false, cond}
 use mathlib.Core.List.{List, []}
@@ -7,7 +7,6 @@ use native.Mathlib.Omega.{arith}
 use lib.ListN.{length, take}
 use Rattle.sheet_field.specs.declared.Place.{Place}
 use Rattle.sheet_field.specs.declared.Place.TheVariants.{At}
-use Rattle.sheet_field.specs.declared.Field.{Field}
 use Rattle.sheet_field.specs.Field.{start_of, count_at, WentOn}
 use Rattle.expr.specs.Tree.{Expr, Wf, tree_of}
 use Rattle.sheet_expression.specs.Expression.{Taken, expression_at}
@@ -24,7 +23,6 @@ use Rattle.substitution.proofs.Nothing.{nothing-assigned}
 use Rattle.decide.specs.Decide.{decide, fits}
 use Rattle.std.specs.Prelude.{Result, Ok, Err}
 use Rattle.verdict.specs.declared.Verdict.{Verdict}
-use Rattle.verdict.specs.declared.Answer.{Answer}
 use Rattle.verdict.specs.declared.Answer.TheVariants.{Given, Refused}
 use Rattle.verdict_node.specs.declared.JudgedNode.{JudgedNode}
 use Rattle.refusal.specs.Numbers.{RECORDS}
@@ -32,15 +30,20 @@ use Rattle.verdict_node.specs.NodeVerdict.{on_substituted, node_verdict}
 use Rattle.verdict_node.specs.Promises.{JudgedIs}
 
 -- the answer from the decision on a condition
-pub given : {E : Type 0} (place : ℕ) (f : Bool) (w : Verdict) (x : E) {v : Verdict} {r : Result Verdict E} → r ≡ cond f (Ok w) (Err x) → r ≡ Ok v
-    → Given v ≡ cond f (Given w) (Refused 11 place)
-given place true w x is kept = cc
-given place false w x is kept = let z : ◌≡◌ {A = ℕ} 0 1 = cc in absurd (omega arith)
+module _ {E : Type 0} (place : ℕ) (e : Expr) {d : Result Verdict E} (t : E) (is : d ≡ cond (fits e) (Ok (decide e)) (Err t)) where
+  pub decided_within : (v : Verdict) → d ≡ Ok v → Given v ≡ on_substituted place (into e)
+  decided_within v ok = by (fits e) (sym ok ∙ is)
+    where
+      by : (b : Bool) → Ok v ≡ cond b (Ok (decide e)) (Err t) → Given v ≡ cond b (Given (decide e)) (Refused 11 place)
+      by true q = cc
+      by false q = cc
 
-pub refused : {E : Type 0} (place : ℕ) (f : Bool) (w : Verdict) (x : E) {y : E} {r : Result Verdict E} → r ≡ cond f (Ok w) (Err x) → r ≡ Err y
-    → Refused 11 place ≡ cond f (Given w) (Refused 11 place)
-refused place true w x is failed = let z : ◌≡◌ {A = ℕ} 0 1 = cc in absurd (omega arith)
-refused place false w x is failed = refl
+  pub decided_beyond : (x : E) → d ≡ Err x → Refused 11 place ≡ on_substituted place (into e)
+  decided_beyond x err = by (fits e) (sym err ∙ is)
+    where
+      by : (b : Bool) → Err x ≡ cond b (Ok (decide e)) (Err t) → Refused 11 place ≡ cond b (Given (decide e)) (Refused 11 place)
+      by true q = cc
+      by false q = refl
 
 -- a node that was read whole where it stands
 pub whole-at : (s : List ℕ) (p : Place) → WentOn (node_at s p).next → ReadNode s (node_at s p)

@@ -25,8 +25,9 @@ pub struct JudgedNode {
     pub sites: Place,
 }
 
-// Refusal 11 where an equality passes the limits, else the verdict.
-fn answer_at(condition: Tree, place: usize) -> Answer
+// The verdict on a condition, or refusal 11 where an equality passes the limits.
+#[tactic(auto, using(crate::proofs::Judged::decided_within, crate::proofs::Judged::decided_beyond))]
+fn answer_on(condition: Tree, place: usize) -> Answer
     requires { length condition.words.now ≤ 256 }
     ensures { result ≡ on_substituted place (into (tree_of condition.entry.words.now)) }
 {
@@ -45,7 +46,7 @@ fn judge(s: &[u8], condition: Tree, end: usize, place: usize) -> JudgedNode
 {
     let a = sheet_field::count(s, Place::At(end), 0, 16);
     JudgedNode {
-        answer: answer_at(condition, place),
+        answer: answer_on(condition, place),
         addresses: a.value,
         sites: a.next,
     }

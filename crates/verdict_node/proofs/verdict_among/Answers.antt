@@ -1,4 +1,3 @@
-use native.Mathlib.Omega.{arith}
 use mathlib.Core.Path.{refl}
 use Rattle.std.proofs.Common.{rules}
 use Rattle.verdict_node.proofs.Judged.{whole-at, types-fit, types_are, types-few, these-statements, this-condition, judged-into, judged_long}
