@@ -1,7 +1,7 @@
 -- Blocks, forced: the verdict on a flag branch is always, or never, exactly where what is known forces the branch that way.
-use Rattle.std.proofs.Common.{None, Option, Some}
+use Rattle.std.proofs.Common.{arith, Option, Some}
 use Prim.Native.Nat.{ℕ}
-use mathlib.Core.Path.{◌≡◌, refl, ap, ◌∙◌}
+use mathlib.Core.Path.{◌≡◌, ap, ◌∙◌}
 use mathlib.Core.List.{List}
 use mathlib.Core.Logic.{◌↔◌}
 use mathlib.Core.Bool.{Bool, true, false}
@@ -29,16 +29,10 @@ saying true = Always Flags
 saying false = Never Flags
 
 judged-is : (f : Option Bool) (b : Bool) → flag_verdict f ≡ saying b → f ≡ Some b
-judged-is (Some true) true e = refl
-judged-is (Some true) false e = cc
-judged-is (Some false) true e = cc
-judged-is (Some false) false e = refl
-judged-is None true e = cc
-judged-is None false e = cc
+judged-is f b e = grind arith
 
 is-judged : (b : Bool) → flag_verdict (Some b) ≡ saying b
-is-judged true = refl
-is-judged false = refl
+is-judged b = grind arith
 
 -- what is known at an end has a concrete state that agrees
 record Possible (known : State) : Type 0 where
