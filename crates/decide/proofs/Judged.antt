@@ -2,11 +2,10 @@
 use Prim.Native.Nat.{ℕ, ◌+◌, ◌≤◌, ◌<◌}
 use mathlib.Core.Path.{◌≡◌, refl, sym, ap, ◌∙◌}
 use mathlib.Core.Bool.{Bool, true, false, cond, ◌&&◌, ◌||◌}
-use mathlib.Core.List.{List, []}
-use Rattle.std.specs.Prelude.{Result, Ok, Err, IsErr}
+use mathlib.Core.List.{[]}
+use Rattle.std.specs.Prelude.{Result, Ok, IsErr}
 use native.Mathlib.Omega.{arith}
 use lib.Dec.{eqb}
-use lib.ListN.{length, get_or}
 use borrow.Author.Tests.{eqb-true, eq-eqb, ne_eqb}
 use mathlib.Core.Logic.{◌⊎◌, inl, inr}
 use native.Mathlib.Nat.{eq-or-lt_of_le}
@@ -20,10 +19,10 @@ use Rattle.parity.specs.declared.TooMany.{TooMany}
 use Rattle.parity.specs.Lent.{within}
 use Rattle.parity.specs.Parity.{parity, right_low, difference, few}
 use Rattle.parity.proofs.Limits.{only}
-use Rattle.verdict.specs.declared.Reason.TheVariants.{EqualSides, Truth, Parity}
+use Rattle.verdict.specs.declared.Reason.TheVariants.{Truth}
 use Rattle.verdict.specs.declared.Verdict.{Verdict}
 use Rattle.verdict.specs.declared.Verdict.TheVariants.{Always, Never, Undecided}
-use Rattle.exact.specs.Exact.{same_sides, is_constant, exact, exact_fits}
+use Rattle.exact.specs.Exact.{same_sides, is_constant, exact_fits}
 use Rattle.exact.specs.Answers.{sum_fits}
 use Rattle.decide.specs.Decide.{or_else, equal_sides, equality, unsigned, unsigned_cast, above_zero, mirrored, unsigned_zero, both, either, decide, equality_fits, fits}
 use Rattle.decide.specs.Answers.{equality_answer}

@@ -1,4 +1,4 @@
--- A root's children as parts of the words, by the root's kind: their trees are the tree's children, and they are shorter. n is where the root's
+-- A root's children as parts of the words, by the root's kind: their trees are the tree's children. n is where the root's
 -- record stands, m where the last child starts, and l where the one before starts.
 -- Assumes nothing.
 use mathlib.Core.Path.{◌≡◌, refl, sym, ap, ap₂, subst, ◌∙◌}
@@ -6,13 +6,11 @@ use mathlib.Core.List.{List, [], ◌∷◌}
 use Prim.Native.Nat.{ℕ, ◌+◌, ◌/◌, ◌%◌, ◌-◌, ◌≤◌, ◌<◌}
 use native.Mathlib.Omega.{arith}
 use lib.Dec.{lit≤}
-use lib.ListN.{length, get_or, take, drop, length-take}
-use Rattle.expr.specs.Codes.{kind_load, kind_ternary}
-use Rattle.expr.specs.Types.{type_of, record_type}
+use lib.ListN.{length, get_or, take, drop}
+use Rattle.expr.specs.Codes.{kind_load}
 use Rattle.expr.specs.Tree.{Expr, kind_of, flat, flats, arity_of, child, nodes, node, tree_of, tree_count, last_start, Wf, Trees, Formed}
-use Rattle.expr.specs.Tree.Expr.{condition_true, load, cast, binary, ternary}
+use Rattle.expr.specs.Tree.Expr.{condition_true, cast, binary, ternary}
 use Rattle.expr.proofs.Laws.{kids, kids-arity, formed-own, parse-of-flats, tree_of-flat, wf-flat, trees-flats, nine}
-use Rattle.expr.proofs.Stack.{node-type, record-agrees}
 use Rattle.expr.proofs.Parts.{root, Split, split}
 
 -- words that are a tree's
@@ -63,7 +61,6 @@ three (a ∷ s) h = ap (λ (r : List Expr). a ∷ r) (two s (omega (arith, h)))
 pub record OneChild (ws : List ℕ) (n : ℕ) (make : Expr → Expr) : Type 0 where
   pub tree : tree_of ws ≡ make (tree_of (take n ws))
   pub wf : Wf (take n ws)
-  pub shorter : length (take n ws) < length ws
 
 -- the root's two children
 pub record TwoChildren (ws : List ℕ) (n m : ℕ) (make : Expr → Expr → Expr) : Type 0 where
@@ -71,8 +68,6 @@ pub record TwoChildren (ws : List ℕ) (n m : ℕ) (make : Expr → Expr → Exp
   pub tree : tree_of ws ≡ make (tree_of (take m ws)) (tree_of (take (n - m) (drop m ws)))
   pub left_wf : Wf (take m ws)
   pub right_wf : Wf (take (n - m) (drop m ws))
-  pub left_shorter : length (take m ws) < length ws
-  pub right_shorter : length (take (n - m) (drop m ws)) < length ws
 
 -- the root's three children
 pub record ThreeChildren (ws : List ℕ) (n m l : ℕ) : Type 0 where
@@ -82,9 +77,6 @@ pub record ThreeChildren (ws : List ℕ) (n m l : ℕ) : Type 0 where
   pub condition_wf : Wf (take l ws)
   pub then_wf : Wf (take (m - l) (drop l ws))
   pub otherwise_wf : Wf (take (n - m) (drop m ws))
-  pub condition_shorter : length (take l ws) < length ws
-  pub then_shorter : length (take (m - l) (drop l ws)) < length ws
-  pub otherwise_shorter : length (take (n - m) (drop m ws)) < length ws
 
 module _ (ws : List ℕ) (n : ℕ) (w : Wf ws) (e : n + 2 ≡ length ws) where
   -- the tree by its root's kind: of a leaf this is the leaf itself
@@ -93,16 +85,6 @@ module _ (ws : List ℕ) (n : ℕ) (w : Wf ws) (e : n + 2 ≡ length ws) where
   unfolding node
   root-kind k h =
       (root ws n w e).made ∙ ap (λ (i : ℕ). get_or (nodes (get_or ws n 0 / 16) (get_or ws (n + 1) 0) (kids (tree_of ws))) i condition_true) h
-
-  -- the static type of a tree of one record, below kind 5
-  pub leaf_type : (types : List ℕ) → kind_of (get_or ws n 0) < kind_load → type_of types (tree_of ws) ≡ record_type types (get_or ws n 0) 0 0
-  unfolding arity_of
-  leaf_type types h =
-      let tag = get_or ws n 0 in
-      let l : kind_of tag ≤ kind_ternary = omega arith in
-      ap (type_of types) (root ws n w e).made
-      ∙ node-type types tag (get_or ws (n + 1) 0) (kids (tree_of ws)) l
-      ∙ record-agrees types tag _ _ 0 0 l (λ two. absurd (omega (arith, leaf-arity tag h)))
 
   -- the record at n is formed
   pub root-formed : Formed (get_or ws n 0) (get_or ws (n + 1) 0)
@@ -125,11 +107,7 @@ module _ (ws : List ℕ) (n : ℕ) (w : Wf ws) (e : n + 2 ≡ length ws) where
       let b = child (kids (tree_of ws)) 0 in
       let words : take n ws ≡ flat b = (root ws n w e).body ∙ ap flats (one (kids (tree_of ws)) (kids-count ∙ a)) in
       let p = part (take n ws) b words in
-      record { tree = t ∙ ap make (sym p.1); wf = p.0; shorter = omega (arith, length-take n ws) }
-
-  -- kind 5
-  pub load-child : get_or ws n 0 % 16 ≡ 5 → OneChild ws n (load (get_or ws n 0 / 16))
-  load-child h = one-child (load (get_or ws n 0 / 16)) (arity-kind (get_or ws n 0) 5 h) (root-kind 5 h)
+      record { tree = t ∙ ap make (sym p.1); wf = p.0 }
 
   -- kind 6
   pub cast-child : get_or ws n 0 % 16 ≡ 6 → OneChild ws n (cast (get_or ws n 0 / 16))
@@ -150,8 +128,6 @@ module _ (ws : List ℕ) (n : ℕ) (w : Wf ws) (e : n + 2 ≡ length ws) where
         tree = root-kind 7 h ∙ ap₂ (binary (get_or ws n 0 / 16)) (sym p.1) (sym q.1);
         left_wf = p.0;
         right_wf = q.0;
-        left_shorter = omega (arith, d.start, length-take m ws);
-        right_shorter = omega (arith, d.start, ap length d.last);
       }
 
   module _ (m : ℕ) (s : m ≡ last_start (take n ws)) (h : get_or ws n 0 % 16 ≡ 8) where
@@ -183,7 +159,4 @@ module _ (ws : List ℕ) (n : ℕ) (w : Wf ws) (e : n + 2 ≡ length ws) where
           condition_wf = p.0;
           then_wf = q.0;
           otherwise_wf = x.0;
-          condition_shorter = omega (arith, d.start, f.start, length-take l ws);
-          then_shorter = omega (arith, d.start, f.start, ap length f.last);
-          otherwise_shorter = omega (arith, d.start, ap length d.last);
         }

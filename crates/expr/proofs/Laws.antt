@@ -151,9 +151,6 @@ pub trees-wf : (ws : List ℕ) → Trees ws → tree_count ws ≡ 1 → Wf ws
 unfolding Trees tree_of
 trees-wf ws h one = one-tree ws (parse [] ws) h one
 
-pub wf-count : (ws : List ℕ) → Wf ws → tree_count ws ≡ 1
-wf-count ws h = ap length (wf-parse ws h)
-
 pub flats-append : (s t : List Expr) → flats (s ++ t) ≡ flats t ++ flats s
 unfolding flats
 flats-append [] t = sym (append-nil (flats t))
@@ -326,14 +323,3 @@ parse-join a b h k =
     ap₂ (λ (x y : List ℕ). parse [] (x ++ y)) (sym h) (sym k)
     ∙ ap (parse []) (sym (flats-append (parse [] b) (parse [] a)))
     ∙ parse-of-flats (parse [] b ++ parse [] a)
-
-pub trees-join : (a b : List ℕ) → Trees a → Trees b → Trees (a ++ b)
-unfolding Trees
-trees-join a b h k =
-    ap flats (parse-join a b h k)
-    ∙ flats-append (parse [] b) (parse [] a)
-    ∙ ap₂ (λ (x y : List ℕ). x ++ y) h k
-
--- one tree after trees
-pub parse-tree : (a b : List ℕ) → Trees a → Wf b → parse [] (a ++ b) ≡ tree_of b ∷ parse [] a
-parse-tree a b h k = parse-join a b h (wf-trees b k) ∙ ap (λ (s : List Expr). s ++ parse [] a) (wf-parse b k)

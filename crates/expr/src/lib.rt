@@ -243,7 +243,7 @@ fn record_type(tag: u64, types: &[u8], a: u64, b: u64) -> u64
 }
 
 // Where the last tree of a list of trees starts: from the end back, with the number of trees that are still to be passed.
-pub fn last_start(rs: &[u64]) -> usize
+fn last_start(rs: &[u64]) -> usize
     requires trees { Trees rs.now }
     requires bound { 1 ≤ tree_count rs.now }
     ensures { result ≡ last_start rs.now }
@@ -287,7 +287,7 @@ impl<'a> Tree<'a> {
     }
 
     // The tag word of the root.
-    pub fn tag(self) -> u64
+    fn tag(self) -> u64
         ensures { result ≡ tag_of (tree_of self.entry.words.now) }
     {
         self.words[self.words.len() - 2]
@@ -446,33 +446,4 @@ impl<'a> Tree<'a> {
     {
         self.words == other.words
     }
-}
-
-pub fn has_own_value(rs: &[u64]) -> bool
-    requires { Wf rs.now }
-    ensures { result ≡ has_own_value (tree_of rs.now) }
-{
-    Tree { words: rs }.has_own_value()
-}
-
-pub fn is_plain(rs: &[u64]) -> bool
-    requires { Wf rs.now }
-    ensures { result ≡ plain_expr (tree_of rs.now) }
-{
-    Tree { words: rs }.is_plain()
-}
-
-pub fn reads(rs: &[u64], v: u64) -> bool
-    requires { Wf rs.now }
-    ensures { result ≡ reads_of v (tree_of rs.now) }
-{
-    Tree { words: rs }.reads(v)
-}
-
-pub fn same(a: &[u64], b: &[u64]) -> bool
-    requires wf { Wf a.now }
-    requires wf_2 { Wf b.now }
-    ensures { result ≡ same_tree (tree_of a.now) (tree_of b.now) }
-{
-    Tree { words: a }.same(Tree { words: b })
 }

@@ -1,11 +1,11 @@
 -- The laws of the calls by which `parity` goes through a part: what a child borrows, and what a part's polynomial is by its root.
-use Prim.Native.Nat.{ℕ, ◌+◌, ◌*◌, ◌-◌, ◌%◌, ◌≤◌, ◌<◌}
+use Prim.Native.Nat.{ℕ, ◌+◌, ◌*◌, ◌-◌, ◌≤◌, ◌<◌}
 use mathlib.Core.Path.{◌≡◌, refl, sym, ap, subst, ◌∙◌}
 use mathlib.Core.Bool.{true, false}
-use mathlib.Core.List.{List, ◌++◌, append_cancel_left}
+use mathlib.Core.List.{List, ◌++◌}
 use native.Mathlib.Omega.{arith}
-use lib.ListN.{length, get_or, take, drop, length-append, length-drop}
-use lib.Seq.{length-take-le, take-take, take-add, drop-drop, take_at, drop_at, take-append-le}
+use lib.ListN.{length, take, drop, length-append, length-drop}
+use lib.Seq.{length-take-le, take-take, drop-drop, take_at, drop_at, take-append-le}
 use borrow.Author.Tests.{eq-eqb, ne_eqb}
 use Rattle.expr.specs.Tree.{Expr, Wf, tree_of, value_of, flat}
 use Rattle.expr.specs.Tree.Expr.{variable, constant, condition_true, condition_false, effect, load, cast, binary, ternary}
@@ -15,7 +15,6 @@ use Rattle.expr.proofs.Laws.{wf-two}
 use Rattle.expr.proofs.Views.{Standing, constant-root}
 use Rattle.parity.specs.Parity.{Low, constant_poly, entered, atom_low, pair_poly, pair_fits, low_of, parity}
 use Rattle.parity.specs.declared.Pair.{Pair}
-use Rattle.parity.specs.declared.Pair.TheVariants.{Sum, Product, Or}
 use Rattle.parity.specs.declared.Entry.{Entry}
 use Rattle.parity.specs.declared.Size.{Size}
 use Rattle.parity.specs.declared.TooMany.{TooMany}

@@ -22,9 +22,7 @@ use Rattle.value.proofs.Independence.{without-own-value}
 use Rattle.arith.proofs.Laws.{convert-lt, count-is, cut-lt}
 use Rattle.parity.proofs.TypeLaws.{promoted-taken, together-taken, constant_wide}
 use Rattle.parity.specs.Parity.{constant_of, on_remainder, on_shift, entered}
-use Rattle.parity.specs.declared.Entry.{Entry}
-use Rattle.parity.specs.declared.Entry.TheVariants.{Both, Keeps, Clears, Atom}
-use Rattle.parity.specs.declared.Pair.TheVariants.{Sum, Product, Or}
+use Rattle.parity.specs.declared.Entry.TheVariants.{Keeps, Clears, Atom}
 use Rattle.parity.specs.LowBit.{bit, atom_bit, low_bit, low, Has, shared_bits, own_bits}
 use Rattle.parity.proofs.Entries.{bit_of, beyond, rule-entry}
 use Rattle.parity.proofs.LowBits.{width_low, convert-low, sum_low, difference_low, product-low, xor_low, and_low, or-low, remainder-low, shift_none, shift-some}

@@ -26,9 +26,8 @@ use Rattle.poly.specs.Terms.{Written, sum, product, sum_product}
 use Rattle.poly.proofs.Running.{length-times, times_one, written-ordered}
 use Rattle.poly.proofs.Values.{ascending-sum}
 use Rattle.parity.specs.Parity.{constant_of, entered, few, few_pairs, joined, constant_poly, place, number_in, noted, atom_low}
-use Rattle.parity.specs.declared.Entry.{Entry}
-use Rattle.parity.specs.declared.Entry.TheVariants.{Both, Keeps, Clears, Atom}
-use Rattle.parity.specs.declared.Pair.TheVariants.{Sum, Product, Or}
+use Rattle.parity.specs.declared.Entry.TheVariants.{Both, Atom}
+use Rattle.parity.specs.declared.Pair.TheVariants.{Sum}
 use Rattle.parity.specs.declared.Size.{Size}
 use Rattle.parity.specs.declared.TooMany.{TooMany}
 use Rattle.parity.specs.Lent.{too_many, part_at, atoms_at, Part, Parts, Lent, Sides, Made, Given}

@@ -1,6 +1,6 @@
 -- What the code of `parity` borrows, and what it leaves there. The atoms stand in a table as offsets in the words of one equality,
 -- a polynomial at the start of a list of terms.
-use Rattle.std.specs.Prelude.{ℕ, ◌+◌, ◌*◌, ◌-◌, ◌/◌, ◌%◌, ◌≤◌, ◌<◌, ◌≡◌, Bool, true, cond, ◌&&◌, List, [], ◌∷◌, length, get_or, take, drop, Result, Ok, Err}
+use Rattle.std.specs.Prelude.{ℕ, ◌+◌, ◌*◌, ◌-◌, ◌/◌, ◌%◌, ◌≤◌, ◌<◌, ◌≡◌, Bool, true, cond, List, [], ◌∷◌, length, get_or, take, drop, Result, Ok, Err}
 use Rattle.expr.specs.Tree.{Expr, Wf, tree_of}
 use Rattle.search.specs.Ascending.{Ascending}
 use Rattle.parity.specs.Parity.{Low, parity, pair_low}

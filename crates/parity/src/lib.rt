@@ -278,7 +278,14 @@ pub fn sides(
         &mut terms[first.terms..],
         scratch,
     )?;
-    combined(pair, terms, first.terms, second.terms, scratch, second.atoms)
+    combined(
+        pair,
+        terms,
+        first.terms,
+        second.terms,
+        scratch,
+        second.atoms,
+    )
 }
 
 // The polynomial of a part that stands at `at` in the whole, given the atoms that have numbers already: its terms at the start of

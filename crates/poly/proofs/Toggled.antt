@@ -1,5 +1,5 @@
 -- A term put in or taken out of a borrowed list by moving what stands above it: the start of the list is then `toggle`.
-use Rattle.std.proofs.Common.{◌≡◌, ℕ, zero, suc, ◌+◌, ◌-◌, ◌≤◌, ◌<◌, List, [], ◌∷◌, ◌++◌, Result, Ok, Err, length, get_or, take, drop, slice_set, refl, sym, ap, ap₂, ◌∙◌, append_assoc, add-one, length-append, length-drop, length-take, MatchResult, arith}
+use Rattle.std.proofs.Common.{◌≡◌, ℕ, zero, suc, ◌+◌, ◌-◌, ◌≤◌, ◌<◌, List, [], ◌∷◌, ◌++◌, Ok, Err, length, get_or, take, drop, slice_set, refl, sym, ap, ap₂, ◌∙◌, append_assoc, add-one, length-append, length-drop, length-take, arith}
 use Rattle.std.specs.Ordering.{nat_cmp}
 use Rattle.std.specs.List.{copy_within}
 use Rattle.std.specs.List.Sorted.{IsBinarySearchResult}

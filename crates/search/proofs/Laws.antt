@@ -231,7 +231,7 @@ pub place_searched : {l : List ℕ} → Ascending l → (x : ℕ) → (r : Resul
 place_searched {l} up x r found = go r (searched l x r found (ascending-upto up))
   where
     go : (r : Result ℕ ℕ) → MatchResult r (λ i. (i < length l) × (get_or l i 0 ≡ x))
-            (λ i. (i ≤ length l) × ((k : ℕ) → k < i → get_or l k 0 < x) × ((k : ℕ) → i ≤ k → k < length l → x < get_or l k 0))
+        (λ i. (i ≤ length l) × ((k : ℕ) → k < i → get_or l k 0 < x) × ((k : ℕ) → i ≤ k → k < length l → x < get_or l k 0))
         → result_ok r ≡ place_of l x
     go (Ok i) here = place_here up here
     go (Err i) apart = place_none l x (λ k h e. off k h e (dec_lt k i))

@@ -21,7 +21,7 @@ use Rattle.expr.proofs.Views.{by-root}
 use Rattle.expr.proofs.Plainness.{effect-not-plain, load-not-plain}
 use Rattle.arith.specs.Numbers.{bits, convert, quotient, remainder, count, below, at_most}
 use Rattle.arith.proofs.Laws.{cut-lt, quotient-typed, remainder-typed, shift-typed, convert-lt}
-use Rattle.value.specs.Operators.{Typed, chosen, both_hold, either_holds, integer_of, truth_of, flag, taken, divides, Operation, arithmetics, shifts, comparisons, no_operation, on_common, on_left, operators, no_operator, strict, is_logic, connect, operate, choose}
+use Rattle.value.specs.Operators.{Typed, chosen, integer_of, truth_of, flag, taken, divides, Operation, arithmetics, shifts, comparisons, no_operation, on_common, on_left, operators, no_operator, strict, is_logic, connect, operate, choose}
 use Rattle.value.specs.Evaluation.{Values, Contents, Memory, Effects, under, loaded, ev, evaluated}
 
 -- an operation whose value is of type u, on patterns of type t
@@ -216,10 +216,6 @@ ev-typed types ρ σ m f (ternary c a b) =
     choose-typed t (truth_of (ev types ρ σ (under 0 m) (under 0 f) c)) (taken (type_of types a) t u) (taken (type_of types b) t v) (taken-typed (type_of types a) t u) (taken-typed (type_of types b) t v)
 
 module _ (types values : List ℕ) where
-  pub evaluated-typed : (e : Expr) {t : ℕ} {v : Option ℕ} → t ≡ type_of types e → v ≡ evaluated types values e → Typed t v
-  unfolding evaluated
-  evaluated-typed e et ee = rw (et, ee) (ev-typed types (λ n. get_or values n 0) (λ n. get_or values n 0) (λ path t a. 0) (λ path. 0) e)
-
   -- evaluation by the root
   evaluated-cast : (t : ℕ) (a : Expr) → evaluated types values (cast t a) ≡ taken (type_of types a) t (evaluated types values a)
   unfolding evaluated ev
@@ -261,32 +257,6 @@ module _ (types values : List ℕ) where
 
     pub at-neither : x ≡ None → None ≡ evaluated types values e
     at-neither g = rw (ternary-is, g)
-
--- && and || by their left side: where it has no outcome, settles the whole, or leaves it to the right one
-pub connect-none : (o : ℕ) (v : Option Bool) → None ≡ connect o None v
-connect-none o v = by (eqb o op_logical_and)
-  where
-    by : (b : Bool) → ◌≡◌ {A = Option Bool} None (cond b None None)
-    by true = refl
-    by false = refl
-
-pub connect-settled : (o : ℕ) (x : Bool) (v : Option Bool) → x ≡ not (eqb o op_logical_and) → Some x ≡ connect o (Some x) v
-connect-settled o x v = by (eqb o op_logical_and) x
-  where
-    by : (b x : Bool) → x ≡ not b → Some x ≡ cond b (both_hold (Some x) v) (either_holds (Some x) v)
-    by true true h = absurd (false≢true (sym h))
-    by true false h = refl
-    by false true h = refl
-    by false false h = absurd (false≢true h)
-
-pub connect-open : (o : ℕ) (x : Bool) (v : Option Bool) → (x ≡ not (eqb o op_logical_and) → ⊥) → v ≡ connect o (Some x) v
-connect-open o x v = by (eqb o op_logical_and) x
-  where
-    by : (b x : Bool) → (x ≡ not b → ⊥) → v ≡ cond b (both_hold (Some x) v) (either_holds (Some x) v)
-    by true true h = refl
-    by true false h = absurd (h refl)
-    by false true h = absurd (h refl)
-    by false false h = refl
 
 -- of && and ||
 pub at-logic : (types values : List ℕ) {e : Expr} {o : ℕ} {a b : Expr} → e ≡ binary o a b → is_logic o ≡ true

@@ -66,12 +66,10 @@ fn node_jump(
 {
     let mut next = sites;
     let mut jump = None;
-    let mut i: u64 = 0;
-    while i < n {
+    for _ in 0..n {
         let f = sheet_field::take_field(s, next, Width::Eight);
         jump = branch_or(s, sheet, addresses, places, f.value, jump);
         next = f.next;
-        i += 1;
     }
     jump
 }
@@ -144,12 +142,9 @@ fn judge_blocks(s: &[u8], sheet: Sheet, addresses: &[u64], places: &[u64], slots
     ensures { slots.new ≡ slots_of (sheet_at s.now).instructions.list (blocks_say s.now sheet.blocks.count) }
 {
     let section = sheet.blocks;
-    let n = section.count;
-    let mut guess: usize = 0;
-    let mut i: u64 = 0;
-    while i < n {
+    let mut guess = 0;
+    for i in 0..section.count {
         guess = judge_block(s, sheet, addresses, places, i, guess, slots);
-        i += 1;
     }
 }
 
@@ -197,14 +192,12 @@ fn judge_nodes(
     requires slots_value { slots.old ≡ slots_of (sheet_at s.now).instructions.list (blocks_say s.now sheet.blocks.count) }
     ensures { Reached (sheet_at s.now).instructions.list result slots.new (judged_up_to s.now sheet.blocks.count sheet.nodes.count) }
 {
-    let mut i = 0;
-    while i < nodes.len() {
-        let judged = verdict_node::verdict_at(s, nodes[i] as usize);
+    for node in nodes {
+        let judged = verdict_node::verdict_at(s, *node as usize);
         let r = keep_node(s, sheet, judged, addresses, places, slots);
         if let Progress::Refused(k, at) = r {
             return Progress::Refused(k, at);
         }
-        i += 1;
     }
     Progress::Through
 }

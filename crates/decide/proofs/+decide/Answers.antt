@@ -1,5 +1,5 @@
 -- Each case is a law of proofs/Judged.antt.
-use Rattle.std.proofs.Common.{◌≡◌, ◌≤◌, ◌<◌, ◌+◌, ◌||◌, ◌&&◌, true, false, eqb, refl, sym, ◌∙◌, arith}
+use Rattle.std.proofs.Common.{◌≤◌, ◌<◌, ◌+◌, refl, sym, ◌∙◌, arith}
 use Rattle.expr.proofs.Views.{sides-standing}
 use Rattle.parity.proofs.Calls.{lent_two}
 use Rattle.parity.proofs.Limits.{kept, failed}
@@ -77,10 +77,10 @@ returns-in-10-2 t c =
 pub returns-in_default-operator : goal.returns-in_default-operator
 returns-in_default-operator t c =
     elim c.in_default-operator.branch [
-      in_default-operator-via-then-this-lt10 w ↦
-        decide-relation _ c.sides.ensures.tree c.argument-operator.ensures (neither c.argument-operator.result 16 (λ e. omega arith) (λ e. omega arith)) (neither c.argument-operator.result 10 (λ e. omega arith) (λ e. omega arith)) c.relation.ensures
-    | in_default-operator-via-else-this-lt10+else-this-lt12 w ↦
-        decide-relation _ c.sides.ensures.tree c.argument-operator.ensures (neither c.argument-operator.result 16 (λ e. omega arith) (λ e. omega arith)) (neither c.argument-operator.result 10 (λ e. omega arith) (λ e. omega arith)) c.relation.ensures
+      | in_default-operator-via-then-this-lt10 w ↦
+          decide-relation _ c.sides.ensures.tree c.argument-operator.ensures (neither c.argument-operator.result 16 (λ e. omega arith) (λ e. omega arith)) (neither c.argument-operator.result 10 (λ e. omega arith) (λ e. omega arith)) c.relation.ensures
+      | in_default-operator-via-else-this-lt10+else-this-lt12 w ↦
+          decide-relation _ c.sides.ensures.tree c.argument-operator.ensures (neither c.argument-operator.result 16 (λ e. omega arith) (λ e. omega arith)) (neither c.argument-operator.result 10 (λ e. omega arith) (λ e. omega arith)) c.relation.ensures
     ]
 
 pub returns-in_default : goal.returns-in_default

@@ -1,4 +1,4 @@
-use Rattle.std.proofs.Common.{Ok, refl, sym, ap, ◌∙◌}
+use Rattle.std.proofs.Common.{refl, sym, ◌∙◌}
 use Rattle.parity.proofs.Limits.{past, kept}
 use Rattle.exact.proofs.Steps.{seen-constant, seen-cast, seen-binary, seen-other, found}
 use Rattle.exact.proofs.+exact.Goals as goal

@@ -1,4 +1,3 @@
-use Rattle.parity.proofs.Steps.{told-within, told}
 use Rattle.exact.proofs.Steps.{low-past, low-told}
 use Rattle.exact.proofs.low_bit.Goals as goal
 

@@ -63,10 +63,10 @@ parity-returns-in-Atom t c =
 pub parity-returns-in_default : goal.parity-returns-in_default
 parity-returns-in_default t c =
     elim c.in_default.branch [
-      parity-in_default-via-in-Cast+else-argument-ne-BOOL w ↦
-        given-as (low-other _ _ (λ h. let is = sym w.in-Cast.is ∙ c.root.ensures ∙ h in cc) (λ _. sym w.argument.ensures ∙ w.if-argument-ne-BOOL.false) (λ h. let is = sym w.in-Cast.is ∙ c.root.ensures ∙ h in cc)) c.atom-in_default.ensures
-    | parity-in_default-via-in_default w ↦
-        given-as (low-other _ _ (λ h. w.in_default.not-Constant (c.root.ensures ∙ h)) (λ h. absurd (w.in_default.not-Cast (c.root.ensures ∙ h))) (λ h. w.in_default.not-Binary (c.root.ensures ∙ h))) c.atom-in_default.ensures
+      | parity-in_default-via-in-Cast+else-argument-ne-BOOL w ↦
+          given-as (low-other _ _ (λ h. let is = sym w.in-Cast.is ∙ c.root.ensures ∙ h in cc) (λ _. sym w.argument.ensures ∙ w.if-argument-ne-BOOL.false) (λ h. let is = sym w.in-Cast.is ∙ c.root.ensures ∙ h in cc)) c.atom-in_default.ensures
+      | parity-in_default-via-in_default w ↦
+          given-as (low-other _ _ (λ h. w.in_default.not-Constant (c.root.ensures ∙ h)) (λ h. absurd (w.in_default.not-Cast (c.root.ensures ∙ h))) (λ h. w.in_default.not-Binary (c.root.ensures ∙ h))) c.atom-in_default.ensures
     ]
 
 pub sides-parity-requires-2 : goal.sides-parity-requires-2

@@ -1,4 +1,4 @@
-use Rattle.std.proofs.Common.{◌+◌, ap, ◌∙◌, take, slice_set, arith}
+use Rattle.std.proofs.Common.{ap, slice_set, arith}
 use Rattle.poly.proofs.Toggled.{take-out-toggles, put-in-toggles}
 use Rattle.poly.proofs.toggle.Goals as goal
 
