@@ -3,7 +3,7 @@
 #![tactic(auto)]
 
 ghost use Rattle.std.specs.Prelude.{◌≡◌};
-ghost use Rattle.refusal.specs.Numbers.{number_of};
+ghost use Rattle.refusal.specs.Numbers.{number_of, refused};
 
 #[derive(Clone, Copy, PartialEq, Eq, Debug)]
 pub enum Fault {
@@ -49,6 +49,13 @@ impl Fault {
         ensures { result ≡ number_of self }
     {
         self as u64
+    }
+
+    // This fault at an offset.
+    pub fn at(self, at: usize) -> Refusal
+        ensures { result ≡ refused self at }
+    {
+        Refusal { fault: self, at }
     }
 }
 
