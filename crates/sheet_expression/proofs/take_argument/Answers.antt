@@ -1,15 +1,21 @@
+use Rattle.sheet_expression.proofs.Checks.{argument-none, argument_cut, argument-judged}
+use Rattle.std.proofs.lemmas.Result.{err_from_is_err_and}
 use mathlib.Core.Path.{sym, ◌∙◌}
-use Rattle.sheet_expression.proofs.OneRecord.{argument-there, argument-none}
 use Rattle.sheet_expression.proofs.take_argument.Goals as goal
 
-pub argument_ok-ok-requires : goal.argument_ok-ok-requires
-argument_ok-ok-requires c =
-    (c.requires.0, c.requires.1, sym c.has_argument.ensures ∙ c.if-has_argument.true)
+pub returns-then-not-has_argument : goal.returns-then-not-has_argument
+returns-then-not-has_argument c =
+    argument-none _ _ _ _ c.has_argument.ensures c.if-not-has_argument.true
 
-pub returns-then-has_argument : goal.returns-then-has_argument
-returns-then-has_argument c =
-    argument-there _ _ _ _ c.has_argument.ensures c.if-has_argument.true c.take_field-f.ensures c.argument_ok-ok.ensures c.start.ensures c.checked.ensures
+pub returns-in_err-f : goal.returns-in_err-f
+returns-in_err-f c =
+    let e = err_from_is_err_and c.from_residual.result c.from_residual.ensures.1 in
+    rw (e.1, e.2) (argument_cut _ _ _ _ c.has_argument.ensures c.if-not-has_argument.false (sym c.take_field.ensures ∙ c.in_err-f.was))
 
-pub returns-else-has_argument : goal.returns-else-has_argument
-returns-else-has_argument c =
-    argument-none _ _ _ _ c.has_argument.ensures c.if-has_argument.false
+pub returns-then-argument_ok : goal.returns-then-argument_ok
+returns-then-argument_ok c =
+    rw (argument-judged _ _ _ _ c.has_argument.ensures c.if-not-has_argument.false (sym c.take_field.ensures ∙ c.in_ok-f.was), ← c.argument_ok.ensures, c.if-argument_ok.true)
+
+pub returns-else-argument_ok : goal.returns-else-argument_ok
+returns-else-argument_ok c =
+    rw (argument-judged _ _ _ _ c.has_argument.ensures c.if-not-has_argument.false (sym c.take_field.ensures ∙ c.in_ok-f.was), ← c.argument_ok.ensures, c.if-argument_ok.false, c.at.ensures)
