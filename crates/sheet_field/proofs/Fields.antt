@@ -6,10 +6,10 @@ use lib.ListN.{length, get_or}
 use native.Mathlib.Omega.{arith}
 use native.Mathlib.Numerals.{add-one}
 use native.Mathlib.Nat.{add-zero, zero-add, add-suc, suc-add, pow-suc}
-use borrow.Author.Tests.{le-leb, lt-leb, lt-ltb, le-ltb}
+use borrow.Author.Tests.{le-leb, lt-leb}
 use mathlib.Core.Bool.{Bool, true, false}
-use lib.Dec.{leb, ltb}
-use Rattle.std.specs.Prelude.{cond, ◌&&◌}
+use lib.Dec.{leb}
+use Rattle.std.specs.Prelude.{cond}
 use borrow.Author.Tests.{leb-true, ltb-true}
 use Rattle.sheet_field.specs.Field.{Place, FieldReading, little, field_at, check_field, count_at, judge, keep, start_of, code_at, WentOn, read_as, answer_of}
 use Rattle.std.specs.Prelude.{Ok, Err}
@@ -169,35 +169,6 @@ pub checked_err : (ok : Bool) (fault : Fault) (at : ℕ) (f : FieldReading) {r :
     → answer_of (check_field ok fault at f) ≡ Err r
 unfolding check_field
 checked_err ok fault at f e = rw (answer_err f e) refl
-
-pub code_ok : (limit : ℕ) (s : List ℕ) (at : ℕ) {x : Field} → answer_of (field_at 1 s (Ok at)) ≡ Ok x → x.value < limit
-    → answer_of (code_at limit s (Ok at)) ≡ Ok x
-unfolding code_at
-code_ok limit s at {x} e lt = rw (checked_ok (λ v. ltb v limit) Code at (field_at 1 s (Ok at)) e, lt-ltb x.value limit lt) refl
-
-pub code_out : (limit : ℕ) (s : List ℕ) (at : ℕ) {x : Field} → answer_of (field_at 1 s (Ok at)) ≡ Ok x → limit ≤ x.value
-    → answer_of (code_at limit s (Ok at)) ≡ Err (refused Code at)
-unfolding code_at
-code_out limit s at {x} e out = rw (checked_ok (λ v. ltb v limit) Code at (field_at 1 s (Ok at)) e, le-ltb x.value limit out) refl
-
-pub code_err : (limit : ℕ) (s : List ℕ) (at : ℕ) {r : Refusal} → answer_of (field_at 1 s (Ok at)) ≡ Err r → answer_of (code_at limit s (Ok at)) ≡ Err r
-unfolding code_at
-code_err limit s at e = checked_err _ Code at (field_at 1 s (Ok at)) e
-
-pub count_ok : (least most : ℕ) (s : List ℕ) (at : ℕ) {x : Field} → answer_of (field_at 2 s (Ok at)) ≡ Ok x
-    → (leb least x.value && leb x.value most) ≡ true → answer_of (count_at least most s (Ok at)) ≡ Ok x
-unfolding count_at
-count_ok least most s at {x} e within = rw (checked_ok (λ v. leb least v && leb v most) Count at (field_at 2 s (Ok at)) e, within) refl
-
-pub count_out : (least most : ℕ) (s : List ℕ) (at : ℕ) {x : Field} → answer_of (field_at 2 s (Ok at)) ≡ Ok x
-    → (leb least x.value && leb x.value most) ≡ false → answer_of (count_at least most s (Ok at)) ≡ Err (refused Count at)
-unfolding count_at
-count_out least most s at {x} e out = rw (checked_ok (λ v. leb least v && leb v most) Count at (field_at 2 s (Ok at)) e, out) refl
-
-pub count_err : (least most : ℕ) (s : List ℕ) (at : ℕ) {r : Refusal} → answer_of (field_at 2 s (Ok at)) ≡ Err r
-    → answer_of (count_at least most s (Ok at)) ≡ Err r
-unfolding count_at
-count_err least most s at e = checked_err _ Count at (field_at 2 s (Ok at)) e
 
 -- a code: where it stood, and that it is in its table
 pub record WholeCode (limit : ℕ) (s : List ℕ) (p : Place) (a : ℕ) : Type 0 where

@@ -1,5 +1,5 @@
 -- Fields of a sheet, the offset that reading has reached, and checks.
-use Rattle.std.specs.Prelude.{ℕ, zero, suc, ◌+◌, ◌*◌, ◌≡◌, List, Bool, cond, ◌&&◌, length, get_or, leb, ltb, Result, Ok, Err}
+use Rattle.std.specs.Prelude.{ℕ, zero, suc, ◌+◌, ◌*◌, ◌^◌, ◌<◌, ◌≡◌, List, Bool, cond, ◌&&◌, length, get_or, leb, ltb, Result, Ok, Err}
 use Rattle.refusal.specs.declared.Fault.{Fault}
 use Rattle.refusal.specs.declared.Fault.TheVariants.{Ends, Code, Count}
 use Rattle.refusal.specs.declared.Refusal.{Refusal}
@@ -50,6 +50,16 @@ unfoldable pub check_field : Bool → Fault → ℕ → FieldReading → FieldRe
 check_field ok fault at f =
     let p = judge ok fault at f.next in
     record { value = keep p f.value; next = p }
+
+-- a field of n bytes whose number passes a test; else refused, reported at the field
+abbrev pub tested_at : ℕ → (ℕ → Bool) → Fault → List ℕ → Place → FieldReading
+tested_at n test fault s p =
+    let f = field_at n s p in
+    check_field (test f.value) fault (start_of p) f
+
+-- a check of numbers of 64 bits, by what its calls may answer, that answers as a test does
+abbrev pub Answers : (ℕ → Bool → Type 0) → (ℕ → Bool) → Type 0
+Answers post test = (x : ℕ) (b : Bool) → x < 2 ^ 64 → post x b → b ≡ test x
 
 -- A code of one byte, below its table's end; else refusal 2, reported at the field (S2, R8).
 unfoldable pub code_at : ℕ → List ℕ → Place → FieldReading

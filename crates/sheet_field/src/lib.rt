@@ -2,8 +2,8 @@
 // way.
 #![tactic(auto)]
 
-ghost use Rattle.std.specs.Prelude.{◌≡◌, ◌+◌, ◌≤◌, length, Ok};
-ghost use Rattle.sheet_field.specs.Field.{little, field_at, code_at, count_at, answer_of};
+ghost use Rattle.std.specs.Prelude.{◌≡◌, ◌+◌, ◌≤◌, length, Ok, ℕ, Bool};
+ghost use Rattle.sheet_field.specs.Field.{little, field_at, Answers, tested_at, code_at, count_at, answer_of};
 
 use refusal::{Fault, Refusal};
 
@@ -43,28 +43,35 @@ pub fn take_field<const N: usize>(s: &[u8], at: usize) -> Result<Field, Refusal>
     }
 }
 
-// A code byte below its table's end.
-#[tactic(auto, using(crate::proofs::Fields::code_ok, crate::proofs::Fields::code_out, crate::proofs::Fields::code_err))]
-pub fn code(s: &[u8], at: usize, limit: u64) -> Result<Field, Refusal>
-    ensures { result ≡ answer_of (code_at limit s.now (Ok at)) }
+// A field of N bytes that passes the check.
+pub fn take_checked<const N: usize, F: Fn(u64) -> bool>(
+    s: &[u8],
+    at: usize,
+    fault: Fault,
+    check: F,
+) -> Result<Field, Refusal>
+    requires width { N ≤ 8 }
+    requires callable { F.IsAlwaysCallable check }
+    ensures { (test : ℕ → Bool) → Answers (F.post check) test → result ≡ answer_of (tested_at N test fault s.now (Ok at)) }
 {
-    let f = take_field::<1>(s, at)?;
-    if f.value < limit {
+    let f = take_field::<N>(s, at)?;
+    if check(f.value) {
         Ok(f)
     } else {
-        Err(Fault::Code.at(at))
+        Err(fault.at(at))
     }
 }
 
+// A code byte below its table's end.
+pub fn code(s: &[u8], at: usize, limit: u64) -> Result<Field, Refusal>
+    ensures { result ≡ answer_of (code_at limit s.now (Ok at)) }
+{
+    take_checked::<1, _>(s, at, Fault::Code, |x| x < limit)
+}
+
 // A count from least to most.
-#[tactic(auto, using(crate::proofs::Fields::count_ok, crate::proofs::Fields::count_out, crate::proofs::Fields::count_err))]
 pub fn count(s: &[u8], at: usize, least: u64, most: u64) -> Result<Field, Refusal>
     ensures { result ≡ answer_of (count_at least most s.now (Ok at)) }
 {
-    let f = take_field::<2>(s, at)?;
-    if (least <= f.value) & (f.value <= most) {
-        Ok(f)
-    } else {
-        Err(Fault::Count.at(at))
-    }
+    take_checked::<2, _>(s, at, Fault::Count, |x| (least <= x) & (x <= most))
 }
