@@ -21,34 +21,21 @@ fn has_argument(kind: u64) -> bool
     !matches!(kind, expr::TRUE | expr::FALSE | expr::TERNARY)
 }
 
-// By kind, below what an argument has to be that is a type or an operator.
-const LIMITS: [u64; 9] = [
-    0,
-    0,
-    0,
-    0,
-    expr::TYPES,
-    expr::TYPES,
-    expr::TYPES,
-    expr::OPERATORS,
-    0,
-];
-
 // Whether x is in the table of a record of this kind.
 fn argument_ok(variables: u64, kind: u64, x: u64) -> bool
-    requires { kind ≤ 8 }
     ensures { result ≡ argument_ok variables kind x }
 {
     match kind {
         expr::VARIABLE => x < variables,
         expr::CONSTANT => matches!(x, 1 | 2 | 4 | 8),
-        _ => x < LIMITS[kind as usize],
+        expr::EFFECT | expr::LOAD | expr::CAST => x < expr::TYPES,
+        expr::BINARY => x < expr::OPERATORS,
+        _ => false,
     }
 }
 
 // The argument byte of a record of this kind, where it has one.
 fn take_argument(s: &[u8], at: usize, variables: u64, kind: u64) -> Result<Field, Refusal>
-    requires { kind ≤ 8 }
     ensures { result ≡ answer_of (argument_at variables kind s.now (Ok at)) }
 {
     if !has_argument(kind) {

@@ -10,10 +10,6 @@ returns-in_err-kind c =
     let e = err_from_is_err_and c.from_residual.result c.from_residual.ensures.1 in
     rw (e.1, e.2) (kind-refused _ _ _ _ _ (sym c.code.ensures ∙ c.in_err-kind.was))
 
-pub take_argument-requires : goal.take_argument-requires
-take_argument-requires c =
-    kind-small _ _ (sym c.code.ensures ∙ c.in_ok-kind.was)
-
 pub returns-in_err-argument : goal.returns-in_err-argument
 returns-in_err-argument c =
     let e = err_from_is_err_and c.from_residual-in_err-argument.result c.from_residual-in_err-argument.ensures.1 in
