@@ -1,6 +1,6 @@
 -- Laws of the check of a record: where it may end, and what it gives where it does not.
 use Prim.Native.Nat.{ℕ, ◌+◌, ◌*◌, ◌≤◌, ◌<◌}
-use mathlib.Core.Path.{◌≡◌, refl, sym}
+use mathlib.Core.Path.{◌≡◌, refl, sym, ap, ◌∙◌}
 use mathlib.Core.List.{List}
 use mathlib.Core.Bool.{Bool, true, false, cond, not, ◌&&◌, ◌||◌}
 use lib.Dec.{leb, eqb}
@@ -11,10 +11,12 @@ use Rattle.refusal.specs.declared.Refusal.{Refusal}
 use Rattle.refusal.specs.Numbers.{refused}
 use Rattle.sheet_field.specs.declared.Field.{Field}
 use Rattle.sheet_field.specs.Field.{Place, FieldReading, field_at, judge, check_field, code_at, answer_of}
-use Rattle.sheet_field.proofs.Fields.{answer_ok, answer_err, checked_ok, checked_err}
-use Rattle.expr.specs.Tree.{arity_of}
-use Rattle.sheet_expression.specs.Expression.{has_argument, argument_ok, argument_at, constant_at, fits_width, depth_after, record_at}
-use Rattle.sheet_expression.specs.Promises.{checked_record}
+use Rattle.sheet_field.proofs.Fields.{answer_ok, answer_err, checked_ok, checked_err, read_ok, read_err}
+use Rattle.expr.specs.Tree.{arity_of, tree_of}
+use Rattle.expr.specs.Types.{type_of}
+use Rattle.sheet_expression.specs.declared.Checked.{Checked}
+use Rattle.sheet_expression.specs.Expression.{has_argument, argument_ok, argument_at, constant_at, fits_width, depth_after, record_at, Taken}
+use Rattle.sheet_expression.specs.Promises.{checked_record, checked_expression}
 
 either : (t : Bool) (x y : FieldReading) {p : Place} → x.next ≡ p → y.next ≡ p → (cond t x y).next ≡ p
 either true x y e f = e
@@ -113,3 +115,15 @@ module _ (variables depth left : ℕ) (s : List ℕ) (at : ℕ) where
             pub record-checked : fits ≡ true
                 → Ok (record { tag = kind.value + 16 * argument.value; depth = depth_after depth arity; end = value.end }) ≡ checked_record (record_at variables depth left s (Ok at))
             record-checked narrow = rw (checked-is, le-leb arity depth enough, other-side (eqb left 0) (eqb (depth_after depth arity) 1) one, ← fits-is, narrow)
+
+-- what the check of an expression returned
+pub checked-on : (types : List ℕ) (t : Taken) {e : Checked} → checked_expression types t ≡ Ok e → (t.next ≡ Ok e.end) × (e.typing ≡ type_of types (tree_of t.words))
+checked-on types t e-is =
+    let made : ℕ → Checked = λ end. record { typing = type_of types (tree_of t.words); end = end } in
+    let h = read_ok t.next made e-is in
+    (h.1 ∙ ap Ok (ap (λ (x : Checked). x.end) (sym h.2)), ap (λ (x : Checked). x.typing) h.2)
+
+pub checked-refused : (types : List ℕ) (t : Taken) {r : Refusal} → checked_expression types t ≡ Err r → t.next ≡ Err r
+checked-refused types t e-is =
+    let made : ℕ → Checked = λ end. record { typing = type_of types (tree_of t.words); end = end } in
+    read_err t.next made e-is
