@@ -5,17 +5,17 @@ use mathlib.Core.List.{List}
 use mathlib.Core.Bool.{Bool, true, false, cond, not, ◌&&◌, ◌||◌}
 use lib.Dec.{leb, eqb}
 use borrow.Author.Tests.{lt-leb, le-leb}
-use Rattle.std.specs.Prelude.{Result, Ok, Err}
-use Rattle.refusal.specs.declared.Fault.TheVariants.{Code, Tree, Constant}
+use Rattle.std.specs.Prelude.{Ok, Err}
+use Rattle.refusal.specs.declared.Fault.TheVariants.{Tree, Constant}
 use Rattle.refusal.specs.declared.Refusal.{Refusal}
 use Rattle.refusal.specs.Numbers.{refused}
 use Rattle.sheet_field.specs.declared.Field.{Field}
 use Rattle.sheet_field.specs.Field.{Place, FieldReading, field_at, judge, check_field, code_at, answer_of}
-use Rattle.sheet_field.proofs.Fields.{answer_ok, answer_err, checked_ok, checked_err, read_ok, read_err}
+use Rattle.sheet_field.proofs.Fields.{answer_ok, answer_err, read_ok, read_err}
 use Rattle.expr.specs.Tree.{arity_of, tree_of}
 use Rattle.expr.specs.Types.{type_of}
 use Rattle.sheet_expression.specs.declared.Checked.{Checked}
-use Rattle.sheet_expression.specs.Expression.{has_argument, argument_ok, argument_at, constant_at, fits_width, depth_after, record_at, Taken}
+use Rattle.sheet_expression.specs.Expression.{has_argument, argument_at, constant_at, fits_width, depth_after, record_at, Taken}
 use Rattle.sheet_expression.specs.Promises.{checked_record, checked_expression}
 
 either : (t : Bool) (x y : FieldReading) {p : Place} → x.next ≡ p → y.next ≡ p → (cond t x y).next ≡ p
@@ -30,23 +30,6 @@ argument-keep variables kind s r = either (has_argument kind) _ _ refl refl
 constant-keep : (kind : ℕ) (s : List ℕ) (r : Refusal) → (constant_at kind s (Err r)).next ≡ Err r
 unfolding constant_at field_at
 constant-keep kind s r = either (eqb kind 1) _ _ refl refl
-
--- the cases of an argument
-module _ (variables kind : ℕ) (s : List ℕ) (at : ℕ) where
-  pub argument-none : {t : Bool} → t ≡ has_argument kind → t ≡ false
-      → ◌≡◌ {A = Result Field Refusal} (Ok (record { value = 0; end = at })) (answer_of (argument_at variables kind s (Ok at)))
-  unfolding argument_at
-  argument-none t-is none = rw (← t-is, none)
-
-  pub argument_cut : {t : Bool} {r : Refusal} → t ≡ has_argument kind → t ≡ true → answer_of (field_at 1 s (Ok at)) ≡ Err r
-      → Err r ≡ answer_of (argument_at variables kind s (Ok at))
-  unfolding argument_at
-  argument_cut t-is there e = rw (← t-is, there) (sym (checked_err (argument_ok variables kind (field_at 1 s (Ok at)).value) Code at (field_at 1 s (Ok at)) e))
-
-  pub argument-judged : {t : Bool} {x : Field} → t ≡ has_argument kind → t ≡ true → answer_of (field_at 1 s (Ok at)) ≡ Ok x
-      → answer_of (argument_at variables kind s (Ok at)) ≡ cond (argument_ok variables kind x.value) (Ok x) (Err (refused Code at))
-  unfolding argument_at
-  argument-judged t-is there e = rw (← t-is, there) (checked_ok (argument_ok variables kind) Code at (field_at 1 s (Ok at)) e)
 
 other-side : (a b : Bool) {t : Bool} → (a && not b) ≡ t → (not a || b) ≡ not t
 other-side true true e = rw (← e)

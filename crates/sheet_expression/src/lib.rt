@@ -38,14 +38,10 @@ fn argument_ok(variables: u64, kind: u64, x: u64) -> bool
 fn take_argument(s: &[u8], at: usize, variables: u64, kind: u64) -> Result<Field, Refusal>
     ensures { result ≡ answer_of (argument_at variables kind s.now (Ok at)) }
 {
-    if !has_argument(kind) {
-        return Ok(Field { value: 0, end: at });
-    }
-    let f = sheet_field::take_field::<1>(s, at)?;
-    if argument_ok(variables, kind, f.value) {
-        Ok(f)
+    if has_argument(kind) {
+        sheet_field::take_checked::<1, _>(s, at, Fault::Code, |x| argument_ok(variables, kind, x))
     } else {
-        Err(Fault::Code.at(at))
+        Ok(Field { value: 0, end: at })
     }
 }
 

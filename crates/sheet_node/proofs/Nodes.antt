@@ -2,20 +2,14 @@
 use Prim.Native.Nat.{ℕ, zero, suc, ◌+◌, ◌*◌, ◌≤◌, ◌<◌}
 use mathlib.Core.Path.{◌≡◌, sym, ap, ◌∙◌}
 use mathlib.Core.List.{List}
-use mathlib.Core.Bool.{◌||◌}
 use native.Mathlib.Omega.{arith}
 use native.Mathlib.Numerals.{add-one}
-use lib.Dec.{eqb}
-use mathlib.Core.Logic.{◌⊎◌, ⊎_elim}
-use borrow.Author.Tests.{ne_eqb}
 use lib.ListN.{length, length-take}
 use Rattle.std.specs.Prelude.{Ok, Err}
-use Rattle.refusal.specs.declared.Fault.TheVariants.{Code}
 use Rattle.refusal.specs.declared.Refusal.{Refusal}
-use Rattle.refusal.specs.Numbers.{refused}
 use Rattle.sheet_field.specs.declared.Field.{Field}
 use Rattle.sheet_field.specs.Field.{Place, FieldReading, field_at, code_at, check_field, count_at, start_of, answer_of}
-use Rattle.sheet_field.proofs.Fields.{code-at, field-at, count_at_lem, count_most, answer_ok, answer_err, checked_ok, checked_err}
+use Rattle.sheet_field.proofs.Fields.{code-at, field-at, count_at_lem, count_most, answer_ok, answer_err}
 use Rattle.sheet_field.proofs.Counted.{stays}
 use Rattle.sheet_node.specs.Node.{map_at, statement_at, statements_from, types_from, types_of, addresses_from}
 
@@ -48,25 +42,6 @@ pub addresses-keep : (s : List ℕ) (p : Place) (j : ℕ) (r : Refusal) → (add
     → (addresses_from s p (suc j)).next ≡ Err r
 unfolding addresses_from field_at
 addresses-keep s p j r e = rw e
-
--- a map byte as its reader returns it
-pub map_ok : (s : List ℕ) (at : ℕ) {x : Field} → answer_of (field_at 1 s (Ok at)) ≡ Ok x → (x.value ≡ 0) ⊎ (x.value ≡ 3)
-    → answer_of (map_at s (Ok at)) ≡ Ok x
-unfolding map_at
-map_ok s at {x} e is =
-    let judged = checked_ok (λ v. eqb v 0 || eqb v 3) Code at (field_at 1 s (Ok at)) e in
-    judged ∙ ⊎_elim (λ (z : x.value ≡ 0). rw z) (λ (z : x.value ≡ 3). rw z) is
-
-pub map_out : (s : List ℕ) (at : ℕ) {x : Field} → answer_of (field_at 1 s (Ok at)) ≡ Ok x → (x.value ≡ 0 → ⊥) → (x.value ≡ 3 → ⊥)
-    → answer_of (map_at s (Ok at)) ≡ Err (refused Code at)
-unfolding map_at
-map_out s at {x} e other another =
-    let judged = checked_ok (λ v. eqb v 0 || eqb v 3) Code at (field_at 1 s (Ok at)) e in
-    judged ∙ rw (ne_eqb x.value 0 other, ne_eqb x.value 3 another)
-
-pub map_err : (s : List ℕ) (at : ℕ) {r : Refusal} → answer_of (field_at 1 s (Ok at)) ≡ Err r → answer_of (map_at s (Ok at)) ≡ Err r
-unfolding map_at
-map_err s at e = checked_err _ Code at (field_at 1 s (Ok at)) e
 
 -- one type more, and where it is refused
 module _ (s : List ℕ) (from i : ℕ) {at : ℕ} (here : Ok at ≡ types_from s (Ok from) i) where

@@ -47,15 +47,10 @@ pub struct NodeParts {
 }
 
 // A statement's map byte: 0 or 3.
-#[tactic(auto, using(crate::proofs::Nodes::map_ok, crate::proofs::Nodes::map_out, crate::proofs::Nodes::map_err))]
 fn take_map(s: &[u8], at: usize) -> Result<Field, Refusal>
     ensures { result ≡ answer_of (map_at s.now (Ok at)) }
 {
-    let f = sheet_field::take_field::<1>(s, at)?;
-    match f.value {
-        0 | 3 => Ok(f),
-        _ => Err(Fault::Code.at(at)),
-    }
+    sheet_field::take_checked::<1, _>(s, at, Fault::Code, |x| (x == 0) | (x == 3))
 }
 
 // The first part of the node record at an offset where one was read whole, with nothing checked again.
