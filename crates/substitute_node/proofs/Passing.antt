@@ -2,15 +2,14 @@
 -- statements make of any condition. A statement that was read whole is one of the list, and its words are one tree.
 use Prim.Native.Nat.{ℕ, suc, ◌+◌, ◌*◌, ◌≤◌, ◌<◌}
 use mathlib.Core.Path.{◌≡◌, refl, sym, ap, subst, ◌∙◌}
-use mathlib.Core.Bool.{Bool, true, false, cond, false≢true}
+use mathlib.Core.Bool.{Bool, true, false, cond}
 use mathlib.Core.List.{List, [], ◌∷◌}
 use native.Mathlib.Omega.{arith}
 use native.Mathlib.Numerals.{add-one}
 use lib.ListN.{length, get_or, take, drop, replicate, length-replicate, drop_of_length-le}
 use lib.Seq.{drop-cons}
-use Rattle.sheet_field.specs.Field.{start_of, WentOn}
-use Rattle.sheet_field.specs.declared.Place.{Place}
-use Rattle.sheet_field.specs.declared.Place.TheVariants.{At}
+use Rattle.std.specs.Prelude.{Option, Some, None, Ok}
+use Rattle.sheet_field.specs.Field.{Place, WentOn}
 use Rattle.expr.specs.Tree.{Expr, Wf, tree_of}
 use Rattle.expr.proofs.Laws.{wf-flat, tree_of-flat}
 use Rattle.expr.specs.Statement.{Statement}
@@ -28,7 +27,7 @@ use Rattle.substitution.specs.declared.Written.{Written}
 use Rattle.substitution.specs.declared.Written.TheVariants.{From, TooLong}
 use Rattle.substitution.specs.Words.{table_of, Slots, Holds, Assigned, Made}
 use Rattle.substitution.proofs.Entries.{cleared}
-use Rattle.substitute_node.specs.declared.Step.{Step}
+use Rattle.substitute_node.specs.declared.SubstitutedNode.{SubstitutedNode}
 use Rattle.substitute_node.specs.Node.{Room, Lent, Idle, Stepped, Passed, MadeNode}
 
 -- a statement that is no assignment
@@ -74,20 +73,20 @@ stepped-assigned {fits} {table} {lengths} h r {v} {ws} yes-assigned number words
     rw (yes-assigned, ← number, ← words) (assigned-same h v (tree_of ws) a)
 
 -- the first i statements are passed
-pub record Passing (types s : List ℕ) (p : Place) (n : ℕ) (table lengths words out : List ℕ) (idle : Bool) (next : Place) (i : ℕ) : Type 0 where
+pub record Passing (types s : List ℕ) (from n : ℕ) (table lengths words out : List ℕ) (idle : Bool) (at i : ℕ) : Type 0 where
   pub within : i ≤ n
-  pub place : next ≡ (statements_from types s p i).next
+  pub place : Ok at ≡ (statements_from types s (Ok from) i).next
   pub held : 0 < n → length types ≤ length lengths
   pub slots : Slots table lengths
   pub words_room : length words ≡ 256
   pub out_room : length out ≡ 256
   pub quiet : Idle idle lengths
-  pub due : (c : Expr) → with_assignments (statements_from types s p n).list c ≡ substituted (table_of table lengths) (drop i (statements_from types s p n).list) c
+  pub due : (c : Expr) → with_assignments (statements_from types s (Ok from) n).list c ≡ substituted (table_of table lengths) (drop i (statements_from types s (Ok from) n).list) c
 
-pub passing-start : (types s : List ℕ) (p : Place) (n : ℕ) {table lengths lengths' words out : List ℕ} → Room n types table lengths words out
-    → lengths' ≡ replicate (length lengths) 0 → Passing types s p n table lengths' words out true p 0
+pub passing-start : (types s : List ℕ) (from n : ℕ) {table lengths lengths' words out : List ℕ} → Room n types table lengths words out
+    → lengths' ≡ replicate (length lengths) 0 → Passing types s from n table lengths' words out true from 0
 unfolding statements_from
-passing-start types s p n {table} {lengths} {lengths'} {words} {out} l is =
+passing-start types s from n {table} {lengths} {lengths'} {words} {out} l is =
     let b : Holds table lengths' nothing_held = rw is (cleared table (length lengths) l.table_room l.lengths_room) in
     record {
       within = omega arith;
@@ -97,100 +96,105 @@ passing-start types s p n {table} {lengths} {lengths'} {words} {out} l is =
       words_room = l.words_room;
       out_room = l.out_room;
       quiet = λ _. idle-other lengths is;
-      due = λ c. ap (λ (t : Table). substituted t (statements_from types s p n).list c) (sym b.holds);
+      due = λ c. ap (λ (t : Table). substituted t (statements_from types s (Ok from) n).list c) (sym b.holds);
     }
 
-module _ {types s : List ℕ} {p : Place} {n : ℕ} {table lengths words out : List ℕ} {idle : Bool} {next : Place} {i : ℕ}
-    (g : Passing types s p n table lengths words out idle next i) where
-  pub passing-whole : WentOn (statements_from types s p n).next → i < n → WentOn (statement_at types s next).next
-  passing-whole on below = statement-whole types s p n i on below g.place
+module _ {types s : List ℕ} {from n : ℕ} {table lengths words out : List ℕ} {idle : Bool} {at i : ℕ}
+    (g : Passing types s from n table lengths words out idle at i) where
+  pub passing-whole : WentOn (statements_from types s (Ok from) n).next → i < n → WentOn (statement_at types s (Ok at)).next
+  passing-whole on below = statement-whole types s from n i on below g.place
 
   pub passing-lent : i < n → Lent types table lengths words out
   passing-lent below = record { few = g.held (omega arith); slots = g.slots; words_room = g.words_room; out_room = g.out_room }
 
   -- what is due starts with the statement at this offset
-  due-here : i < n → (c : Expr) → with_assignments (statements_from types s p n).list c
-      ≡ substituted (table_of table lengths) (statement_of (statement_at types s next) ∷ drop (suc i) (statements_from types s p n).list) c
+  due-here : i < n → (c : Expr) → with_assignments (statements_from types s (Ok from) n).list c
+      ≡ substituted (table_of table lengths) (statement_of (statement_at types s (Ok at)) ∷ drop (suc i) (statements_from types s (Ok from) n).list) c
   due-here below c =
-      let size : i < length (statements_from types s p n).list = omega (arith, statements-length types s p n) in
-      let this : get_or (statements_from types s p n).list i other ≡ statement_of (statement_at types s next) =
-      statements-nth types s p n i other below ∙ ap (λ (q : Place). statement_of (statement_at types s q)) (sym g.place) in
+      let size : i < length (statements_from types s (Ok from) n).list = omega (arith, statements-length types s (Ok from) n) in
+      let this : get_or (statements_from types s (Ok from) n).list i other ≡ statement_of (statement_at types s (Ok at)) =
+      statements-nth types s (Ok from) n i other below ∙ ap (λ (q : Place). statement_of (statement_at types s q)) (sym g.place) in
       g.due c
-      ∙ ap (λ (l : List Statement). substituted (table_of table lengths) l c) (drop-cons (statements_from types s p n).list i other size)
-      ∙ ap (λ (x : Statement). substituted (table_of table lengths) (x ∷ drop (suc i) (statements_from types s p n).list) c) this
+      ∙ ap (λ (l : List Statement). substituted (table_of table lengths) l c) (drop-cons (statements_from types s (Ok from) n).list i other size)
+      ∙ ap (λ (x : Statement). substituted (table_of table lengths) (x ∷ drop (suc i) (statements_from types s (Ok from) n).list) c) this
 
-  module _ (below : i < n) {fits : Bool} {table' lengths' : List ℕ}
-      (t : Stepped fits table' lengths' (table_of table lengths) (statement_of (statement_at types s next))) where
-    pub passing-stop : fits ≡ false → (q : Place) (b : Bool) → Passed (record { fits = false; idle = b; next = q }) table' lengths' (statements_from types s p n)
-    passing-stop out_of_lem q b = record {
-      slots = t.slots;
-      place = λ e. absurd (false≢true e);
-      same = λ c. due-here below c ∙ t.same (drop (suc i) (statements_from types s p n).list) c
-          ∙ ap (λ (b : Bool). cond b (substituted (table_of table' lengths') (drop (suc i) (statements_from types s p n).list) c) too_long) out_of_lem;
-    }
+  module _ (below : i < n) {table' lengths' : List ℕ} where
+    pub passing-stop : Stepped false table' lengths' (table_of table lengths) (statement_of (statement_at types s (Ok at))) → Passed None table' lengths' (statements_from types s (Ok from) n)
+    passing-stop t = record { slots = t.slots; place = tt; same = λ c. due-here below c ∙ t.same (drop (suc i) (statements_from types s (Ok from) n).list) c }
 
-    pub passing-more : fits ≡ true → {next' : Place} {words' out' : List ℕ} {idle' : Bool} → next' ≡ (statement_at types s next).next → Idle idle' lengths'
-        → length lengths' ≡ length lengths → length words' ≡ length words → length out' ≡ length out → Passing types s p n table' lengths' words' out' idle' next' (i + 1)
-    passing-more within-limit {next'} place still lengths-same words_same out-same = record {
+    pub passing-more : Stepped true table' lengths' (table_of table lengths) (statement_of (statement_at types s (Ok at)))
+        → {at' : ℕ} {words' out' : List ℕ} {idle' : Bool} → Ok at' ≡ (statement_at types s (Ok at)).next → Idle idle' lengths'
+        → length lengths' ≡ length lengths → length words' ≡ length words → length out' ≡ length out → Passing types s from n table' lengths' words' out' idle' at' (i + 1)
+    passing-more t place still lengths-same words_same out-same = record {
       within = omega arith;
-      place = place ∙ ap (λ (q : Place). (statement_at types s q).next) g.place ∙ statements-more types s p i;
+      place = place ∙ ap (λ (q : Place). (statement_at types s q).next) g.place ∙ statements-more types s (Ok from) i;
       held = λ some. omega (arith, g.held some, lengths-same);
       slots = t.slots;
       words_room = words_same ∙ g.words_room;
       out_room = out-same ∙ g.out_room;
       quiet = still;
-      due = λ c. rw (add-one i) (due-here below c ∙ t.same (drop (suc i) (statements_from types s p n).list) c
-          ∙ ap (λ (b : Bool). cond b (substituted (table_of table' lengths') (drop (suc i) (statements_from types s p n).list) c) too_long) within-limit);
+      due = λ c. rw (add-one i) (due-here below c ∙ t.same (drop (suc i) (statements_from types s (Ok from) n).list) c);
     }
 
-  pub passing-end : n ≤ i → Passed (record { fits = true; idle = idle; next = next }) table lengths (statements_from types s p n)
+  pub passing-end : n ≤ i → Passed (Some at) table lengths (statements_from types s (Ok from) n)
   passing-end end =
-      let past : length (statements_from types s p n).list ≤ i = omega (arith, statements-length types s p n) in
-      let all : drop i (statements_from types s p n).list ≡ [] = drop_of_length-le (statements_from types s p n).list past in
+      let past : length (statements_from types s (Ok from) n).list ≤ i = omega (arith, statements-length types s (Ok from) n) in
+      let all : drop i (statements_from types s (Ok from) n).list ≡ [] = drop_of_length-le (statements_from types s (Ok from) n).list past in
       let last : i ≡ n = omega (arith, g.within) in
-      record { slots = g.slots; place = λ _. g.place ∙ ap (λ (k : ℕ). (statements_from types s p k).next) last; same = λ c. g.due c ∙ ap (λ (l : List Statement). substituted (table_of table lengths) l c) all }
+      record {
+        slots = g.slots;
+        place = g.place ∙ ap (λ (k : ℕ). (statements_from types s (Ok from) k).next) last;
+        same = λ c. g.due c ∙ ap (λ (l : List Statement). substituted (table_of table lengths) l c) all;
+      }
 
 -- ---- the condition, after all statements
 
-module _ {r : Step} {table lengths : List ℕ} {read : StatementsRead} (g : Passed r table lengths read) where
-  pub passed-long : r.fits ≡ false → (c : Expr) → with_assignments read.list c ≡ too_long
-  passed-long much c = g.same c ∙ ap (λ (b : Bool). cond b (substituted (table_of table lengths) [] c) too_long) much
+pub passed-long : {table lengths : List ℕ} {read : StatementsRead} → Passed None table lengths read → (c : Expr) → with_assignments read.list c ≡ too_long
+passed-long g c = g.same c
 
-  -- the condition is read at the offset after the statements
-  pub passed_start : r.fits ≡ true → WentOn read.next → {start : ℕ} → start ≡ start_of r.next → At start ≡ read.next
-  passed_start short on start_is =
-      let here : r.next ≡ At on.0 = g.place short ∙ on.1 in
-      ap At (start_is ∙ ap start_of here) ∙ sym on.1
+module _ {start : ℕ} {table lengths : List ℕ} {read : StatementsRead} (g : Passed (Some start) table lengths read) (n : ℕ) (s : List ℕ) where
+  made-of : Written → ℕ → Option SubstitutedNode
+  made-of (From at) end = Some (record { from = at; end = end })
+  made-of TooLong end = None
 
-  module _ (short : r.fits ≡ true) (n : ℕ) (s : List ℕ) where
-    substituted-here : (out ws : List ℕ) (w : Written) (next : Place) → tree_of ws ≡ tree_of (expression_at n s read.next).words
-        → next ≡ (expression_at n s read.next).next → Made w out (substitute (table_of table lengths) (tree_of ws))
-        → MadeNode w next out read.list (expression_at n s read.next)
-    unfolding substituted
-    substituted-here out ws w next is next-is m = by w (rw is at m)
-      where
-        c : Expr
-        c = tree_of (expression_at n s read.next).words
+  substituted-here : (out ws : List ℕ) (w : Written) (end : ℕ) → tree_of ws ≡ tree_of (expression_at n s read.next).words
+      → Ok end ≡ (expression_at n s read.next).next → Made w out (substitute (table_of table lengths) (tree_of ws))
+      → MadeNode (made-of w end) out read.list (expression_at n s read.next)
+  unfolding substituted made-of
+  substituted-here out ws w end is next-is m = by w (rw is at m)
+    where
+      c : Expr
+      c = tree_of (expression_at n s read.next).words
 
-        made : Expr
-        made = substitute (table_of table lengths) c
+      made : Expr
+      made = substitute (table_of table lengths) c
 
-        last : with_assignments read.list c ≡ cond (long made) too_long (into made)
-        last = g.same c ∙ ap (λ (b : Bool). cond b (substituted (table_of table lengths) [] c) too_long) short
+      last : with_assignments read.list c ≡ cond (long made) too_long (into made)
+      last = g.same c
 
-        by : (w : Written) → Made w out made → MadeNode w next out read.list (expression_at n s read.next)
-        by (From at) m = (
-          subst Wf (sym m.0) (wf-flat made),
-          last ∙ ap (λ (b : Bool). cond b too_long (into made)) m.1 ∙ ap into (sym (ap tree_of m.0 ∙ tree_of-flat made)),
-          next-is,
-        )
-        by TooLong m = last ∙ ap (λ (b : Bool). cond b too_long (into made)) m
+      by : (w : Written) → Made w out made → MadeNode (made-of w end) out read.list (expression_at n s read.next)
+      by (From at) m = (
+        subst Wf (sym m.0) (wf-flat made),
+        last ∙ ap (λ (b : Bool). cond b too_long (into made)) m.1 ∙ ap into (sym (ap tree_of m.0 ∙ tree_of-flat made)),
+        next-is,
+      )
+      by TooLong m = last ∙ ap (λ (b : Bool). cond b too_long (into made)) m
 
-    pub passed-made : (out : List ℕ) (w : Written) {start records : ℕ} {next : Place} {before after : List ℕ} → At start ≡ read.next
-        → Took records next before after (expression_at n s (At start)) → WentOn (expression_at n s read.next).next
-        → Made w out (substitute (table_of table lengths) (tree_of (take (2 * records) after))) → MadeNode w next out read.list (expression_at n s read.next)
-    passed-made out w here took on m =
+  module _ (out : List ℕ) {records end : ℕ} {before after : List ℕ} (took : Took records (Ok end) before after (expression_at n s (Ok start)))
+      (on : WentOn (expression_at n s read.next).next) where
+    whole : (w : Written) → Made w out (substitute (table_of table lengths) (tree_of (take (2 * records) after))) → MadeNode (made-of w end) out read.list (expression_at n s read.next)
+    whole w m =
         substituted-here out _ w _
-        (ap tree_of (took-front took (rw here on)) ∙ ap (λ (q : Place). tree_of (expression_at n s q).words) here)
-        (took.place ∙ ap (λ (q : Place). (expression_at n s q).next) here)
+        (ap tree_of (took-front took (rw g.place on)) ∙ ap (λ (q : Place). tree_of (expression_at n s q).words) g.place)
+        (took.place ∙ ap (λ (q : Place). (expression_at n s q).next) g.place)
         m
+
+    pub passed-made : {w : Written} {at : ℕ} → w ≡ From at → Made w out (substitute (table_of table lengths) (tree_of (take (2 * records) after)))
+        → MadeNode (Some (record { from = at; end = end })) out read.list (expression_at n s read.next)
+    unfolding made-of
+    passed-made {at = at} is m = whole (From at) (rw is at m)
+
+    pub passed-too_long : {w : Written} → w ≡ TooLong → Made w out (substitute (table_of table lengths) (tree_of (take (2 * records) after)))
+        → MadeNode None out read.list (expression_at n s read.next)
+    unfolding made-of
+    passed-too_long is m = whole TooLong (rw is at m)

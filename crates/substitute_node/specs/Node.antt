@@ -1,15 +1,12 @@
 -- What passing a node's statements leaves in borrowed words.
-use Rattle.std.specs.Prelude.{◌≡◌, Bool, true, cond, List, [], ◌∷◌, ℕ, ◌*◌, ◌≤◌, ◌<◌, length, drop, replicate}
+use Rattle.std.specs.Prelude.{◌≡◌, Bool, true, cond, List, [], ◌∷◌, ℕ, ◌*◌, ◌≤◌, ◌<◌, length, drop, replicate, Option, Some, None, is_some, IfSome, Ok}
 use Rattle.expr.specs.Tree.{Expr, Wf, tree_of}
 use Rattle.expr.specs.Statement.{Statement}
-use Rattle.sheet_field.specs.declared.Place.{Place}
 use Rattle.sheet_expression.specs.Expression.{Taken}
 use Rattle.sheet_node.specs.Node.{StatementsRead}
-use Rattle.substitution.specs.declared.Written.{Written}
-use Rattle.substitution.specs.declared.Written.TheVariants.{From, TooLong}
 use Rattle.substitution.specs.Substitution.{Table, too_long, into, substituted, with_assignments}
 use Rattle.substitution.specs.Words.{table_of, Slots}
-use Rattle.substitute_node.specs.declared.Step.{Step}
+use Rattle.substitute_node.specs.declared.SubstitutedNode.{SubstitutedNode}
 
 -- buffers for what n statements may hold, a slot for each variable if there is a statement, and for 256 words each of the records that are read and of
 -- those that are written; their contents do not matter
@@ -39,13 +36,13 @@ pub record Stepped (fits : Bool) (table lengths : List ℕ) (h : Table) (x : Sta
   pub same : (rest : List Statement) (c : Expr) → substituted h (x ∷ rest) c ≡ cond fits (substituted (table_of table lengths) rest c) too_long
 
 -- What a node's statements leave, from a table in which nothing is held: the table after them, and the offset, or that all is too long. (N1, N2, N26)
-pub record Passed (r : Step) (table lengths : List ℕ) (read : StatementsRead) : Type 0 where
+pub record Passed (end : Option ℕ) (table lengths : List ℕ) (read : StatementsRead) : Type 0 where
   pub slots : Slots table lengths
-  pub place : r.fits ≡ true → r.next ≡ read.next
-  pub same : (c : Expr) → with_assignments read.list c ≡ cond r.fits (substituted (table_of table lengths) [] c) too_long
+  pub place : IfSome end (λ at. Ok at ≡ read.next)
+  pub same : (c : Expr) → with_assignments read.list c ≡ cond (is_some end) (substituted (table_of table lengths) [] c) too_long
 
 -- The words of a node's substituted condition fill the end of a borrowed list, and the offset after the condition is known; or refusal 10 is due. (N26)
-abbrev pub MadeNode : Written → Place → List ℕ → List Statement → Taken → Type 0
-MadeNode (From at) next out statements condition =
-    Wf (drop at out) × (with_assignments statements (tree_of condition.words) ≡ into (tree_of (drop at out))) × (next ≡ condition.next)
-MadeNode TooLong next out statements condition = with_assignments statements (tree_of condition.words) ≡ too_long
+abbrev pub MadeNode : Option SubstitutedNode → List ℕ → List Statement → Taken → Type 0
+MadeNode (Some made) out statements condition =
+    Wf (drop made.from out) × (with_assignments statements (tree_of condition.words) ≡ into (tree_of (drop made.from out))) × (Ok made.end ≡ condition.next)
+MadeNode None out statements condition = with_assignments statements (tree_of condition.words) ≡ too_long
