@@ -29,9 +29,6 @@ went-on : (p : Place) → IsOk p → WentOn p
 went-on (Ok b) e = (b, refl)
 went-on (Err r) e = absurd (false≢true e)
 
-pub read_whole : (s : List ℕ) (at : ℕ) → WentOn (instruction_at true 0 s (Ok at)).next → WasRead s at
-read_whole s at on = rw on.1 refl
-
 -- an operand, by its code
 module _ (s : List ℕ) (at : ℕ) (on : WentOn (operand_at s (Ok at)).next) where
   pub code_inside : at < length s

@@ -3,7 +3,7 @@
 
 ghost use Rattle.std.specs.Prelude.{◌≡◌, true, ◌+◌, ◌≤◌, length, Ok};
 ghost use Rattle.sheet_field.specs.Field.{WentOn, little};
-ghost use Rattle.sheet_instruction.specs.Instruction.{operand_at, registers_from, optional_operand, tail_at, instruction_at};
+ghost use Rattle.sheet_instruction.specs.Instruction.{operand_at, registers_from, optional_operand, tail_at};
 ghost use Rattle.sheet_accepted.specs.Record.{WasRead, recorded};
 ghost use Rattle.sheet_accepted.specs.Promises.{number_if, content_at};
 
@@ -186,49 +186,4 @@ impl Record<'_> {
             flags: content.flags,
         }
     }
-}
-
-// The address of the instruction that was read at that offset.
-#[tactic(auto, using(crate::proofs::Records::read_whole))]
-pub fn address_at(s: &[u8], at: usize) -> u64
-    requires { WentOn (instruction_at true 0 s.now (Ok at)).next }
-    ensures { result ≡ (instruction_at true 0 s.now (Ok at)).instruction.address }
-{
-    Record { bytes: s, at }.address()
-}
-
-// The mnemonic of the instruction that was read at that offset.
-#[tactic(auto, using(crate::proofs::Records::read_whole))]
-pub fn mnemonic_at(s: &[u8], at: usize) -> Mnemonic
-    requires { WentOn (instruction_at true 0 s.now (Ok at)).next }
-    ensures { result ≡ (instruction_at true 0 s.now (Ok at)).instruction.mnemonic }
-{
-    Record { bytes: s, at }.mnemonic()
-}
-
-// Whether the instruction that was read at that offset is a conditional branch.
-#[tactic(auto, using(crate::proofs::Records::read_whole))]
-pub fn is_branch_at(s: &[u8], at: usize) -> bool
-    requires { WentOn (instruction_at true 0 s.now (Ok at)).next }
-    ensures { result ≡ (instruction_at true 0 s.now (Ok at)).instruction.branch }
-{
-    Record { bytes: s, at }.is_branch()
-}
-
-// The target of the instruction that was read at that offset, 0 where it has none.
-#[tactic(auto, using(crate::proofs::Records::read_whole))]
-pub fn target_at(s: &[u8], at: usize) -> u64
-    requires { WentOn (instruction_at true 0 s.now (Ok at)).next }
-    ensures { result ≡ (instruction_at true 0 s.now (Ok at)).instruction.target }
-{
-    Record { bytes: s, at }.target()
-}
-
-// The instruction that was read at that offset.
-#[tactic(auto, using(crate::proofs::Records::read_whole))]
-pub fn instruction_at(s: &[u8], at: usize) -> Instruction
-    requires { WentOn (instruction_at true 0 s.now (Ok at)).next }
-    ensures { result ≡ (instruction_at true 0 s.now (Ok at)).instruction }
-{
-    Record { bytes: s, at }.instruction()
 }
