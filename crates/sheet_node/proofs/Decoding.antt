@@ -144,6 +144,40 @@ node-path : {v v' n n' a a' : ℕ} {t t' b b' c c' x x' y y' : Place} → v ≡ 
     (record { variables = v'; types = t'; statements = n'; body = b'; condition = c'; addresses = a'; sites = x'; next = y' })
 node-path e f g h i j k l = rw (e, f, g, h, i, j, k, l)
 
+-- the addresses of a node that was read whole, from the offset after its condition
+module _ (s : List ℕ) (at : ℕ) (on : WentOn (node_at s (Ok at)).next) {end : ℕ}
+    (end_is : Ok end ≡ (expression_at (length (types_in s (node_at s (Ok at)))) s (node_at s (Ok at)).condition).next) where
+  sites-are : (count_at 0 16 s (Ok end)).next ≡ (node_at s (Ok at)).sites
+  sites-are = rw end_is (whole-node s (Ok at) on.1).sites
+
+  last : (addresses_from s (count_at 0 16 s (Ok end)).next (count_at 0 16 s (Ok end)).value).next ≡ (node_at s (Ok at)).next
+  unfolding addresses_end
+  last = rw end_is (whole-node s (Ok at) on.1).end
+
+  sites-on : WentOn (count_at 0 16 s (Ok end)).next
+  sites-on = addresses-on s (count_at 0 16 s (Ok end)).next (count_at 0 16 s (Ok end)).value (last ∙ on.1)
+
+  count-read : (end + 2 ≤ length s) × (count_at 0 16 s (Ok end) ≡ record { value = little s end 2; next = Ok (end + 2) })
+  count-read = count-from 0 16 s end sites-on.1
+
+  pub sites-inside : end + 2 ≤ length s
+  sites-inside = count-read.0
+
+  pub addresses_are : little s end 2 ≡ (node_at s (Ok at)).addresses
+  addresses_are = sym (ap (λ (f : FieldReading). f.value) count-read.1) ∙ rw end_is (whole-node s (Ok at) on.1).addresses
+
+  pub sites-there : Ok (end + 2) ≡ (node_at s (Ok at)).sites
+  sites-there = sym (ap (λ (f : FieldReading). f.next) count-read.1) ∙ sites-are
+
+  pub addresses-few : little s end 2 ≤ 16
+  addresses-few = rw count-read.1 at (count_most 0 16 s (Ok end))
+
+  addresses-last : (addresses_from s (Ok (end + 2)) (little s end 2)).next ≡ (node_at s (Ok at)).next
+  addresses-last = rw count-read.1 at last
+
+  pub addresses-inside : (on.0 ≡ end + 2 + 8 * little s end 2) × (on.0 ≤ length s)
+  addresses-inside = addresses-end s (end + 2) (little s end 2) sites-inside (addresses-last ∙ on.1)
+
 -- a node that was read whole, from its parts
 module _ (s : List ℕ) (at : ℕ) (on : WentOn (node_at s (Ok at)).next) {front : NodeFront} (front-is : front ≡ front_of (node_at s (Ok at))) where
   whole : Parts s (node_at s (Ok at)) (types_in s (node_at s (Ok at)))
@@ -153,10 +187,10 @@ module _ (s : List ℕ) (at : ℕ) (on : WentOn (node_at s (Ok at)).next) {front
   types-there : Ok front.types ≡ (node_at s (Ok at)).types
   types-there = rw (front-is, types-at s at on)
 
-  body-there : Ok front.body ≡ (node_at s (Ok at)).body
+  pub body-there : Ok front.body ≡ (node_at s (Ok at)).body
   body-there = let b = body-at s at on in rw (front-is, b.1)
 
-  statements-on : WentOn (statements_from (types_in s (node_at s (Ok at))) s (Ok front.body) front.statements).next
+  pub statements-on : WentOn (statements_from (types_in s (node_at s (Ok at))) s (Ok front.body) front.statements).next
   statements-on = rw (body-there, front-is) whole.statements
 
   pub these-statements : WholeStatements s front.body front.statements
@@ -175,42 +209,14 @@ module _ (s : List ℕ) (at : ℕ) (on : WentOn (node_at s (Ok at)).next) {front
 
     module _ {e : Whole} {before after : List ℕ}
         (took : (variables : ℕ) → WentOn (expression_at variables s (Ok condition)).next → Took e.records (Ok e.end) before after (expression_at variables s (Ok condition))) where
-      end_is : Ok e.end ≡ (expression_at (length (types_in s (node_at s (Ok at)))) s (node_at s (Ok at)).condition).next
-      end_is = (took (length (types_in s (node_at s (Ok at)))) condition-on).place ∙ rw condition-there
-
-      sites-are : (count_at 0 16 s (Ok e.end)).next ≡ (node_at s (Ok at)).sites
-      sites-are = rw end_is whole.sites
-
-      last : (addresses_from s (count_at 0 16 s (Ok e.end)).next (count_at 0 16 s (Ok e.end)).value).next ≡ (node_at s (Ok at)).next
-      unfolding addresses_end
-      last = rw end_is whole.end
-
-      sites-on : WentOn (count_at 0 16 s (Ok e.end)).next
-      sites-on = addresses-on s (count_at 0 16 s (Ok e.end)).next (count_at 0 16 s (Ok e.end)).value (last ∙ on.1)
-
-      count-read : (e.end + 2 ≤ length s) × (count_at 0 16 s (Ok e.end) ≡ record { value = little s e.end 2; next = Ok (e.end + 2) })
-      count-read = count-from 0 16 s e.end sites-on.1
-
-      pub count-inside : e.end + 2 ≤ length s
-      count-inside = count-read.0
-
-      pub few-addresses : little s e.end 2 ≤ 16
-      few-addresses = rw count-read.1 at (count_most 0 16 s (Ok e.end))
-
-      addresses-last : (addresses_from s (Ok (e.end + 2)) (little s e.end 2)).next ≡ (node_at s (Ok at)).next
-      addresses-last = rw count-read.1 at last
-
-      node-end : (on.0 ≡ e.end + 2 + 8 * little s e.end 2) × (on.0 ≤ length s)
-      node-end = addresses-end s (e.end + 2) (little s e.end 2) count-inside (addresses-last ∙ on.1)
-
-      pub node-inside : e.end + 2 + 8 * little s e.end 2 ≤ length s
-      node-inside = omega (arith, node-end.0, node-end.1)
+      pub condition-end : Ok e.end ≡ (expression_at (length (types_in s (node_at s (Ok at)))) s (node_at s (Ok at)).condition).next
+      condition-end = (took (length (types_in s (node_at s (Ok at)))) condition-on).place ∙ rw condition-there
 
       pub node_made : {addresses : ℕ} → addresses ≡ little s e.end 2
           → reading_of (record { front = front; condition = condition; addresses = addresses; sites = e.end + 2; end = e.end + 2 + 8 * addresses }) ≡ node_at s (Ok at)
-      node_made addresses-are =
+      node_made is =
           node-path (ap (λ (f : NodeFront). f.variables) front-is) types-there (ap (λ (f : NodeFront). f.statements) front-is) body-there
           condition-there
-          (addresses-are ∙ sym (ap (λ (f : FieldReading). f.value) count-read.1) ∙ rw end_is whole.addresses)
-          (sym (ap (λ (f : FieldReading). f.next) count-read.1) ∙ sites-are)
-          (rw addresses-are (ap Ok (sym node-end.0) ∙ sym on.1))
+          (is ∙ addresses_are s at on condition-end)
+          (sites-there s at on condition-end)
+          (rw is (ap Ok (sym (addresses-inside s at on condition-end).0) ∙ sym on.1))

@@ -1,15 +1,10 @@
 -- What the contracts of a node verdict's parts ask and give.
-use Rattle.std.specs.Prelude.{ℕ, ◌*◌, ◌≤◌, ◌≡◌, List, length, drop}
-use Rattle.refusal.specs.Numbers.{TERMS}
-use Rattle.expr.specs.Tree.{Wf, tree_of}
-use Rattle.sheet_node.specs.declared.NodeReading.{NodeReading}
-use Rattle.sheet_node.specs.Node.{node_of}
-use Rattle.substitution.specs.declared.Written.{Written}
-use Rattle.substitution.specs.declared.Written.TheVariants.{From, TooLong}
-use Rattle.substitution.specs.Substitution.{Substituted, into, too_long}
-use Rattle.verdict.specs.declared.Verdict.{Verdict}
-use Rattle.verdict.specs.declared.Answer.{Answer}
-use Rattle.verdict.specs.declared.Answer.TheVariants.{Given, Refused}
+use Rattle.std.specs.Prelude.{ℕ, ◌*◌, ◌≤◌, ◌≡◌, List, length, Result, Ok, Err, IfOk}
+use Rattle.refusal.specs.declared.Fault.TheVariants.{Terms}
+use Rattle.refusal.specs.declared.Refusal.{Refusal}
+use Rattle.refusal.specs.Numbers.{refused}
+use Rattle.sheet_node.specs.Node.{NodeReading, node_of}
+use Rattle.verdict.specs.Numbers.{Answer}
 use Rattle.decide.specs.declared.Decision.{Decision}
 use Rattle.decide.specs.declared.Decision.TheVariants.{Of, TooMany}
 use Rattle.verdict_node.specs.declared.JudgedNode.{JudgedNode}
@@ -25,21 +20,16 @@ pub record LentNode (variables : ℕ) (table lengths words out : List ℕ) : Typ
 
 -- the answer from a decision: refusal 11 where an equality passes the limits
 abbrev pub on_decision : ℕ → Decision → Answer
-on_decision place (Of v) = Given v
-on_decision place TooMany = Refused TERMS place
+on_decision place (Of v) = Ok v
+on_decision place TooMany = Err (refused Terms place)
 
--- what substitution has written to the end of a borrowed list is one tree
-abbrev pub WholeWords : Written → List ℕ → Type 0
-WholeWords (From at) out = Wf (drop at out)
-WholeWords TooLong out = Unit {0}
+-- the answer in what is given for a node
+abbrev pub answer_in : Result JudgedNode Refusal → Answer
+answer_in (Ok j) = Ok j.verdict
+answer_in (Err r) = Err r
 
--- the substituted condition that it is
-abbrev pub substituted_of : Written → List ℕ → Substituted
-substituted_of (From at) out = into (tree_of (drop at out))
-substituted_of TooLong out = too_long
-
--- what is given for a node whose record starts at an offset
-pub record JudgedIs (r : JudgedNode) (s : List ℕ) (node : NodeReading) (place : ℕ) : Type 0 where
-  pub answer : r.answer ≡ node_verdict (node_of s node) place
-  pub addresses : (v : Verdict) → r.answer ≡ Given v → r.addresses ≡ node.addresses
-  pub sites : (v : Verdict) → r.answer ≡ Given v → r.sites ≡ node.sites
+-- what is given for a node whose record starts at an offset: its answer and, with a verdict, where its addresses stand
+pub record JudgedIs (r : Result JudgedNode Refusal) (s : List ℕ) (node : NodeReading) (place : ℕ) : Type 0 where
+  pub answer : answer_in r ≡ node_verdict (node_of s node) place
+  pub addresses : IfOk r (λ j. j.addresses ≡ node.addresses)
+  pub sites : IfOk r (λ j. Ok j.sites ≡ node.sites)

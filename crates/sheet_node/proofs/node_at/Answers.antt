@@ -1,4 +1,4 @@
-use Rattle.sheet_node.proofs.Decoding.{these-statements, this-condition, count-inside, few-addresses, node-inside, node_made}
+use Rattle.sheet_node.proofs.Decoding.{these-statements, this-condition, condition-end, sites-inside, addresses-few, addresses-inside, node_made}
 use native.Mathlib.Omega.{arith}
 use Rattle.sheet_node.proofs.node_at.Goals as goal
 
@@ -12,19 +12,23 @@ expression_at-e-requires c =
 
 pub number-addresses-requires-clause-inside : goal.number-addresses-requires-clause-inside
 number-addresses-requires-clause-inside c =
-    let a = c.args in let on = c.requires.0 in let f = c.front_at-front in count-inside a.s.now a.at on f.ensures c.statements_end-condition.ensures c.expression_at-e.ensures
+    let a = c.args in let on = c.requires.0 in
+    let end = condition-end a.s.now a.at on c.front_at-front.ensures c.statements_end-condition.ensures c.expression_at-e.ensures in sites-inside a.s.now a.at on end
 
 pub overflow_add-sites : goal.overflow_add-sites
 overflow_add-sites c =
-    let a = c.args in let on = c.requires.0 in let f = c.front_at-front in omega (arith, count-inside a.s.now a.at on f.ensures c.statements_end-condition.ensures c.expression_at-e.ensures)
+    let a = c.args in let on = c.requires.0 in
+    let end = condition-end a.s.now a.at on c.front_at-front.ensures c.statements_end-condition.ensures c.expression_at-e.ensures in omega (arith, sites-inside a.s.now a.at on end)
 
 pub overflow_mul-result : goal.overflow_mul-result
 overflow_mul-result c =
-    let a = c.args in let on = c.requires.0 in let f = c.front_at-front in omega (arith, few-addresses a.s.now a.at on f.ensures c.statements_end-condition.ensures c.expression_at-e.ensures, c.number-addresses.ensures)
+    let a = c.args in let on = c.requires.0 in
+    let end = condition-end a.s.now a.at on c.front_at-front.ensures c.statements_end-condition.ensures c.expression_at-e.ensures in omega (arith, addresses-few a.s.now a.at on end, c.number-addresses.ensures)
 
 pub overflow_add-result : goal.overflow_add-result
 overflow_add-result c =
-    let a = c.args in let on = c.requires.0 in let f = c.front_at-front in omega (arith, node-inside a.s.now a.at on f.ensures c.statements_end-condition.ensures c.expression_at-e.ensures, c.number-addresses.ensures)
+    let a = c.args in let on = c.requires.0 in
+    let end = condition-end a.s.now a.at on c.front_at-front.ensures c.statements_end-condition.ensures c.expression_at-e.ensures in omega (arith, (addresses-inside a.s.now a.at on end).0, (addresses-inside a.s.now a.at on end).1, c.number-addresses.ensures)
 
 pub returns : goal.returns
 returns c =
