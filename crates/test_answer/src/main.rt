@@ -6,18 +6,17 @@
 // sheet, and the sets: a value is its number of bytes (0 to 8) and those bytes.
 #![tactic(auto)]
 
-use answer_sentence::Told;
-use evaluate_node::Evaluation;
-use sheet::{Reading, Sheet};
+use refusal::{Fault, Refusal};
+use sheet::Sheet;
 use std::io::Read;
 use test_io::{Ending, Next};
 use verdict::{Answer, Reason, Verdict};
 
-fn refused(output: &impl Print, k: u64, at: usize) -> bool {
+fn refused(output: &impl Print, r: Refusal) -> bool {
     test_io::word(output, b"refused")
-        & test_io::number(output, k)
+        & test_io::number(output, r.fault.number())
         & test_io::word(output, b" at")
-        & test_io::number(output, at as u64)
+        & test_io::number(output, r.at as u64)
 }
 
 // The three counts, and where the records start.
@@ -36,15 +35,14 @@ fn accepted(output: &impl Print, sheet: Sheet) -> bool {
 }
 
 fn say_reading(output: &impl Print, s: &[u8]) -> bool {
-    let reading = sheet::read(s);
-    match reading {
-        Reading::Accepted(sheet) => accepted(output, sheet),
-        Reading::Refused(k, at) => refused(output, k, at),
+    match sheet::read(s) {
+        Ok(sheet) => accepted(output, sheet),
+        Err(r) => refused(output, r),
     }
 }
 
 fn say_decided(output: &impl Print, way: &[u8], r: Reason) -> bool {
-    test_io::word(output, way) & test_io::digits(output, verdict::reason_number(r) as u64)
+    test_io::word(output, way) & test_io::digits(output, r.number() as u64)
 }
 
 // a always and v never, each with the reason's number; u undecided, n no branch.
@@ -59,17 +57,17 @@ fn say_verdict(output: &impl Print, v: Verdict) -> bool {
 
 // r with its number for a refusal. That of the number past the last record is due and is not said; any other answer for that
 // number is one too many on the line.
-fn say_refused(output: &impl Print, k: u64, at: usize, past: bool) -> bool {
-    if past & (k == 13) & (at == 0) {
+fn say_refused(output: &impl Print, r: Refusal, past: bool) -> bool {
+    if past & (r == Fault::Number.at(0)) {
         return true;
     }
-    test_io::word(output, b" r") & test_io::digits(output, k)
+    test_io::word(output, b" r") & test_io::digits(output, r.fault.number())
 }
 
 fn say_answer(output: &impl Print, a: Answer, past: bool) -> bool {
     match a {
-        Answer::Given(v) => say_verdict(output, v),
-        Answer::Refused(k, at) => say_refused(output, k, at, past),
+        Ok(v) => say_verdict(output, v),
+        Err(r) => say_refused(output, r, past),
     }
 }
 
@@ -78,8 +76,8 @@ fn say_sentence(output: &impl Print, s: &[u8], number: u64, past: bool) -> bool 
     let mut text = test_io::text();
     let told = answer_sentence::block_sentence(s, number, &mut text);
     match told {
-        Told::Length(n) => test_io::word(output, b"|") & test_io::start(output, &text, n),
-        Told::Refused(k, at) => say_refused(output, k, at, past),
+        Ok(n) => test_io::word(output, b"|") & test_io::start(output, &text, n),
+        Err(r) => say_refused(output, r, past),
     }
 }
 
@@ -110,28 +108,23 @@ fn say_name(output: &impl Print, said: Said) -> bool {
 
 fn say_all(output: &impl Print, s: &[u8], said: Said, n: u64) -> bool {
     let mut written = say_name(output, said);
-    let mut i: u64 = 0;
-    while i < n {
+    for i in 0..n {
         written = written & say_one(output, s, said, i, false);
-        i += 1;
     }
     written & say_one(output, s, said, n, true)
 }
 
 fn count_of(sheet: Sheet, said: Said) -> u64 {
-    let blocks = sheet.blocks;
-    let nodes = sheet.nodes;
     match said {
-        Said::Nodes => nodes.count,
-        _ => blocks.count,
+        Said::Nodes => sheet.nodes.count,
+        Said::Blocks | Said::Sentences => sheet.blocks.count,
     }
 }
 
 fn say_records(output: &impl Print, s: &[u8], said: Said) -> bool {
-    let reading = sheet::read(s);
-    match reading {
-        Reading::Accepted(sheet) => say_all(output, s, said, count_of(sheet, said)),
-        Reading::Refused(k, at) => refused(output, k, at),
+    match sheet::read(s) {
+        Ok(sheet) => say_all(output, s, said, count_of(sheet, said)),
+        Err(r) => refused(output, r),
     }
 }
 
@@ -143,11 +136,11 @@ fn comma(output: &impl Print, number: u32) -> bool {
     true
 }
 
-fn say_evaluation(output: &impl Print, e: Evaluation) -> bool {
+fn say_evaluation(output: &impl Print, e: Result<bool, Refusal>) -> bool {
     match e {
-        Evaluation::Holds => test_io::word(output, b"holds"),
-        Evaluation::Fails => test_io::word(output, b"fails"),
-        Evaluation::Refused(k, at) => refused(output, k, at),
+        Ok(true) => test_io::word(output, b"holds"),
+        Ok(false) => test_io::word(output, b"fails"),
+        Err(r) => refused(output, r),
     }
 }
 
@@ -160,53 +153,29 @@ fn line(output: &impl Print, written: bool) -> Ending {
     }
 }
 
-// A value and the offset after it, or the end of the bytes.
-#[derive(Clone, Copy)]
-enum Taken {
-    Value(u64, usize),
-    Cut,
-}
-
-// The value at that offset.
-fn take_value(s: &[u8], at: usize) -> Taken {
+// The value at that offset, and the offset after it, unless the bytes end there.
+fn take_value(s: &[u8], at: usize) -> Option<(u64, usize)> {
     if at >= s.len() {
-        return Taken::Cut;
+        return None;
     }
     let n = test_io::byte(s, at) as usize;
     let from = at + 1;
-    if n > 8 {
-        return Taken::Cut;
-    }
-    if n > s.len() - from {
-        return Taken::Cut;
+    if n > 8 || n > s.len() - from {
+        return None;
     }
     let next = from + n;
-    Taken::Value(test_io::eight(&s[from..next]), next)
+    Some((test_io::eight(&s[from..next]), next))
 }
 
-// Where a set that was read ends.
-#[derive(Clone, Copy)]
-enum Set {
-    To(usize),
-    Cut,
-}
-
-// Fills the list with the values from that offset on.
-fn take_set(s: &[u8], from: usize, values: &mut [u64]) -> Set {
+// Fills the list with the values from that offset on, and gives the offset after them.
+fn take_set(s: &[u8], from: usize, values: &mut [u64]) -> Option<usize> {
     let mut at = from;
-    let mut i: usize = 0;
-    while i < values.len() {
-        let taken = take_value(s, at);
-        match taken {
-            Taken::Cut => return Set::Cut,
-            Taken::Value(v, next) => {
-                values[i] = v;
-                at = next;
-            }
-        }
-        i += 1;
+    for i in 0..values.len() {
+        let (value, next) = take_value(s, at)?;
+        values[i] = value;
+        at = next;
     }
-    Set::To(at)
+    Some(at)
 }
 
 // The evaluation on each set, all on one line.
@@ -219,19 +188,16 @@ fn say_sets(
     values: &mut [u64],
 ) -> Ending {
     let mut at: usize = 0;
-    let mut i: u32 = 0;
-    while i < count {
-        let set = take_set(sets, at, values);
-        match set {
-            Set::Cut => return Ending::Cut,
-            Set::To(next) => at = next,
-        }
+    for i in 0..count {
+        let Some(next) = take_set(sets, at, values) else {
+            return Ending::Cut;
+        };
+        at = next;
         if !(comma(output, i)
             & say_evaluation(output, answer_evaluation::evaluation(sheet, node, values)))
         {
             return Ending::Unwritten;
         }
-        i += 1;
     }
     if at < sets.len() {
         return Ending::TooLong;

@@ -8,16 +8,14 @@ ghost use Rattle.std.proofs.Math.Seq.{slice};
 ghost use Rattle.machine.specs.States.{state_of};
 ghost use Rattle.machine.specs.Registers.{nothing_known};
 ghost use Rattle.machine.specs.Rules.{stepped_all};
-ghost use Rattle.sheet.specs.declared.Reading.TheVariants.{Accepted};
-ghost use Rattle.sheet.specs.Sheet.{sheet_at, reading_of};
-ghost use Rattle.sheet.specs.Index.{addresses_of};
+ghost use Rattle.sheet.specs.Sheet.{sheet_at};
 ghost use Rattle.verdict_block.specs.Verdict.{jump_of, flag_verdict, judged, verdict_at, end_from, verdict_on};
 ghost use Rattle.verdict_block.specs.Promises.{RangeOf};
 
 use alu::{Flag, Flags};
 use isa::Mnemonic;
 use machine::{Registers, State};
-use sheet::Sheet;
+use sheet::code::Code;
 use verdict::{Reason, Verdict};
 
 // A block's last instruction, as far as a verdict asks for it: a conditional branch of a mnemonic, or nothing to judge.
@@ -35,14 +33,12 @@ pub struct Range {
 }
 
 // What a verdict asks for of the instruction of that number, of an accepted sheet.
-pub fn jump_at(s: &[u8], sheet: Sheet, places: &[u64], number: usize) -> Jump
-    requires s_value { reading_of s.now ≡ Accepted sheet }
-    requires places_value { places.now ≡ (sheet_at s.now).instructions.places }
-    requires number_in_bounds { number < length places.now }
-    ensures { (d : Instruction) → result ≡ jump_of (get_or (sheet_at s.now).instructions.list number d) }
+pub fn jump_at(code: &Code, number: usize) -> Jump
+    requires { number < length code.now.places.now }
+    ensures { (d : Instruction) → result ≡ jump_of (get_or (sheet_at code.now.bytes.now).instructions.list number d) }
 {
-    if sheet::is_branch(s, sheet, places, number) {
-        let mnemonic = sheet::nth_mnemonic(s, sheet, places, number);
+    if code.is_branch(number) {
+        let mnemonic = code.nth_mnemonic(number);
         Jump::Conditional(mnemonic)
     } else {
         Jump::Nothing
@@ -52,23 +48,19 @@ pub fn jump_at(s: &[u8], sheet: Sheet, places: &[u64], number: usize) -> Jump
 // Step over the instructions of an accepted sheet from number `first` up to `end`: what is then known is left in the registers,
 // the flags come back.
 pub fn step_over(
-    s: &[u8],
-    sheet: Sheet,
-    places: &[u64],
+    code: &Code,
     first: usize,
     end: usize,
     registers: &mut Registers,
     start: Flags,
 ) -> Flags
-    requires s_value { reading_of s.now ≡ Accepted sheet }
-    requires places_value { places.now ≡ (sheet_at s.now).instructions.places }
-    requires end_in_bounds { end ≤ length places.now }
-    ensures { state_of registers.new result ≡ stepped_all (state_of registers.old start) (slice first end (sheet_at s.now).instructions.list) }
+    requires { end ≤ length code.now.places.now }
+    ensures { state_of registers.new result ≡ stepped_all (state_of registers.old start) (slice first end (sheet_at code.now.bytes.now).instructions.list) }
 {
     let mut flags = start;
     let mut i = first;
     while i < end {
-        let it = sheet::nth_instruction(s, sheet, places, i);
+        let it = code.nth_instruction(i);
         flags = machine::step(registers, flags, it);
         i += 1;
     }
@@ -103,70 +95,51 @@ fn verdict_at(registers: &Registers, flags: Flags, jump: Jump) -> Verdict
 // The verdict at the end of the instructions of an accepted sheet from number `first` up to `end`, where the registers and
 // `start` are what is known at their start.
 fn verdict_between(
-    s: &[u8],
-    sheet: Sheet,
-    places: &[u64],
+    code: &Code,
     first: usize,
     end: usize,
     registers: &mut Registers,
     start: Flags,
 ) -> Verdict
-    requires s_value { reading_of s.now ≡ Accepted sheet }
-    requires places_value { places.now ≡ (sheet_at s.now).instructions.places }
-    requires end_in_bounds { end ≤ length places.now }
-    ensures { result ≡ verdict_at (end_from (state_of registers.old start) (slice first end (sheet_at s.now).instructions.list)) }
+    requires { end ≤ length code.now.places.now }
+    ensures { result ≡ verdict_at (end_from (state_of registers.old start) (slice first end (sheet_at code.now.bytes.now).instructions.list)) }
 {
     if end <= first {
         return Verdict::NoBranch;
     }
     let last = end - 1;
-    let flags = step_over(s, sheet, places, first, last, registers, start);
-    verdict_at(registers, flags, jump_at(s, sheet, places, last))
+    let flags = step_over(code, first, last, registers, start);
+    verdict_at(registers, flags, jump_at(code, last))
 }
 
 // The instructions of the block of that number, of an accepted sheet with its index: quickly found where they start at or shortly
 // after a guess.
-pub fn range_of(s: &[u8], sheet: Sheet, addresses: &[u64], number: u64, guess: usize) -> Range
-    requires s_value { reading_of s.now ≡ Accepted sheet }
-    requires number_lt_count { number < sheet.blocks.count }
-    requires addresses_value { addresses.now ≡ addresses_of (sheet_at s.now).instructions.list }
-    ensures { RangeOf s.now number result }
+pub fn range_of(code: &Code, number: u64, guess: usize) -> Range
+    requires { number < code.now.sheet.blocks.count }
+    ensures { RangeOf code.now.bytes.now number result }
 {
-    let block = sheet::nth_block(s, sheet, number);
+    let block = code.nth_block(number);
     let first = search::first_from(addresses, guess, block.from);
     let end = search::first_from(addresses, first, block.to);
     Range { first, end }
 }
 
 // The verdict at the end of a range of instructions of an accepted sheet, where nothing is known at its start.
-pub fn verdict_in(s: &[u8], sheet: Sheet, places: &[u64], range: Range) -> Verdict
-    requires s_value { reading_of s.now ≡ Accepted sheet }
-    requires places_value { places.now ≡ (sheet_at s.now).instructions.places }
-    requires end_in_bounds { range.end ≤ length places.now }
-    ensures { result ≡ verdict_at (end_from nothing_known (slice range.first range.end (sheet_at s.now).instructions.list)) }
+pub fn verdict_in(code: &Code, range: Range) -> Verdict
+    requires { range.end ≤ length code.now.places.now }
+    ensures { result ≡ verdict_at (end_from nothing_known (slice range.first range.end (sheet_at code.now.bytes.now).instructions.list)) }
 {
     let start = State::unknown();
     let mut registers = start.registers;
     let flags = start.flags;
-    verdict_between(
-        s,
-        sheet,
-        places,
-        range.first,
-        range.end,
-        &mut registers,
-        flags,
-    )
+    verdict_between(code, range.first, range.end, &mut registers, flags)
 }
 
 // The verdict on the block of that number, of an accepted sheet with its index.
-pub fn verdict_on(s: &[u8], sheet: Sheet, addresses: &[u64], places: &[u64], number: u64) -> Verdict
-    requires s_value { reading_of s.now ≡ Accepted sheet }
-    requires number_lt_count { number < sheet.blocks.count }
-    requires addresses_value { addresses.now ≡ addresses_of (sheet_at s.now).instructions.list }
-    requires places_value { places.now ≡ (sheet_at s.now).instructions.places }
-    ensures { result ≡ verdict_on s.now number }
+pub fn verdict_on(code: &Code, number: u64) -> Verdict
+    requires { number < code.now.sheet.blocks.count }
+    ensures { result ≡ verdict_on code.now.bytes.now number }
 {
-    let range = range_of(s, sheet, addresses, number, 0);
-    verdict_in(s, sheet, places, range)
+    let range = range_of(code, number, 0);
+    verdict_in(code, range)
 }

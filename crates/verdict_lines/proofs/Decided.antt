@@ -4,8 +4,12 @@ use mathlib.Core.Path.{◌≡◌, refl, ap}
 use mathlib.Core.List.{List, [], ◌∷◌}
 use native.Mathlib.Omega.{arith}
 use native.Mathlib.Numerals.{add-one}
-use lib.ListN.{length, get_or, set, drop, drop_of_length-le}
+use lib.ListN.{length, get_or, set, drop}
 use lib.Seq.{drop-cons}
+use borrow.Author.Tests.{ne_eqb}
+use Rattle.std.specs.Prelude.{not, cond, ◌==◌}
+use Rattle.std.specs.List.{count_by}
+use Rattle.std.proofs.lemmas.List.Recursion.{is_count_by}
 use Rattle.verdict.specs.declared.Reason.{Reason}
 use Rattle.verdict.specs.declared.Reason.TheVariants.{Flags, EqualSides, Truth, UnsignedZero, ExactSides, Parity, Halves}
 use Rattle.verdict.specs.declared.Verdict.{Verdict}
@@ -49,10 +53,6 @@ pub decided-one : (x : ℕ) → (x ≡ 0 → ⊥) → decided_of x ≡ 1
 decided-one zero some = absurd (some refl)
 decided-one (suc x) some = refl
 
-pub decided-few : (x : ℕ) → decided_of x ≤ 1
-decided-few zero = omega arith
-decided-few (suc x) = omega arith
-
 pub decided-empty : (x : ℕ) → x ≡ 0 → decided_of x ≡ 0
 decided-empty x none = rw none
 
@@ -62,9 +62,14 @@ pub decided-more : (slots : List ℕ) (i : ℕ) → i < length slots
 unfolding decided_in
 decided-more slots i there = rw (add-one i, drop-cons slots i 0 there)
 
-pub decided-past : (slots : List ℕ) (i : ℕ) → length slots ≤ i → decided_in (drop i slots) ≡ 0
+-- slots that hold something are counted
+one_more : (x n : ℕ) → decided_of x + n ≡ cond (not (x == 0)) (1 + n) n
+one_more zero n = omega arith
+one_more (suc x) n = rw (ne_eqb (suc x) 0 (λ q. omega arith)) (omega arith)
+
+pub decided-count : (slots : List ℕ) → decided_in slots ≡ count_by (λ x. not (x == 0)) slots
 unfolding decided_in
-decided-past slots i out = rw (drop_of_length-le slots out)
+decided-count = is_count_by decided_in (λ x. not (x == 0)) refl (λ x slots. one_more x (decided_in slots))
 
 -- the line of a slot that is not empty
 pub slot-line : (site target x : ℕ) → (x ≡ 0 → ⊥)

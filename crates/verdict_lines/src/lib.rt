@@ -2,33 +2,24 @@
 // counted and written.
 #![tactic(auto)]
 
-ghost use Rattle.std.specs.Prelude.{◌≡◌, ◌+◌, ◌*◌, ◌≤◌, ◌<◌, length, replicate};
-ghost use Rattle.sheet.specs.declared.Reading.TheVariants.{Accepted};
-ghost use Rattle.sheet.specs.Sheet.{sheet_at, reading_of};
+ghost use Rattle.std.specs.Prelude.{◌≡◌, ◌+◌, ◌*◌, ◌≤◌, ◌<◌, length};
+ghost use Rattle.sheet.specs.Sheet.{sheet_at};
 ghost use Rattle.sheet.specs.Index.{over, targets_of};
 ghost use Rattle.sheet_bytes.specs.Write.{bytes, records};
 ghost use Rattle.verdict_lines.specs.Lines.{line_bytes};
 ghost use Rattle.verdict_lines.specs.Slots.{slot_of, kept, decided_of, decided_in, slot_line, lines_in, put_at, RoomFor};
 
-use sheet::Sheet;
+use sheet::code::Code;
 use verdict::Verdict;
-
-// Slots that hold nothing, for as many instructions as a sheet can have.
-pub fn empty_slots() -> [u8; 2048]
-    ensures { result ≡ replicate 2048 0 }
-{
-    [0; 2048]
-}
 
 // What a slot holds of a verdict: 0 where it decides nothing, else twice the reason's number, and one more for always.
 fn slot_of(v: Verdict) -> u8
     ensures { result ≡ slot_of v }
 {
     match v {
-        Verdict::Always(r) => 2 * verdict::reason_number(r) + 1,
-        Verdict::Never(r) => 2 * verdict::reason_number(r),
-        Verdict::Undecided => 0,
-        Verdict::NoBranch => 0,
+        Verdict::Always(r) => 2 * r.number() + 1,
+        Verdict::Never(r) => 2 * r.number(),
+        Verdict::Undecided | Verdict::NoBranch => 0,
     }
 }
 
@@ -42,24 +33,11 @@ pub fn keep(slots: &mut [u8], number: usize, v: Verdict)
     }
 }
 
-// How many lines a slot holds.
-fn decided_of(slot: u8) -> u64
-    ensures { result ≡ decided_of slot }
-{
-    if slot == 0 { 0 } else { 1 }
-}
-
 // How many lines there are.
 pub fn count(slots: &[u8]) -> u64
     ensures { result ≡ decided_in slots.now }
 {
-    let mut n: u64 = 0;
-    let mut i = 0;
-    while i < slots.len() {
-        n += decided_of(slots[i]);
-        i += 1;
-    }
-    n
+    slots.iter().filter(|slot| **slot != 0).count() as u64
 }
 
 // Puts a number's 8 bytes into a list, the lowest first.
@@ -67,15 +45,7 @@ fn put_word(list: &mut [u8], at: usize, x: u64)
     requires { at + 8 ≤ length list.old }
     ensures { list.new ≡ put_at at (bytes 8 x) list.old }
 {
-    let mut next = at;
-    let mut rest = x;
-    let mut left: u64 = 8;
-    while 0 < left {
-        list[next] = (rest % 256) as u8;
-        rest = rest / 256;
-        next += 1;
-        left -= 1;
-    }
+    list[at..at + 8].copy_from_slice(&x.to_le_bytes());
 }
 
 // Puts the line that a slot holds into a list, 18 bytes, and gives the offset after it.
@@ -93,18 +63,13 @@ fn put_line(list: &mut [u8], at: usize, site: u64, target: u64, slot: u8) -> usi
     at + 18
 }
 
-// Writes the lines over the start of a list that can hold them: sites and offsets are those of an accepted sheet's instructions.
-pub fn write(s: &[u8], sheet: Sheet, sites: &[u64], places: &[u64], slots: &[u8], list: &mut [u8])
-    requires s_value { reading_of s.now ≡ Accepted sheet }
-    requires places_value { places.now ≡ (sheet_at s.now).instructions.places }
-    requires room_for { RoomFor sites.now (targets_of (sheet_at s.now).instructions.list) slots.now list.old }
-    ensures { list.new ≡ over (records line_bytes (lines_in sites.now (targets_of (sheet_at s.now).instructions.list) slots.now)) list.old }
+// Writes the lines of an accepted sheet's slots over the start of a list that can hold them.
+pub fn write(code: &Code, slots: &[u8], list: &mut [u8])
+    requires { RoomFor code.now.addresses.now (targets_of (sheet_at code.now.bytes.now).instructions.list) slots.now list.old }
+    ensures { list.new ≡ over (records line_bytes (lines_in code.now.addresses.now (targets_of (sheet_at code.now.bytes.now).instructions.list) slots.now)) list.old }
 {
     let mut at = 0;
-    let mut i = 0;
-    while i < slots.len() {
-        let target = sheet::nth_target(s, sheet, places, i);
-        at = put_line(list, at, sites[i], target, slots[i]);
-        i += 1;
+    for i in 0..slots.len() {
+        at = put_line(list, at, code.addresses[i], code.nth_target(i), slots[i]);
     }
 }

@@ -16,23 +16,17 @@ use Rattle.search.specs.declared.Found.{Found}
 use Rattle.search.specs.declared.Found.TheVariants.{At, Nothing}
 use Rattle.search.specs.Ascending.{later, place_of}
 use Rattle.search.proofs.Laws.{place_found}
-use Rattle.sheet_field.specs.declared.Place.{Place}
-use Rattle.sheet_field.specs.declared.Field.{Field}
-use Rattle.sheet_field.specs.Field.{field_at}
-use Rattle.sheet_node.specs.declared.NodeReading.{NodeReading}
-use Rattle.sheet_node.specs.Node.{node_of, addresses_from}
-use Rattle.sheet.specs.declared.Sheet.{Sheet}
-use Rattle.sheet.specs.declared.Reading.TheVariants.{Accepted}
-use Rattle.sheet.specs.Sheet.{sheet_at, reading_of}
+use Rattle.sheet_field.specs.Field.{Place, FieldReading, field_at}
+use Rattle.sheet_node.specs.Node.{NodeReading, node_of, addresses_from}
+use Rattle.sheet.specs.Sheet.{sheet_at}
 use Rattle.sheet.specs.Index.{addresses_of, branches_of}
 use Rattle.sheet.proofs.Fronts.{one, map_at}
-use Rattle.sheet.proofs.ByNumber.{instructions-count, places_count}
 use Rattle.verdict_block.specs.declared.Range.{Range}
 use Rattle.verdict_block.specs.Verdict.{code_of}
 use Rattle.verdict_block.specs.Promises.{RangeOf}
 use Rattle.verdict_block.proofs.Between.{apart_none, apart-between}
 use Rattle.verdict_sheet.specs.Sites.{branch_at, unless_later, last_branch, block_site}
-use Rattle.verdict_sheet.specs.Kept.{CodeIndex, if_branch, branch_ending, SiteIs}
+use Rattle.verdict_sheet.specs.Kept.{if_branch, branch_ending, SiteIs}
 
 -- the mark at an index that was found
 marked : List Bool → Found → Bool
@@ -98,21 +92,13 @@ module _ (addresses : List ℕ) (code : List Instruction) (address : ℕ) (other
   pub nothing-here : p ≡ Nothing → otherwise ≡ if_branch code (place_of addresses address) otherwise
   nothing-here nowhere = rw (← p-is, nowhere)
 
--- the index has as many entries as there are instructions
-module _ {s a p : List ℕ} (index : CodeIndex s a p) where
-  pub index-addresses : length a ≡ length (sheet_at s).instructions.list
-  index-addresses = rw index.addresses (addresses-length (sheet_at s).instructions.list)
-
-  pub index-places : (sheet : Sheet) → reading_of s ≡ Accepted sheet → length p ≡ length (sheet_at s).instructions.list
-  index-places sheet read = rw index.places (places_count s sheet read ∙ sym (instructions-count s sheet read))
-
 -- the loop over a node's addresses
 pub jump-none : (s : List ℕ) (sites : Place) (code : List Instruction)
     → (sites ≡ (addresses_from s sites 0).next) × SiteIs code Nothing (last_branch code (addresses_from s sites 0).list)
 unfolding addresses_from last_branch
 jump-none s sites code = (refl, refl)
 
-pub jump-again : (s : List ℕ) (sites : Place) (k : ℕ) (code : List Instruction) {addresses : List ℕ} {next : Place} {f : Field} (jump : Found) {r : Found}
+pub jump-again : (s : List ℕ) (sites : Place) (k : ℕ) (code : List Instruction) {addresses : List ℕ} {next : Place} {f : FieldReading} (jump : Found) {r : Found}
     → addresses ≡ addresses_of code
     → (next ≡ (addresses_from s sites k).next) × SiteIs code jump (last_branch code (addresses_from s sites k).list)
     → f ≡ field_at 8 s next → r ≡ if_branch code (place_of addresses f.value) jump

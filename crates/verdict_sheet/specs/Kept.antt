@@ -1,24 +1,14 @@
--- What the contracts here ask and give: the index, a branch by the number of its instruction, the slots.
-use Rattle.std.specs.Prelude.{ℕ, ◌-◌, ◌<◌, ◌≡◌, List, map, false, cond, ltb, length, get_or}
+-- What the contracts here ask and give: a branch by the number of its instruction, the slots.
+use Rattle.std.specs.Prelude.{ℕ, ◌-◌, ◌<◌, ◌≡◌, List, map, false, cond, ltb, length, get_or, Result, Ok, Err}
 use Rattle.std.proofs.Math.Option.{Option, none, some}
+use Rattle.refusal.specs.declared.Refusal.{Refusal}
 use Rattle.isa.specs.declared.Instruction.{Instruction}
 use Rattle.verdict.specs.declared.Verdict.{Verdict}
 use Rattle.search.specs.declared.Found.{Found}
 use Rattle.search.specs.declared.Found.TheVariants.{At, Nothing}
-use Rattle.search.specs.Ascending.{Ascending}
-use Rattle.sheet.specs.Sheet.{sheet_at}
 use Rattle.sheet.specs.Index.{addresses_of, branches_of}
 use Rattle.verdict_lines.specs.Slots.{slot_of, kept}
-use Rattle.verdict_sheet.specs.declared.Progress.{Progress}
-use Rattle.verdict_sheet.specs.declared.Progress.TheVariants as progress
 use Rattle.verdict_sheet.specs.Said.{Said, first_decided, Judged}
-use Rattle.verdict_sheet.specs.Said.Judged.{all, refused}
-
--- addresses and offsets are those of a sheet's instructions, and the addresses rise
-pub record CodeIndex (s a p : List ℕ) : Type 0 where
-  pub addresses : a ≡ addresses_of (sheet_at s).instructions.list
-  pub places : p ≡ (sheet_at s).instructions.places
-  pub rising : Ascending a
 
 -- an index, where a conditional branch is there, or else another
 abbrev pub if_branch : List Instruction → Found → Found → Found
@@ -49,8 +39,8 @@ unfoldable pub slots_of : List Instruction → List Said → List ℕ
 slots_of code said = map (λ (i : Instruction). slot_of (first_decided i.address said)) code
 
 -- what judging came to: the slots after all that was said, or the refusal
-abbrev pub Reached : List Instruction → Progress → List ℕ → Judged → Type 0
-Reached code progress.Through slots (all said) = slots ≡ slots_of code said
-Reached code progress.Through slots (refused number place) = ⊥
-Reached code (progress.Refused number place) slots (all said) = ⊥
-Reached code (progress.Refused number place) slots (refused n p) = (number ≡ n) × (place ≡ p)
+abbrev pub Reached : List Instruction → Result (Unit {0}) Refusal → List ℕ → Judged → Type 0
+Reached code (Ok done) slots (Ok said) = slots ≡ slots_of code said
+Reached code (Ok done) slots (Err q) = ⊥
+Reached code (Err r) slots (Ok said) = ⊥
+Reached code (Err r) slots (Err q) = r ≡ q

@@ -35,21 +35,16 @@ pub enum Progress {
 
 // The number of the conditional branch at an address, or else another.
 fn branch_or(
-    s: &[u8],
-    sheet: Sheet,
-    addresses: &[u64],
-    places: &[u64],
+    code: &Code,
     address: u64,
     otherwise: Found,
 ) -> Found
-    requires s_value { reading_of s.now ≡ Accepted sheet }
-    requires code_index { CodeIndex s.now addresses.now places.now }
-    ensures { result ≡ if_branch (sheet_at s.now).instructions.list (place_of addresses.now address) otherwise }
+    ensures { result ≡ if_branch (sheet_at code.now.bytes.now).instructions.list (place_of code.now.addresses.now address) otherwise }
 {
     let found = search::find(addresses, address);
     match found {
         Found::At(k) => {
-            if sheet::is_branch(s, sheet, places, k) {
+            if code.is_branch(k) {
                 found
             } else {
                 otherwise
@@ -61,23 +56,20 @@ fn branch_or(
 
 // The number of a node's jump, from its n addresses, which start at an offset.
 fn node_jump(
-    s: &[u8],
-    sheet: Sheet,
+    code: &Code,
     sites: Place,
     n: u64,
     addresses: &[u64],
     places: &[u64],
 ) -> Found
-    requires s_value { reading_of s.now ≡ Accepted sheet }
-    requires code_index { CodeIndex s.now addresses.now places.now }
-    ensures { SiteIs (sheet_at s.now).instructions.list result (last_branch (sheet_at s.now).instructions.list (addresses_from s.now sites n).list) }
+    ensures { SiteIs (sheet_at code.now.bytes.now).instructions.list result (last_branch (sheet_at code.now.bytes.now).instructions.list (addresses_from code.now.bytes.now sites n).list) }
 {
     let mut next = sites;
     let mut jump = Found::Nothing;
     let mut i: u64 = 0;
     while i < n {
         let f = sheet_field::take_field(s, next, Width::Eight);
-        jump = branch_or(s, sheet, addresses, places, f.value, jump);
+        jump = branch_or(code, f.value, jump);
         next = f.next;
         i += 1;
     }
@@ -85,18 +77,16 @@ fn node_jump(
 }
 
 // The number of the conditional branch that ends a range of instructions.
-fn last_branch(s: &[u8], sheet: Sheet, places: &[u64], range: Range) -> Found
-    requires s_value { reading_of s.now ≡ Accepted sheet }
-    requires places_value { places.now ≡ (sheet_at s.now).instructions.places }
-    requires end_in_bounds { range.end ≤ length places.now }
-    ensures { result ≡ branch_ending (sheet_at s.now).instructions.list range.first range.end }
+fn last_branch(code: &Code, range: Range) -> Found
+    requires { range.end ≤ length code.now.places.now }
+    ensures { result ≡ branch_ending (sheet_at code.now.bytes.now).instructions.list range.first range.end }
 {
     let end = range.end;
     if end <= range.first {
         return Found::Nothing;
     }
     let last = end - 1;
-    if sheet::is_branch(s, sheet, places, last) {
+    if code.is_branch(last) {
         return Found::At(last);
     }
     Found::Nothing
@@ -114,73 +104,61 @@ fn keep_at(slots: &mut [u8], at: Found, v: Verdict)
 }
 
 // Keeps the verdict at the end of a range in the slot of that number; where one is kept already, there is nothing to judge.
-fn keep_end(s: &[u8], sheet: Sheet, places: &[u64], range: Range, slots: &mut [u8], number: usize)
-    requires s_value { reading_of s.now ≡ Accepted sheet }
-    requires places_value { places.now ≡ (sheet_at s.now).instructions.places }
-    requires end_in_bounds { (range.end ≤ length places.now) × (number < length slots.old) }
-    ensures { slots.new ≡ kept slots.old number (verdict_at (end_from nothing_known (slice range.first range.end (sheet_at s.now).instructions.list))) }
+fn keep_end(code: &Code, range: Range, slots: &mut [u8], number: usize)
+    requires { (range.end ≤ length code.now.places.now) × (number < length slots.old) }
+    ensures { slots.new ≡ kept slots.old number (verdict_at (end_from nothing_known (slice range.first range.end (sheet_at code.now.bytes.now).instructions.list))) }
 {
     if slots[number] == 0 {
-        let v = verdict_block::verdict_in(s, sheet, places, range);
+        let v = verdict_block::verdict_in(code, range);
         verdict_lines::keep(slots, number, v);
     }
 }
 
 // The block of that number, where it has a branch; and where its instructions end, a guess where the next block's start.
 fn judge_block(
-    s: &[u8],
-    sheet: Sheet,
-    addresses: &[u64],
-    places: &[u64],
+    code: &Code,
     number: u64,
     guess: usize,
     slots: &mut [u8],
 ) -> usize
-    requires s_value { reading_of s.now ≡ Accepted sheet }
-    requires number_lt_count { number < sheet.blocks.count }
-    requires code_index { CodeIndex s.now addresses.now places.now }
-    requires slots_len { length slots.old ≡ length addresses.now }
-    ensures { (said : List Said) → slots.old ≡ slots_of (sheet_at s.now).instructions.list said → slots.new ≡ slots_of (sheet_at s.now).instructions.list (said ++ saying (block_site s.now number) (verdict_on s.now number)) }
+    requires number_lt_count { number < code.now.sheet.blocks.count }
+    requires slots_len { length slots.old ≡ length code.now.addresses.now }
+    ensures { (said : List Said) → slots.old ≡ slots_of (sheet_at code.now.bytes.now).instructions.list said → slots.new ≡ slots_of (sheet_at code.now.bytes.now).instructions.list (said ++ saying (block_site code.now.bytes.now number) (verdict_on code.now.bytes.now number)) }
 {
-    let range = verdict_block::range_of(s, sheet, addresses, number, guess);
-    let at = last_branch(s, sheet, places, range);
+    let range = verdict_block::range_of(code, number, guess);
+    let at = last_branch(code, range);
     match at {
-        Found::At(k) => keep_end(s, sheet, places, range, slots, k),
+        Found::At(k) => keep_end(code, range, slots, k),
         Found::Nothing => {}
     }
     range.end
 }
 
 // All blocks, in order.
-fn judge_blocks(s: &[u8], sheet: Sheet, addresses: &[u64], places: &[u64], slots: &mut [u8])
-    requires s_value { reading_of s.now ≡ Accepted sheet }
-    requires code_index { CodeIndex s.now addresses.now places.now }
-    requires slots_value { slots.old ≡ slots_of (sheet_at s.now).instructions.list [] }
-    ensures { slots.new ≡ slots_of (sheet_at s.now).instructions.list (blocks_say s.now sheet.blocks.count) }
+fn judge_blocks(code: &Code, slots: &mut [u8])
+    requires { slots.old ≡ slots_of (sheet_at code.now.bytes.now).instructions.list [] }
+    ensures { slots.new ≡ slots_of (sheet_at code.now.bytes.now).instructions.list (blocks_say code.now.bytes.now code.now.sheet.blocks.count) }
 {
     let section = sheet.blocks;
     let n = section.count;
     let mut guess: usize = 0;
     let mut i: u64 = 0;
     while i < n {
-        guess = judge_block(s, sheet, addresses, places, i, guess, slots);
+        guess = judge_block(code, i, guess, slots);
         i += 1;
     }
 }
 
 // Keeps a node's verdict at its jump, if it has one; or the refusal.
 fn keep_node(
-    s: &[u8],
-    sheet: Sheet,
+    code: &Code,
     judged: JudgedNode,
     addresses: &[u64],
     places: &[u64],
     slots: &mut [u8],
 ) -> Progress
-    requires s_value { reading_of s.now ≡ Accepted sheet }
-    requires code_index { CodeIndex s.now addresses.now places.now }
-    requires slots_len { length slots.old ≡ length addresses.now }
-    ensures { (node : NodeReading) (place : ℕ) (said : List Said) → JudgedIs judged s.now node place → slots.old ≡ slots_of (sheet_at s.now).instructions.list said → Reached (sheet_at s.now).instructions.list result slots.new (node_too (all said) (last_branch (sheet_at s.now).instructions.list (node_of s.now node).addresses) (node_verdict (node_of s.now node) place)) }
+    requires { length slots.old ≡ length code.now.addresses.now }
+    ensures { (node : NodeReading) (place : ℕ) (said : List Said) → JudgedIs judged code.now.bytes.now node place → slots.old ≡ slots_of (sheet_at code.now.bytes.now).instructions.list said → Reached (sheet_at code.now.bytes.now).instructions.list result slots.new (node_too (all said) (last_branch (sheet_at code.now.bytes.now).instructions.list (node_of code.now.bytes.now node).addresses) (node_verdict (node_of code.now.bytes.now node) place)) }
 {
     let answer = judged.answer;
     let sites = judged.sites;
@@ -199,18 +177,13 @@ fn keep_node(
 
 // All nodes, in order, up to the first that is refused.
 fn judge_nodes(
-    s: &[u8],
-    sheet: Sheet,
-    addresses: &[u64],
-    places: &[u64],
+    code: &Code,
     nodes: &[u64],
     slots: &mut [u8],
 ) -> Progress
-    requires s_value { reading_of s.now ≡ Accepted sheet }
-    requires code_index { CodeIndex s.now addresses.now places.now }
-    requires nodes_value { nodes.now ≡ (sheet_at s.now).nodes.places }
-    requires slots_value { slots.old ≡ slots_of (sheet_at s.now).instructions.list (blocks_say s.now sheet.blocks.count) }
-    ensures { Reached (sheet_at s.now).instructions.list result slots.new (judged_up_to s.now sheet.blocks.count sheet.nodes.count) }
+    requires nodes_value { nodes.now ≡ (sheet_at code.now.bytes.now).nodes.places }
+    requires slots_value { slots.old ≡ slots_of (sheet_at code.now.bytes.now).instructions.list (blocks_say code.now.bytes.now code.now.sheet.blocks.count) }
+    ensures { Reached (sheet_at code.now.bytes.now).instructions.list result slots.new (judged_up_to code.now.bytes.now code.now.sheet.blocks.count code.now.sheet.nodes.count) }
 {
     let mut i = 0;
     while i < nodes.len() {
@@ -226,19 +199,14 @@ fn judge_nodes(
 
 // All records of an accepted sheet with its index, on slots that hold nothing.
 pub fn judge(
-    s: &[u8],
-    sheet: Sheet,
-    addresses: &[u64],
-    places: &[u64],
+    code: &Code,
     nodes: &[u64],
     slots: &mut [u8],
 ) -> Progress
-    requires s_value { reading_of s.now ≡ Accepted sheet }
-    requires code_index { CodeIndex s.now addresses.now places.now }
-    requires nodes_value { nodes.now ≡ (sheet_at s.now).nodes.places }
-    requires slots_value { slots.old ≡ slots_of (sheet_at s.now).instructions.list [] }
-    ensures { Reached (sheet_at s.now).instructions.list result slots.new (judged_up_to s.now sheet.blocks.count sheet.nodes.count) }
+    requires nodes_value { nodes.now ≡ (sheet_at code.now.bytes.now).nodes.places }
+    requires slots_value { slots.old ≡ slots_of (sheet_at code.now.bytes.now).instructions.list [] }
+    ensures { Reached (sheet_at code.now.bytes.now).instructions.list result slots.new (judged_up_to code.now.bytes.now code.now.sheet.blocks.count code.now.sheet.nodes.count) }
 {
-    judge_blocks(s, sheet, addresses, places, slots);
-    judge_nodes(s, sheet, addresses, places, nodes, slots)
+    judge_blocks(code, slots);
+    judge_nodes(code, nodes, slots)
 }

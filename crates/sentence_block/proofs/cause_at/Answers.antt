@@ -4,7 +4,7 @@ use Rattle.sentence_block.proofs.cause_at.Goals as goal
 
 pub step_over-flags-requires : goal.step_over-flags-requires
 step_over-flags-requires c =
-    record { s_value = c.requires.s_value; places_value = c.requires.places_value; end_in_bounds = omega (arith, c.requires.number_in_bounds) }
+    omega (arith, c.requires)
 
 pub returns : goal.returns
 returns c =

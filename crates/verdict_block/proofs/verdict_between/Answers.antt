@@ -1,4 +1,4 @@
-use Rattle.verdict_block.proofs.OnSheet.{inside}
+use Rattle.sheet.proofs.InCode.{inside}
 use Rattle.verdict_block.proofs.Between.{end_none, end-last}
 use Rattle.verdict_block.specs.Verdict.{verdict_at}
 use native.Mathlib.Omega.{arith}
@@ -12,12 +12,12 @@ returns-then-end-first c =
 
 pub step_over-flags-requires : goal.step_over-flags-requires
 step_over-flags-requires c =
-    let p = c.requires in record { s_value = p.s_value; places_value = p.places_value; end_in_bounds = omega (arith, c.if-end-first, p.end_in_bounds) }
+    let p = c.requires in omega (arith, c.if-end-first, p)
 
 pub jump_at-requires : goal.jump_at-requires
 jump_at-requires c =
-    let p = c.requires in record { s_value = p.s_value; places_value = p.places_value; number_in_bounds = omega (arith, c.if-end-first, p.end_in_bounds) }
+    let p = c.requires in omega (arith, c.if-end-first, p)
 
 pub returns : goal.returns
 returns c =
-    let a = c.args in let p = c.requires in c.verdict_at.ensures ∙ ap verdict_at (end-last _ a.first (a.end - 1) a.end _ (omega (arith, c.if-end-first)) (omega (arith, c.if-end-first)) (inside a.s.now a.sheet p.s_value p.places_value p.end_in_bounds) c.step_over-flags.ensures c.jump_at.ensures)
+    let a = c.args in let p = c.requires in c.verdict_at.ensures ∙ ap verdict_at (end-last _ a.first (a.end - 1) a.end _ (omega (arith, c.if-end-first)) (omega (arith, c.if-end-first)) (inside a.code.now p) c.step_over-flags.ensures c.jump_at.ensures)

@@ -1,3 +1,4 @@
+use Rattle.std.specs.Prelude.{Ok}
 use Rattle.verdict_sheet.proofs.Order.{stands-whole, node-numbered, nodes-none, nodes-on, nodes-ended, nodes-whole}
 use Rattle.verdict_sheet.proofs.Keeping.{slots_length}
 use Rattle.verdict_sheet.proofs.Branches.{index-addresses}
@@ -5,7 +6,6 @@ use Rattle.verdict_sheet.specs.Said.{blocks_say}
 use Rattle.sheet.proofs.ByNumber.{node-places-count}
 use Rattle.sheet.specs.Sheet.{sheet_at}
 use Rattle.sheet_node.specs.Node.{node_at}
-use Rattle.sheet_field.specs.declared.Place.TheVariants.{At}
 use native.Mathlib.Omega.{arith}
 use lib.ListN.{length, get_or}
 use mathlib.Core.Path.{refl, sym, ap, ◌∙◌}
@@ -29,7 +29,7 @@ shape_of-slots-in-Refused c =
 
 pub returns-in-Refused : goal.returns-in-Refused
 returns-in-Refused c =
-    let k = c.keep_node-r in let v = c.verdict_at-judged in nodes-ended c.args.s.now c.args.sheet.blocks.count c.loop-i.i k.result c.loop-i.slots k.new.slots (c.loop-i.invariant.1.1 c.args.sheet.blocks.count c.requires.slots_value) (λ said is. node-numbered c.args.s.now c.args.sheet c.requires.s_value c.loop-i.i c.requires.nodes_value c.loop-i-test.true k.result k.new.slots said (k.ensures (node_at c.args.s.now (At (get_or c.args.nodes.now c.loop-i.i 0))) (get_or c.args.nodes.now c.loop-i.i 0) said v.ensures is)) c.args.sheet.nodes.count c.in-Refused.k c.in-Refused.at c.in-Refused.is (omega (arith, c.loop-i-test.true, (ap length c.requires.nodes_value ∙ node-places-count c.args.s.now c.args.sheet c.requires.s_value)))
+    let k = c.keep_node-r in let v = c.verdict_at-judged in nodes-ended c.args.s.now c.args.sheet.blocks.count c.loop-i.i k.result c.loop-i.slots k.new.slots (c.loop-i.invariant.1.1 c.args.sheet.blocks.count c.requires.slots_value) (λ said is. node-numbered c.args.s.now c.args.sheet c.requires.s_value c.loop-i.i c.requires.nodes_value c.loop-i-test.true k.result k.new.slots said (k.ensures (node_at c.args.s.now (Ok (get_or c.args.nodes.now c.loop-i.i 0))) (get_or c.args.nodes.now c.loop-i.i 0) said v.ensures is)) c.args.sheet.nodes.count c.in-Refused.k c.in-Refused.at c.in-Refused.is (omega (arith, c.loop-i-test.true, (ap length c.requires.nodes_value ∙ node-places-count c.args.s.now c.args.sheet c.requires.s_value)))
 
 pub loop-i-smaller : goal.loop-i-smaller
 loop-i-smaller c =
@@ -37,7 +37,7 @@ loop-i-smaller c =
 
 pub loop-i-preserved : goal.loop-i-preserved
 loop-i-preserved c =
-    let k = c.keep_node-r in let v = c.verdict_at-judged in (omega (arith, c.loop-i-test.true), (k.auto.slots ∙ c.loop-i.invariant.1.0, λ blocks given. nodes-on c.args.s.now blocks c.loop-i.i k.result c.loop-i.slots k.new.slots (c.loop-i.invariant.1.1 blocks given) (λ said is. node-numbered c.args.s.now c.args.sheet c.requires.s_value c.loop-i.i c.requires.nodes_value c.loop-i-test.true k.result k.new.slots said (k.ensures (node_at c.args.s.now (At (get_or c.args.nodes.now c.loop-i.i 0))) (get_or c.args.nodes.now c.loop-i.i 0) said v.ensures is)) c.in_default.is))
+    let k = c.keep_node-r in let v = c.verdict_at-judged in (omega (arith, c.loop-i-test.true), (k.auto.slots ∙ c.loop-i.invariant.1.0, λ blocks given. nodes-on c.args.s.now blocks c.loop-i.i k.result c.loop-i.slots k.new.slots (c.loop-i.invariant.1.1 blocks given) (λ said is. node-numbered c.args.s.now c.args.sheet c.requires.s_value c.loop-i.i c.requires.nodes_value c.loop-i-test.true k.result k.new.slots said (k.ensures (node_at c.args.s.now (Ok (get_or c.args.nodes.now c.loop-i.i 0))) (get_or c.args.nodes.now c.loop-i.i 0) said v.ensures is)) c.in_default.is))
 
 pub shape_of-slots : goal.shape_of-slots
 shape_of-slots c =
