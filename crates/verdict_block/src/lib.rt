@@ -119,8 +119,8 @@ pub fn range_of(code: &Code, number: u64, guess: usize) -> Range
     ensures { RangeOf code.now.bytes.now number result }
 {
     let block = code.nth_block(number);
-    let first = search::first_from(addresses, guess, block.from);
-    let end = search::first_from(addresses, first, block.to);
+    let first = search::first_from(code.addresses, guess, block.from);
+    let end = search::first_from(code.addresses, first, block.to);
     Range { first, end }
 }
 

@@ -20,10 +20,6 @@ nth_target-requires c =
     let code = c.args.code.now in
     offset-there code.bytes.now code.sheet code.accepted c.args.slots.now c.loop-i.i code.placed c.requires.each_target c.loop-i-test.true
 
-pub bounds-addresses-i : goal.bounds-addresses-i
-bounds-addresses-i c =
-    omega (arith, c.requires.each_site)
-
 pub put_line-at-requires : goal.put_line-at-requires
 put_line-at-requires c =
     omega (arith, c.loop-i.invariant.1.0, decided-more c.args.slots.now c.loop-i.i (omega (arith, c.loop-i-test.true)))
