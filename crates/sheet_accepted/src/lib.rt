@@ -16,6 +16,7 @@ use sheet_instruction::Part;
 struct Content {
     first: Operand,
     second: Operand,
+    // the first count of these, as an instruction has them: without a heap, room for the most
     written: [Register; 8],
     count: u64,
     flags: u64,

@@ -1,10 +1,9 @@
--- Laws of `little` and `field_at`.
+-- Laws of numbers, of fields and their checks, and of what readers return.
 use Prim.Native.Nat.{ℕ, zero, suc, ◌+◌, ◌-◌, ◌*◌, ◌^◌, ◌≤◌, ◌<◌}
 use mathlib.Core.Path.{◌≡◌, refl, ◌∙◌}
 use mathlib.Core.List.{List}
 use lib.ListN.{length, get_or}
 use native.Mathlib.Omega.{arith}
-use native.Mathlib.Numerals.{add-one}
 use native.Mathlib.Nat.{add-zero, zero-add, add-suc, suc-add, pow-suc}
 use borrow.Author.Tests.{le-leb, lt-leb}
 use mathlib.Core.Bool.{Bool, true, false}
@@ -24,10 +23,6 @@ use Rattle.laws.proofs.Booleans.{and_left, and_right}
 pub little-one : (s : List ℕ) (at : ℕ) → little s at 1 ≡ get_or s at 0
 unfolding little
 little-one s at = omega arith
-
-pub little-two : (s : List ℕ) (at : ℕ) → little s at 2 ≡ get_or s at 0 + 256 * get_or s (at + 1) 0
-unfolding little
-little-two s at = rw (add-one at) (omega arith)
 
 pub little-add : (s : List ℕ) (at m n : ℕ) → little s at (m + n) ≡ little s at m + 256 ^ m * little s (at + m) n
 unfolding little
@@ -181,10 +176,6 @@ unfolding code_at
 code-at limit s p {a} e =
     let c = check-at _ Code (start_of p) (field_at 1 s p) e in
     record { whole = field-at 1 s p c.1; below = rw c.2 (ltb-true _ _ c.0); is = c.2 }
-
-pub code-most : (limit : ℕ) (s : List ℕ) (p : Place) → (code_at limit s p).value ≤ limit
-unfolding code_at
-code-most limit s p = check-below _ Code (start_of p) (field_at 1 s p) limit (λ e. omega (arith, ltb-true (field_at 1 s p).value limit e))
 
 -- a count: where it stood, and its limits
 pub record WholeCount (least most : ℕ) (s : List ℕ) (p : Place) (a : ℕ) : Type 0 where
