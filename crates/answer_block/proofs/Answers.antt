@@ -1,29 +1,36 @@
 -- The cases of the block verdict, over plain values.
-use Prim.Native.Nat.{ℕ, ◌≤◌, ◌<◌}
-use mathlib.Core.Path.{◌≡◌}
+use Prim.Native.Nat.{ℕ, ◌<◌}
+use mathlib.Core.Path.{◌≡◌, ap}
+use mathlib.Core.Bool.{Bool, true, false, cond}
 use mathlib.Core.List.{List}
-use borrow.Author.Tests.{lt-ltb, le-ltb}
+use lib.Dec.{ltb}
+use borrow.Author.Tests.{lt-ltb}
+use Rattle.std.specs.Prelude.{Ok, Err}
+use Rattle.refusal.specs.declared.Fault.TheVariants.{Number}
+use Rattle.refusal.specs.declared.Refusal.{Refusal}
+use Rattle.refusal.specs.Numbers.{refused}
 use Rattle.verdict.specs.declared.Verdict.{Verdict}
-use Rattle.verdict.specs.declared.Answer.TheVariants.{Given, Refused}
-use Rattle.verdict.specs.Numbers.{answer_numbers}
+use Rattle.verdict.specs.Numbers.{Answer, answer_numbers}
 use Rattle.sheet.specs.declared.Sheet.{Sheet}
-use Rattle.sheet.specs.declared.Reading.{Reading}
-use Rattle.sheet.specs.declared.Reading.TheVariants as reading
-use Rattle.sheet.specs.Sheet.{reading_of}
+use Rattle.sheet.specs.Sheet.{Reading, reading_of}
+use Rattle.sheet.specs.Promises.{having_block}
 use Rattle.verdict_block.specs.Verdict.{verdict_on}
-use Rattle.answer_block.specs.Block.{block_answer}
+use Rattle.answer_block.specs.Block.{on_reading, block_answer}
 
-module _ (s : List ℕ) (number : ℕ) {r : Reading} (read : r ≡ reading_of s) where
-  pub block_refused : {k at : ℕ} → r ≡ reading.Refused k at → answer_numbers (Refused k at) ≡ block_answer s number
+module _ (s : List ℕ) (number : ℕ) where
+  pub block_refused : {r : Refusal} → Err r ≡ having_block (reading_of s) number → answer_numbers (Err r) ≡ block_answer s number
   unfolding block_answer
-  block_refused is = rw (← read, is)
+  block_refused {r} is = ap answer_numbers (by (reading_of s) is)
+    where
+      by : (x : Reading) → Err r ≡ having_block x number → Err r ≡ on_reading x s number
+      by (Err q) e = let same : r ≡ q = cc in rw same
+      by (Ok sheet) e = go (ltb number sheet.blocks.count) e
+        where
+          go : (b : Bool) → Err r ≡ cond b (Ok sheet) (Err (refused Number 0)) → ◌≡◌ {A = Answer} (Err r) (cond b (Ok (verdict_on s number)) (Err (refused Number 0)))
+          go true e = absurd cc
+          go false e = let same : r ≡ refused Number 0 = cc in rw same
 
-  pub block-missing : {sheet : Sheet} → r ≡ reading.Accepted sheet → sheet.blocks.count ≤ number
-      → answer_numbers (Refused 13 0) ≡ block_answer s number
+  pub block-judged : {sheet : Sheet} {v : Verdict} → reading_of s ≡ Ok sheet → number < sheet.blocks.count
+      → v ≡ verdict_on s number → answer_numbers (Ok v) ≡ block_answer s number
   unfolding block_answer
-  block-missing is out = rw (← read, is, le-ltb _ _ out)
-
-  pub block-judged : {sheet : Sheet} {v : Verdict} → r ≡ reading.Accepted sheet → number < sheet.blocks.count
-      → v ≡ verdict_on s number → answer_numbers (Given v) ≡ block_answer s number
-  unfolding block_answer
-  block-judged is there v-is = rw (← read, is, lt-ltb _ _ there, v-is)
+  block-judged is there v-is = rw (is, lt-ltb _ _ there, v-is)

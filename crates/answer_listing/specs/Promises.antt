@@ -1,16 +1,10 @@
--- What the contracts of the listing's parts ask and give.
-use Rattle.std.specs.Prelude.{ℕ, ◌≤◌, ◌<◌, ◌≡◌, List, ◌⊎◌, length, replicate}
-use Rattle.answer_listing.specs.declared.Attempt.{Attempt}
-use Rattle.answer_listing.specs.declared.Attempt.TheVariants.{Done, TooShort}
+-- What the contracts of the listing's parts give.
+use Rattle.std.specs.Prelude.{ℕ, ◌<◌, ◌≡◌, List, ◌⊎◌, Option, Some, None, Result, Ok, Err}
+use Rattle.refusal.specs.declared.Refusal.{Refusal}
 use Rattle.answer_listing.specs.Listing.{Gives, listing_of}
 
--- slots that hold nothing, n at least
-pub record Empty (n : ℕ) (slots : List ℕ) : Type 0 where
-  pub enough : n ≤ length slots
-  pub nothing : slots ≡ replicate (length slots) 0
-
--- What comes of listing with slots and offsets of nodes of these lengths: the listing; or the list is as it was, and one of them is shorter than a
--- sheet may need.
-abbrev pub Attempted : Attempt → (slots nodes : ℕ) (s before after : List ℕ) → Type 0
-Attempted (Done r) slots nodes s before after = Gives r after (listing_of s before)
-Attempted TooShort slots nodes s before after = (after ≡ before) × ((slots < 2048) ⊎ (nodes < 1024))
+-- What comes of listing with an index of so many instructions and nodes: the listing; or the list is as it was, and a sheet may need more.
+abbrev pub Attempted : Result (Option ℕ) Refusal → (instructions nodes : ℕ) (s before after : List ℕ) → Type 0
+Attempted (Ok (Some n)) instructions nodes s before after = Gives (Ok n) after (listing_of s before)
+Attempted (Ok None) instructions nodes s before after = (after ≡ before) × ((instructions < 2048) ⊎ (nodes < 1024))
+Attempted (Err r) instructions nodes s before after = Gives (Err r) after (listing_of s before)

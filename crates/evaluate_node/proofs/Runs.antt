@@ -1,5 +1,4 @@
 -- A plain node's run on borrowed values is what the assignments and the condition give.
-use Rattle.std.specs.Prelude.{Option, Some, None}
 use Prim.Native.Nat.{ℕ, zero, suc, ◌≤◌, ◌<◌}
 use mathlib.Core.Path.{◌≡◌, refl, sym, ap, ◌∙◌}
 use mathlib.Core.List.{List, [], ◌∷◌, ◌++◌}
@@ -7,23 +6,24 @@ use mathlib.Core.Bool.{Bool, true, false, cond, ◌&&◌}
 use native.Mathlib.Omega.{arith}
 use lib.ListN.{length, set, take, drop, replicate, length-set, length-append, length-take, get_or-append}
 use lib.Seq.{length-take-le, get_or-take}
-use Rattle.sheet_field.specs.declared.Place.{Place}
-use Rattle.sheet_field.specs.declared.Place.TheVariants.{At}
+use Rattle.std.specs.Prelude.{Option, Some, None, Ok, Err}
+use Rattle.refusal.specs.declared.Fault.TheVariants as fault
+use Rattle.refusal.specs.Numbers.{refused}
+use Rattle.sheet_field.specs.Field.{Place}
 use Rattle.expr.specs.Tree.{Expr, tree_of}
 use Rattle.expr.specs.Scan.{plain_expr}
 use Rattle.expr.specs.Statement.{Statement}
 use Rattle.expr.specs.Statement.Statement.{assignment, other}
-use Rattle.sheet_node.specs.declared.NodeReading.{NodeReading}
-use Rattle.sheet_node.specs.Node.{statement_at, statement_of, statements_from, node_of}
+use Rattle.sheet_node.specs.Node.{NodeReading, statement_at, statement_of, statements_from, node_of}
 use Rattle.sheet_node.proofs.Accepted.{statement-on, assigned}
+use Rattle.value.specs.declared.Value.{Value}
+use Rattle.value.specs.declared.Value.TheVariants.{Of, NoValue}
+use Rattle.value.specs.declared.Truth.{Truth}
+use Rattle.value.specs.declared.Truth.TheVariants.{NoOutcome}
 use Rattle.value.specs.Evaluation.{evaluated, settled}
 use Rattle.value.specs.Run.{Choices, run_from, run}
 use Rattle.value.proofs.Steps.{lent, assigns, stops, ends}
-use Rattle.evaluate_node.specs.declared.Evaluation.{Evaluation}
-use Rattle.evaluate_node.specs.declared.Evaluation.TheVariants.{Refused}
-use Rattle.evaluate_node.specs.Evaluate.{plain_all, unfit_from, on_values, on_fit, on_truth, evaluation_of}
-use Rattle.evaluate_node.specs.declared.Fit.{Fit}
-use Rattle.evaluate_node.specs.declared.Fit.TheVariants.{AllFit, Unfit}
+use Rattle.evaluate_node.specs.Evaluate.{Evaluation, plain_all, unfit_from, on_values, on_fit, on_truth, evaluation_of}
 use Rattle.evaluate_node.specs.Promises.{After, state_of, assigned_all, Started, Running}
 use Rattle.evaluate_node.specs.Promises.After.{went, stopped}
 use Rattle.evaluate_node.proofs.Laws.{rests}
@@ -50,7 +50,7 @@ declared-more n k [] h d = tt
 declared-more n k (assignment v e ∷ l) h d = (omega (arith, d.0), declared-more n k l h d.1)
 declared-more n k (other ∷ l) h d = declared-more n k l h d
 
-declared-one : (types s : List ℕ) (p : Place) {a : ℕ} → (statement_at types s p).next ≡ At a → Declared (length types) (statement_of (statement_at types s p) ∷ [])
+declared-one : (types s : List ℕ) (p : Place) {a : ℕ} → (statement_at types s p).next ≡ Ok a → Declared (length types) (statement_of (statement_at types s p) ∷ [])
 unfolding Declared
 declared-one types s p e = go (statement_at types s p).assigned refl
   where
@@ -58,7 +58,7 @@ declared-one types s p e = go (statement_at types s p).assigned refl
     go true q = rw q ((assigned types s p e q).declared, tt)
     go false q = rw q tt
 
-declared-all : (types s : List ℕ) (p : Place) (k : ℕ) {a : ℕ} → (statements_from types s p k).next ≡ At a → Declared (length types) (statements_from types s p k).list
+declared-all : (types s : List ℕ) (p : Place) (k : ℕ) {a : ℕ} → (statements_from types s p k).next ≡ Ok a → Declared (length types) (statements_from types s p k).list
 unfolding statements_from Declared
 declared-all types s p zero e = tt
 declared-all types s p (suc k) e =
@@ -66,9 +66,9 @@ declared-all types s p (suc k) e =
     declared-append (length types) t.list _ (declared-all types s p k (statement-on types s t.next e).1) (declared-one types s t.next e)
 
 -- what is left to decide after the assignments
-abbrev finish : List ℕ → Expr → After → Option Bool
+abbrev finish : List ℕ → Expr → After → Truth
 finish types condition (went values) = settled types values condition
-finish types condition (stopped values) = None
+finish types condition (stopped values) = NoOutcome
 
 -- a run that stopped stays so
 pub stays : (types : List ℕ) (l : List Statement) (values : List ℕ) → assigned_all types l (stopped values) ≡ stopped values
@@ -86,16 +86,15 @@ run-from types c condition i (assignment v e ∷ rest) values p d q =
     go (evaluated types values e) refl
     (λ x. run-from types c condition (suc i) rest (set values v x) (and_right (plain_expr e) (plain_all rest) p) (rw length-set d.1) q)
   where
-    go : (u : Option ℕ) → evaluated types values e ≡ u
+    go : (u : Value) → evaluated types values e ≡ u
         → ((x : ℕ) → run_from types c condition (suc i) rest (lent (set values v x)) ≡ finish types condition (assigned_all types rest (went (set values v x))))
         → run_from types c condition i (assignment v e ∷ rest) (lent values) ≡ finish types condition (assigned_all types (assignment v e ∷ rest) (went values))
-    go (Some x) is rest-is =
+    go (Of x) is rest-is =
         assigns types c condition i values v e rest (is_plain e (and_left (plain_expr e) (plain_all rest) p)) x d.0 is ∙ rw is (rest-is x)
-    go None is rest-is =
+    go NoValue is rest-is =
         stops types c condition i values v e rest (is_plain e (and_left (plain_expr e) (plain_all rest) p)) is ∙ rw (is, stays types rest values)
 
-module _ (s : List ℕ) (node : NodeReading) (place : ℕ) (types values words : List ℕ) (r : Running s node types words)
-    (plain : plain_expr (tree_of words) ≡ true) where
+module _ (s : List ℕ) (node : NodeReading) (place : ℕ) (types values words : List ℕ) (r : Running s node types words) where
   abbrev L : List Statement
   L = (statements_from types s node.body node.statements).list
 
@@ -103,19 +102,19 @@ module _ (s : List ℕ) (node : NodeReading) (place : ℕ) (types values words :
   C = tree_of words
 
   evaluation-is : evaluation_of (node_of s node) place values
-      ≡ cond (plain_all L && plain_expr C) (on_fit (unfit_from 0 types values) (on_truth place (run types L C (on_values values)))) (Refused 15 place)
+      ≡ cond (plain_all L && plain_expr C) (on_fit (unfit_from 0 types values) (on_truth place (run types L C (on_values values)))) (Err (refused fault.NotPlain place))
   unfolding evaluation_of node_of
   evaluation-is = rw (← r.types_are, ← r.words_are)
 
   reads : ReadsDeclared (node_of s node)
   reads = rw r.is (reads-declared s r.at {a = r.on.0} (ap (λ (n : NodeReading). n.next) (sym r.is) ∙ r.on.1))
 
-  pub node-refused : plain_all L ≡ false → Refused 15 place ≡ evaluation_of (node_of s node) place values
+  pub node-refused : plain_all L ≡ false → Err (refused fault.NotPlain place) ≡ evaluation_of (node_of s node) place values
   node-refused p = sym (evaluation-is ∙ rw p)
 
   module _ (p : plain_all L ≡ true) where
     plain-is : evaluation_of (node_of s node) place values ≡ on_fit (unfit_from 0 types values) (on_truth place (run types L C (on_values values)))
-    plain-is = evaluation-is ∙ rw (p, plain)
+    plain-is = evaluation-is ∙ rw (p, r.ready.plain)
 
     -- the run from the borrowed values is the one from the buffer that holds them
     the-run : {start : List ℕ} → start ≡ take (length types) values ++ drop (length types) (replicate 32 0) → length types ≤ length values
@@ -125,34 +124,33 @@ module _ (s : List ℕ) (node : NodeReading) (place : ℕ) (types values words :
         let long : length types ≤ length start = rw (is, length-append, length-take) (omega arith) in
         let all : AllBelow (length types) L = rw r.types_are reads.statements in
         let own : Below (length types) C = rw (r.types_are, r.words_are) reads.condition in
-        same-run types (length types) (on_values values) (on_values values) C 0 L (lent values) (lent start) p plain all own
+        same-run types (length types) (on_values values) (on_values values) C 0 L (lent values) (lent start) p r.ready.plain all own
         (λ v below. sym (rw is (get_or-append (take (length types) values) _ 0 v (rw (length-take-le (length types) values enough) below) ∙ get_or-take (length types) values v 0 below)))
         ∙ run-from types (on_values values) C 0 L start p
-        (declared-more (length types) _ L long (declared-all types s node.body node.statements r.statements.1)) plain
+        (declared-more (length types) _ L long (declared-all types s node.body node.statements r.statements.1)) r.ready.plain
 
-    module _ {fit : Fit} (fit_is : fit ≡ unfit_from 0 types values) (fits : Bool) (start : List ℕ)
-        (started : Started fits fit (length types) values (replicate 32 0) start) {after : List ℕ} where
-      pub node-stopped : assigned_all types L (state_of fits start) ≡ stopped after → {e : Evaluation} → e ≡ on_fit fit (Refused 14 place)
-          → e ≡ evaluation_of (node_of s node) place values
-      node-stopped out e-is = e-is ∙ by fit refl started ∙ sym plain-is
-        where
-          by : (f : Fit) → fit ≡ f → Started fits f (length types) values (replicate 32 0) start
-              → on_fit fit (Refused 14 place) ≡ on_fit (unfit_from 0 types values) (on_truth place (run types L C (on_values values)))
-          by (Unfit v) q h = rw (← fit_is, q)
-          by AllFit q h =
-              let all : unfit_from 0 types values ≡ AllFit = sym fit_is ∙ q in
-              rw (← fit_is, q, the-run h.1 (fit-enough 0 types values all), ← (ap (λ (b : Bool). state_of b start) h.0), out)
+    module _ {fit : Option ℕ} (fit_is : fit ≡ unfit_from 0 types values) (fits : Bool) (start : List ℕ)
+        (started : Started fits fit (length types) values (replicate 32 0) start) where
+      -- a value does not fit
+      pub node-unfit : {v : ℕ} → fit ≡ Some v → Err (refused fault.Value v) ≡ evaluation_of (node_of s node) place values
+      node-unfit {v} q = sym (plain-is ∙ rw (← fit_is, q))
 
-      pub node-went : assigned_all types L (state_of fits start) ≡ went after → {t : Option Bool} {e : Evaluation} → t ≡ settled types after C
-          → e ≡ on_truth place t → e ≡ evaluation_of (node_of s node) place values
-      node-went on {t} t-is e-is = e-is ∙ by fit refl started ∙ sym plain-is
-        where
-          by : (f : Fit) → fit ≡ f → Started fits f (length types) values (replicate 32 0) start
-              → on_truth place t ≡ on_fit (unfit_from 0 types values) (on_truth place (run types L C (on_values values)))
-          by (Unfit v) q h =
-              let z : stopped start ≡ went after = sym (stays types L start) ∙ ap (λ (b : Bool). assigned_all types L (state_of b start)) (sym h) ∙ on in
-              let n : ◌≡◌ {A = ℕ} 0 1 = cc in
-              absurd (omega arith)
-          by AllFit q h =
-              let all : unfit_from 0 types values ≡ AllFit = sym fit_is ∙ q in
-              rw (← fit_is, q, the-run h.1 (fit-enough 0 types values all), ← (ap (λ (b : Bool). state_of b start) h.0), on, t-is)
+      module _ (all : fit ≡ None) where
+        filled : (fits ≡ true) × (start ≡ take (length types) values ++ drop (length types) (replicate 32 0))
+        filled = rw all at started
+
+        fit-all : unfit_from 0 types values ≡ None
+        fit-all = sym fit_is ∙ all
+
+        from-run : {after : After} {t : Truth} → assigned_all types L (state_of fits start) ≡ after → finish types C after ≡ t
+            → on_truth place t ≡ evaluation_of (node_of s node) place values
+        from-run {after} {t} out t-is =
+            sym (plain-is ∙ rw (fit-all, the-run filled.1 (fit-enough 0 types values fit-all), ← (ap (λ (b : Bool). state_of b start) filled.0), out, t-is))
+
+        pub node-stopped : {after : List ℕ} → assigned_all types L (state_of fits start) ≡ stopped after
+            → Err (refused fault.Division place) ≡ evaluation_of (node_of s node) place values
+        node-stopped out = from-run out refl
+
+        pub node-went : {after : List ℕ} → assigned_all types L (state_of fits start) ≡ went after → {t : Truth} {e : Evaluation} → t ≡ settled types after C
+            → e ≡ on_truth place t → e ≡ evaluation_of (node_of s node) place values
+        node-went on t-is e-is = e-is ∙ from-run on (sym t-is)

@@ -1,17 +1,14 @@
 -- What the contracts of the evaluation's parts ask and give.
-use Rattle.std.specs.Prelude.{Option, Some, None, ℕ, ◌≤◌, ◌≡◌, List, [], ◌∷◌, ◌++◌, Bool, true, false, length, set, take, drop}
+use Rattle.std.specs.Prelude.{ℕ, ◌≤◌, ◌≡◌, List, [], ◌∷◌, ◌++◌, Bool, true, false, length, set, take, drop, Option, Some, None, Ok}
 use Rattle.expr.specs.Statement.{Statement}
 use Rattle.expr.specs.Statement.Statement.{assignment, other}
-use Rattle.sheet_field.specs.Field.{start_of, WentOn}
-use Rattle.sheet_field.specs.declared.Place.{Place}
+use Rattle.sheet_field.specs.Field.{Place, start_of, WentOn}
 use Rattle.sheet_expression.specs.Expression.{expression_at}
-use Rattle.sheet_node.specs.declared.NodeReading.{NodeReading}
-use Rattle.sheet_node.specs.Node.{StatementRead, statement_of, statements_from, node_at}
+use Rattle.sheet_node.specs.Node.{NodeReading, StatementRead, statement_of, statements_from, node_at}
+use Rattle.value.specs.declared.Value.{Value}
+use Rattle.value.specs.declared.Value.TheVariants.{Of, NoValue}
 use Rattle.value.specs.Evaluation.{evaluated}
-use Rattle.evaluate_node.specs.declared.Fit.{Fit}
-use Rattle.evaluate_node.specs.declared.Fit.TheVariants.{AllFit, Unfit}
-use Rattle.evaluate_node.specs.declared.Progress.{Progress}
-use Rattle.evaluate_node.specs.declared.Progress.TheVariants.{Went, Stopped, NotPlain}
+use Rattle.value.specs.Promises.{Ready}
 use Rattle.evaluate_node.specs.declared.Step.{Step}
 use Rattle.evaluate_node.specs.Evaluate.{plain_statement}
 
@@ -24,9 +21,9 @@ abbrev pub state_of : Bool → List ℕ → After
 state_of true values = went values
 state_of false values = stopped values
 
-abbrev pub go_on : Option ℕ → ℕ → List ℕ → After
-go_on (Some x) v values = went (set values v x)
-go_on None v values = stopped values
+abbrev pub go_on : Value → ℕ → List ℕ → After
+go_on (Of x) v values = went (set values v x)
+go_on NoValue v values = stopped values
 
 -- a statement: an assignment sets its variable, and stops the run where its value divides by zero
 abbrev pub after_statement : List ℕ → Statement → After → After
@@ -38,34 +35,21 @@ unfoldable pub assigned_all : List ℕ → List Statement → After → After
 assigned_all types [] a = a
 assigned_all types (x ∷ rest) a = assigned_all types rest (after_statement types x a)
 
--- what statements leave in the borrowed values: whether they are plain, and the state after them
-abbrev pub StateIs : Progress → List ℕ → Bool → After → Type 0
-StateIs Went values plain a = (plain ≡ true) × (a ≡ went values)
-StateIs Stopped values plain a = (plain ≡ true) × (a ≡ stopped values)
-StateIs NotPlain values plain a = plain ≡ false
+-- what statements leave in the borrowed values: that they are plain, and the state after them; or that they are not
+abbrev pub StateIs : Option Bool → List ℕ → Bool → After → Type 0
+StateIs (Some going) values plain a = (plain ≡ true) × (a ≡ state_of going values)
+StateIs None values plain a = plain ≡ false
 
-pub record Stepped (r : Step) (values types : List ℕ) (before : After) (x : StatementRead) : Type 0 where
-  pub state : StateIs r.progress values (plain_statement (statement_of x)) (after_statement types (statement_of x) before)
-  pub next : r.next ≡ x.next
-
-abbrev pub is_refused : Progress → Bool
-is_refused Went = false
-is_refused Stopped = false
-is_refused NotPlain = true
-
-abbrev pub has_gone : Progress → Bool
-has_gone Went = true
-has_gone Stopped = false
-has_gone NotPlain = false
-
-abbrev pub progress_of : Bool → Progress
-progress_of true = Went
-progress_of false = Stopped
+-- what one statement leaves, and the offset after it
+abbrev pub Stepped : Option Step → List ℕ → List ℕ → After → StatementRead → Type 0
+Stepped (Some r) values types before x =
+    StateIs (Some r.going) values (plain_statement (statement_of x)) (after_statement types (statement_of x) before) × (Ok r.end ≡ x.next)
+Stepped None values types before x = plain_statement (statement_of x) ≡ false
 
 -- what a run starts from in borrowed buffers: the values, where they fit
-abbrev pub Started : Bool → Fit → ℕ → List ℕ → List ℕ → List ℕ → Type 0
-Started r AllFit n values before after = (r ≡ true) × (after ≡ take n values ++ drop n before)
-Started r (Unfit v) n values before after = r ≡ false
+abbrev pub Started : Bool → Option ℕ → ℕ → List ℕ → List ℕ → List ℕ → Type 0
+Started r None n values before after = (r ≡ true) × (after ≡ take n values ++ drop n before)
+Started r (Some v) n values before after = r ≡ false
 
 -- a node that was read whole, with its types, and its condition's words, which are plain
 pub record Running (s : List ℕ) (node : NodeReading) (types words : List ℕ) : Type 0 where
@@ -74,5 +58,6 @@ pub record Running (s : List ℕ) (node : NodeReading) (types words : List ℕ) 
   pub on : WentOn node.next
   pub types_are : types ≡ take node.variables (drop (start_of node.types) s)
   pub words_are : words ≡ (expression_at node.variables s node.condition).words
+  pub ready : Ready words
   pub few : length types ≤ 32
   pub statements : WentOn (statements_from types s node.body node.statements).next

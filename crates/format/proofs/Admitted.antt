@@ -5,6 +5,7 @@ use mathlib.Core.Logic.{◌⊎◌, inl, inr}
 use mathlib.Core.List.{List, [], ◌∷◌}
 use native.Mathlib.Omega.{arith}
 use lib.ListN.{length, get_or}
+use Rattle.std.specs.Prelude.{Ok}
 use Rattle.expr.specs.Codes.{signed8}
 use Rattle.expr.specs.Tree.{Expr}
 use Rattle.expr.specs.Tree.Expr.{variable, constant, condition_true, condition_false, effect, load, cast, binary, ternary}
@@ -14,7 +15,6 @@ use Rattle.expr.specs.Admission.{InWidth, Admitted, AdmittedExpression, Admitted
 use Rattle.expr.proofs.Laws.{flat-size}
 use Rattle.sheet_node.specs.Node.{Node}
 use Rattle.sheet.specs.declared.Sheet as read-sheet
-use Rattle.sheet.specs.declared.Reading.TheVariants as reading
 use Rattle.sheet.specs.Sheet.{sheet_at, reading_of}
 use Rattle.sheet_bytes.specs.Write.{Bytes, All}
 use Rattle.format.specs.Expression.{ValidConstant, ValidTree, ValidExpression}
@@ -71,7 +71,7 @@ node-admitted n v = record {
 }
 
 -- every node of bytes that reading accepts
-pub nodes-admitted : (s : List ℕ) {sheet : read-sheet.Sheet} → Bytes s → reading_of s ≡ reading.Accepted sheet
+pub nodes-admitted : (s : List ℕ) {sheet : read-sheet.Sheet} → Bytes s → reading_of s ≡ Ok sheet
     → All (λ n. AdmittedNode n.types n.statements n.condition) (sheet_at s).nodes.list
 nodes-admitted s {sheet} small e =
     let w = read-was-written s sheet small e in
@@ -84,6 +84,6 @@ at-index (n ∷ l) h zero d lt = h.0
 at-index (n ∷ l) h (suc k) d lt = at-index l h.1 k d (omega arith)
 
 -- the same by the node's number
-pub node-admitted-at : (s : List ℕ) {sheet : read-sheet.Sheet} → Bytes s → reading_of s ≡ reading.Accepted sheet → (k : ℕ) (d : Node) → k < length (sheet_at s).nodes.list
+pub node-admitted-at : (s : List ℕ) {sheet : read-sheet.Sheet} → Bytes s → reading_of s ≡ Ok sheet → (k : ℕ) (d : Node) → k < length (sheet_at s).nodes.list
     → IsAdmitted (get_or (sheet_at s).nodes.list k d)
 node-admitted-at s small e k d lt = at-index (sheet_at s).nodes.list (nodes-admitted s small e) k d lt

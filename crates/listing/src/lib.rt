@@ -9,7 +9,7 @@ ghost use Rattle.listing.specs.Program.{printed};
 ghost use Rattle.listing.specs.Promises.{Ended, status_of};
 ghost use Rattle.listing.specs.Streams.{Takes, Lists, Answers};
 
-use answer_listing::Listed;
+use refusal::Fault;
 use std::io::{Read, Write};
 use std::{fmt, io};
 
@@ -53,12 +53,11 @@ fn text_of(s: &[u8], list: &mut [u8], text: &mut [u8]) -> usize
     ensures { Written text.old text.new result (printed s.now) }
 {
     if s.len() > 65536 {
-        return listing_text::write_refusal(refusal::ENDS, 65536, text);
+        return listing_text::write_refusal(Fault::Ends.number(), 65536, text);
     }
-    let listed = answer_listing::listing(s, list);
-    match listed {
-        Listed::Lines(count) => listing_text::write_branches(list, count as usize, text),
-        Listed::Refused(number, place) => listing_text::write_refusal(number, place as u64, text),
+    match answer_listing::listing(s, list) {
+        Ok(count) => listing_text::write_branches(list, count as usize, text),
+        Err(r) => listing_text::write_refusal(r.fault.number(), r.at as u64, text),
     }
 }
 

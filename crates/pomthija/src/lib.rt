@@ -5,11 +5,10 @@ ghost use Rattle.std.specs.Prelude.{◌≡◌};
 ghost use Rattle.answer_node.specs.Node.{node_answer};
 ghost use Rattle.answer_evaluation.specs.Evaluation.{evaluation_answer};
 ghost use Rattle.answer_listing.specs.Listing.{listing_of};
-ghost use Rattle.pomthija.specs.Returned.{Returned, ReturnedListing, ReturnedVerdict, version};
+ghost use Rattle.pomthija.specs.Returned.{HandedOut, Returned, ReturnedListing, ReturnedVerdict, version};
 
-use answer_listing::Listed;
-use evaluate_node::Evaluation;
-use verdict::{Answer, Verdict};
+use refusal::Refusal;
+use verdict::Verdict;
 
 // The number of the interface, POMTHIJA_VERSION of the header that belongs to it.
 pub fn pomthija_version() -> u64
@@ -18,36 +17,46 @@ pub fn pomthija_version() -> u64
     1
 }
 
+// Hands out a number, and returns 0; or a refusal's offset, and returns its number.
+fn hand_out(answer: Result<u64, Refusal>, out: &mut u64) -> u64
+    ensures { HandedOut result out.new answer }
+{
+    match answer {
+        Ok(n) => {
+            *out = n;
+            0
+        }
+        Err(r) => {
+            *out = r.at as u64;
+            r.fault.number()
+        }
+    }
+}
+
 // The node verdict: 0, with 1 (always), 0 (never) or 2 (undecided) in `out` and the reason's number in `reason`, 0 where
 // undecided; or the refusal's number, with its offset in `out` and 0 in `reason`.
 pub fn pomthija_node_verdict(s: &[u8], number: u64, out: &mut u64, reason: &mut u64) -> u64
     ensures { ReturnedVerdict result out.new reason.new (node_answer s.now number) }
 {
-    let a = answer_node::node_verdict(s, number);
-    match a {
-        Answer::Given(v) => match v {
-            Verdict::Always(r) => {
-                *out = 1;
-                *reason = verdict::reason_number(r) as u64;
-                0
-            }
-            Verdict::Never(r) => {
-                *out = 0;
-                *reason = verdict::reason_number(r) as u64;
-                0
-            }
-            Verdict::Undecided => {
-                *out = 2;
-                *reason = 0;
-                0
-            }
-            // never the answer for a node
-            Verdict::NoBranch => 0,
-        },
-        Answer::Refused(k, at) => {
-            *out = at as u64;
+    let answer = answer_node::node_verdict(s, number);
+    match answer {
+        Ok(Verdict::Always(r)) => {
+            *reason = r.number() as u64;
+            hand_out(Ok(1), out)
+        }
+        Ok(Verdict::Never(r)) => {
+            *reason = r.number() as u64;
+            hand_out(Ok(0), out)
+        }
+        Ok(Verdict::Undecided) => {
             *reason = 0;
-            k
+            hand_out(Ok(2), out)
+        }
+        // never the answer for a node
+        Ok(Verdict::NoBranch) => unreachable!(),
+        Err(r) => {
+            *reason = 0;
+            hand_out(Err(r), out)
         }
     }
 }
@@ -56,17 +65,7 @@ pub fn pomthija_node_verdict(s: &[u8], number: u64, out: &mut u64, reason: &mut 
 pub fn pomthija_listing(s: &[u8], list: &mut [u8], out: &mut u64) -> u64
     ensures { ReturnedListing result out.new (listing_of s.now list.old).answer × (list.new ≡ (listing_of s.now list.old).list) }
 {
-    let r = answer_listing::listing(s, list);
-    match r {
-        Listed::Lines(n) => {
-            *out = n;
-            0
-        }
-        Listed::Refused(k, at) => {
-            *out = at as u64;
-            k
-        }
-    }
+    hand_out(answer_listing::listing(s, list), out)
 }
 
 // The evaluation: 0, with 1 or 0 in `out` where the condition holds or not; or the refusal's number, with its offset
@@ -74,19 +73,5 @@ pub fn pomthija_listing(s: &[u8], list: &mut [u8], out: &mut u64) -> u64
 pub fn pomthija_evaluation(s: &[u8], number: u64, values: &[u64], out: &mut u64) -> u64
     ensures { Returned result out.new (evaluation_answer s.now number values.now) }
 {
-    let e = answer_evaluation::evaluation(s, number, values);
-    match e {
-        Evaluation::Holds => {
-            *out = 1;
-            0
-        }
-        Evaluation::Fails => {
-            *out = 0;
-            0
-        }
-        Evaluation::Refused(k, at) => {
-            *out = at as u64;
-            k
-        }
-    }
+    hand_out(answer_evaluation::evaluation(s, number, values).map(u64::from), out)
 }

@@ -1,54 +1,67 @@
-// The numbers of refusals, by name. A refusal is one of these numbers and an offset; docs/SHEET.md and docs/OPERATIONS.md
-// describe them, and include/pomthija.h has the same names for C.
+// Why a sheet, or what is asked of one, is refused, and where. docs/SHEET.md and docs/OPERATIONS.md describe refusals by number, and
+// include/pomthija.h names the numbers for C.
 #![tactic(auto)]
 
-// The sheet ends inside a field, or bytes are left over after its last record.
-pub const ENDS: u64 = 1;
+ghost use Rattle.std.specs.Prelude.{◌≡◌};
+ghost use Rattle.refusal.specs.Numbers.{number_of, refused};
 
-// A code, a map or a variable number that is not in its table.
-pub const CODE: u64 = 2;
+#[derive(Clone, Copy, PartialEq, Eq, Debug)]
+pub enum Fault {
+    // The sheet ends inside a field, or bytes are left over after its last record.
+    Ends = 1,
+    // A code, a map or a variable number that is not in its table.
+    Code,
+    // A count outside its limits.
+    Count,
+    // An instruction's address is not above the one before.
+    Address,
+    // A class 1 register that is not well formed.
+    Register,
+    // Operands or declared flags that a modelled instruction cannot have.
+    Instruction,
+    // Records that do not form one tree.
+    Tree,
+    // A constant above its width.
+    Constant,
+    // An assignment whose value has not its variable's type.
+    Typing,
+    // A substituted value or condition of more than 128 records.
+    Records,
+    // An equality that passes the limits on terms.
+    Terms,
+    // A list that is too short for the lines.
+    Room,
+    // No block, or node, of that number.
+    Number,
+    // A run that divides by zero.
+    Division,
+    // An effect, a load or a statement that assigns nothing, in a node to be evaluated.
+    NotPlain,
+    // No value for a variable, or one that its type cannot hold.
+    Value,
+    // A text that is too short for the sentence; its offset is the length needed.
+    Text,
+}
 
-// A count outside its limits.
-pub const COUNT: u64 = 3;
+impl Fault {
+    // The number of the refusal.
+    pub fn number(self) -> u64
+        ensures { result ≡ number_of self }
+    {
+        self as u64
+    }
 
-// An instruction's address is not above the one before.
-pub const ADDRESS: u64 = 4;
+    // This fault at an offset.
+    pub fn at(self, at: usize) -> Refusal
+        ensures { result ≡ refused self at }
+    {
+        Refusal { fault: self, at }
+    }
+}
 
-// A class 1 register that is not well formed.
-pub const REGISTER: u64 = 5;
-
-// Operands or declared flags that a modelled instruction cannot have.
-pub const INSTRUCTION: u64 = 6;
-
-// Records that do not form one tree.
-pub const TREE: u64 = 7;
-
-// A constant above its width.
-pub const CONSTANT: u64 = 8;
-
-// An assignment whose value has not its variable's type.
-pub const TYPE: u64 = 9;
-
-// A substituted value or condition of more than 128 records.
-pub const RECORDS: u64 = 10;
-
-// An equality that passes the limits on terms.
-pub const TERMS: u64 = 11;
-
-// A list that is too short for the lines.
-pub const ROOM: u64 = 12;
-
-// No block, or node, of that number.
-pub const NUMBER: u64 = 13;
-
-// A run that divides by zero.
-pub const DIVISION: u64 = 14;
-
-// An effect, a load or a statement that assigns nothing, in a node to be evaluated.
-pub const NOT_PLAIN: u64 = 15;
-
-// No value for a variable, or one that its type cannot hold.
-pub const VALUE: u64 = 16;
-
-// A text that is too short for the sentence; its offset is the length needed.
-pub const TEXT: u64 = 17;
+// A fault and the offset that it is reported at.
+#[derive(Clone, Copy, PartialEq, Eq, Debug)]
+pub struct Refusal {
+    pub fault: Fault,
+    pub at: usize,
+}

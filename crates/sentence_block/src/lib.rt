@@ -7,9 +7,7 @@ ghost use Rattle.std.proofs.Math.Seq.{slice};
 ghost use Rattle.isa.specs.declared.Instruction.{Instruction};
 ghost use Rattle.machine.specs.Registers.{nothing_known};
 ghost use Rattle.machine.specs.Rules.{stepped_all};
-ghost use Rattle.sheet.specs.declared.Reading.TheVariants.{Accepted};
-ghost use Rattle.sheet.specs.Sheet.{sheet_at, reading_of};
-ghost use Rattle.sheet.specs.Index.{addresses_of};
+ghost use Rattle.sheet.specs.Sheet.{sheet_at};
 ghost use Rattle.verdict_block.specs.Verdict.{apart};
 ghost use Rattle.phrase.specs.Promises.{cause_text};
 ghost use Rattle.sentence.specs.Why.{no_why};
@@ -22,142 +20,105 @@ use isa::Mnemonic;
 use machine::State;
 use phrase::Cause;
 use sentence::{Setters, Telling};
-use sentence_text::{Said, TooShort};
-use sheet::Sheet;
+use sentence_text::{Fit, Said};
+use sheet::code::Code;
+use verdict_block::Jump;
 
 // The causes of the flags' values after the instructions of an accepted sheet from number `first` up to `end`, where nothing is known at their start.
-fn setters_in(s: &[u8], sheet: Sheet, places: &[u64], first: usize, end: usize) -> Setters
-    requires s_value { reading_of s.now ≡ Accepted sheet }
-    requires places_value { places.now ≡ (sheet_at s.now).instructions.places }
-    requires first_le_end { (first ≤ end) × (end ≤ length places.now) × (end ≤ 65536) }
-    ensures { Traced (sheet_at s.now).instructions.list first end result }
+fn setters_in(code: &Code, first: usize, end: usize) -> Setters
+    requires { (first ≤ end) × (end ≤ length code.now.places.now) × (end ≤ 65536) }
+    ensures { Traced (sheet_at code.now.bytes.now).instructions.list first end result }
 {
     let mut setters = Setters {
         result: first,
         carry: first,
         turns: 0,
     };
-    for i in first..end {
-        let it = sheet::nth_instruction(s, sheet, places, i);
+    let mut i = first;
+    while i < end {
+        let it = code.nth_instruction(i);
         setters = sentence::setters_after(setters, i, it);
+        i += 1;
     }
     setters
 }
 
 // The cause that the instruction of that number is for CF, or, without `carry`, for the other flags, in a block that starts at number `first`.
-fn cause_at(
-    s: &[u8],
-    sheet: Sheet,
-    places: &[u64],
-    first: usize,
-    number: usize,
-    carry: bool,
-) -> Cause
-    requires s_value { reading_of s.now ≡ Accepted sheet }
-    requires places_value { places.now ≡ (sheet_at s.now).instructions.places }
-    requires number_in_bounds { number < length places.now }
-    ensures { (d : Instruction) → cause_text result ≡ own_at (sheet_at s.now).instructions.list first carry number d }
+fn cause_at(code: &Code, first: usize, number: usize, carry: bool) -> Cause
+    requires { number < length code.now.places.now }
+    ensures { (d : Instruction) → cause_text result ≡ own_at (sheet_at code.now.bytes.now).instructions.list first carry number d }
 {
-    let mut state = State::unknown();
-    verdict_block::step_over(s, sheet, places, first, number, &mut state);
-    let it = sheet::nth_instruction(s, sheet, places, number);
-    sentence::cause_of(&state, it.mnemonic, it.first, it.second, carry)
+    let start = State::unknown();
+    let mut registers = start.registers;
+    let known = start.flags;
+    let flags = verdict_block::step_over(code, first, number, &mut registers, known);
+    let it = code.nth_instruction(number);
+    let mnemonic = it.mnemonic;
+    let operand = it.first;
+    let second = it.second;
+    sentence::cause_of(&registers, mnemonic, operand, second, carry)
 }
 
 // What the causes say that tell of a branch.
-fn said_by(
-    s: &[u8],
-    sheet: Sheet,
-    places: &[u64],
-    first: usize,
-    setters: Setters,
-    telling: Option<Telling>,
-) -> Said
-    requires s_value { reading_of s.now ≡ Accepted sheet }
-    requires places_value { places.now ≡ (sheet_at s.now).instructions.places }
-    requires result_in_bounds { (setters.result < length places.now) × (setters.carry < length places.now) }
-    ensures result_value { (d : Instruction) → said_text result ≡ telling_text telling (carry_at (sheet_at s.now).instructions.list first setters d) (result_at (sheet_at s.now).instructions.list first setters d) }
+fn said_by(code: &Code, first: usize, setters: Setters, telling: Telling) -> Said
+    requires { (setters.result < length code.now.places.now) × (setters.carry < length code.now.places.now) }
+    ensures result_value { (d : Instruction) → said_text result ≡ telling_text telling (carry_at (sheet_at code.now.bytes.now).instructions.list first setters d) (result_at (sheet_at code.now.bytes.now).instructions.list first setters d) }
     ensures result_bound { turns_of result ≤ setters.turns }
 {
-    let Some(telling) = telling else {
-        return Said::Nothing;
-    };
     let carry = setters.carry;
     let result = setters.result;
     match telling {
-        Telling::Carry => Said::One(
-            cause_at(s, sheet, places, first, carry, true),
-            setters.turns,
-        ),
-        Telling::Result => Said::One(cause_at(s, sheet, places, first, result, false), 0),
+        Telling::Nothing => Said::Nothing,
+        Telling::Carry => Said::One(cause_at(code, first, carry, true), setters.turns),
+        Telling::Result => Said::One(cause_at(code, first, result, false), 0),
         Telling::Both => Said::Joined(
-            cause_at(s, sheet, places, first, carry, true),
+            cause_at(code, first, carry, true),
             setters.turns,
-            cause_at(s, sheet, places, first, result, false),
+            cause_at(code, first, result, false),
         ),
-        Telling::Value(register, value) => Said::One(Cause::Value(register, value), 0),
+        Telling::Value(register, value) => Said::One(phrase::value_of(register, value), 0),
     }
 }
 
 // What tells of the branch of that mnemonic, which stands at number `end`.
-fn telling_at(
-    s: &[u8],
-    sheet: Sheet,
-    places: &[u64],
-    first: usize,
-    end: usize,
-    mnemonic: Mnemonic,
-) -> Option<Telling>
-    requires s_value { reading_of s.now ≡ Accepted sheet }
-    requires places_value { places.now ≡ (sheet_at s.now).instructions.places }
-    requires end_in_bounds { end ≤ length places.now }
-    ensures { result ≡ telling_of (stepped_all nothing_known (slice first end (sheet_at s.now).instructions.list)) mnemonic }
+fn telling_at(code: &Code, first: usize, end: usize, mnemonic: Mnemonic) -> Telling
+    requires { end ≤ length code.now.places.now }
+    ensures { result ≡ telling_of (stepped_all nothing_known (slice first end (sheet_at code.now.bytes.now).instructions.list)) mnemonic }
 {
-    let mut state = State::unknown();
-    verdict_block::step_over(s, sheet, places, first, end, &mut state);
-    sentence::jump_telling(&state, mnemonic)
+    let start = State::unknown();
+    let mut registers = start.registers;
+    let known = start.flags;
+    let flags = verdict_block::step_over(code, first, end, &mut registers, known);
+    sentence::jump_telling(&registers, flags, mnemonic)
 }
 
 // The sentence at the end of the instructions of an accepted sheet from number `first` up to `end`.
-fn said_in(s: &[u8], sheet: Sheet, places: &[u64], first: usize, end: usize) -> Said
-    requires s_value { reading_of s.now ≡ Accepted sheet }
-    requires places_value { places.now ≡ (sheet_at s.now).instructions.places }
-    requires end_in_bounds { (end ≤ length places.now) × (end ≤ 65536) }
-    ensures result_value { said_text result ≡ sentence_at nothing_known no_why (apart (slice first end (sheet_at s.now).instructions.list)) }
+fn said_in(code: &Code, first: usize, end: usize) -> Said
+    requires { (end ≤ length code.now.places.now) × (end ≤ 65536) }
+    ensures result_value { said_text result ≡ sentence_at nothing_known no_why (apart (slice first end (sheet_at code.now.bytes.now).instructions.list)) }
     ensures result_bound { turns_of result ≤ 65536 }
 {
     if end <= first {
         return Said::Nothing;
     }
     let last = end - 1;
-    match verdict_block::jump_at(s, sheet, places, last) {
-        Some(mnemonic) => said_by(
-            s,
-            sheet,
-            places,
+    let jump = verdict_block::jump_at(code, last);
+    match jump {
+        Jump::Conditional(mnemonic) => said_by(
+            code,
             first,
-            setters_in(s, sheet, places, first, last),
-            telling_at(s, sheet, places, first, last, mnemonic),
+            setters_in(code, first, last),
+            telling_at(code, first, last, mnemonic),
         ),
-        None => Said::Nothing,
+        Jump::Nothing => Said::Nothing,
     }
 }
 
 // Writes the sentence of the block of that number, of an accepted sheet with its index, to the start of a text that can hold it.
-pub fn sentence_on(
-    s: &[u8],
-    sheet: Sheet,
-    addresses: &[u64],
-    places: &[u64],
-    number: u64,
-    text: &mut [u8],
-) -> Result<usize, TooShort>
-    requires s_value { reading_of s.now ≡ Accepted sheet }
-    requires number_lt_count { number < sheet.blocks.count }
-    requires addresses_value { addresses.now ≡ addresses_of (sheet_at s.now).instructions.list }
-    requires places_value { places.now ≡ (sheet_at s.now).instructions.places }
-    ensures { Fits result (sentence_on s.now number) text.old text.new }
+pub fn sentence_on(code: &Code, number: u64, text: &mut [u8]) -> Fit
+    requires { number < code.now.sheet.blocks.count }
+    ensures { Fits result (sentence_on code.now.bytes.now number) text.old text.new }
 {
-    let range = verdict_block::range_of(s, sheet, addresses, number, 0);
-    sentence_text::tell(said_in(s, sheet, places, range.first, range.end), text)
+    let range = verdict_block::range_of(code, number, 0);
+    sentence_text::tell(said_in(code, range.first, range.end), text)
 }

@@ -6,13 +6,11 @@ use mathlib.Core.Bool.{true}
 use native.Mathlib.Omega.{arith}
 use lib.Dec.{eqb}
 use lib.ListN.{get_or}
-use Rattle.sheet_field.specs.declared.Place.{Place}
-use Rattle.sheet_field.specs.declared.Place.TheVariants.{At}
-use Rattle.sheet_field.specs.Field.{start_of, WentOn}
+use Rattle.std.specs.Prelude.{Ok, IsOk}
+use Rattle.sheet_field.specs.Field.{start_of, WentOn, Place}
 use Rattle.sheet_field.proofs.Counted.{back}
 use Rattle.isa.specs.declared.Instruction.{Instruction}
-use Rattle.sheet_instruction.specs.declared.InstructionReading.{InstructionReading}
-use Rattle.sheet_instruction.specs.Instruction.{instruction_at}
+use Rattle.sheet_instruction.specs.Instruction.{InstructionReading, instruction_at}
 use Rattle.sheet_instruction.proofs.Accepted.{instruction-on}
 use Rattle.sheet.specs.Sheet.{instructions_from}
 use Rattle.sheet.proofs.Sections.{instructions-keep}
@@ -27,17 +25,21 @@ module _ (s : List ℕ) (p : Place) (k j : ℕ) (on : WentOn (instructions_from 
   unfolding here instructions_from
   here_on = back (λ j. (instructions_from s p j).next) (instructions-keep s p) k (suc j) on.1 (omega (arith, below))
 
-  again : instruction_at true 0 s (At (get_or (instructions_from s p k).places j 0)) ≡ here
+  again : instruction_at true 0 s (Ok (get_or (instructions_from s p k).places j 0)) ≡ here
   unfolding here
   again =
       let before = instructions_from s p j in
       let taken = instruction-on (eqb j 0) before.last s before.next here_on.1 in
-      let stands : At (start_of before.next) ≡ before.next = rw taken.there in
+      let stands : Ok (start_of before.next) ≡ before.next = rw taken.there in
       rw (places-nth s p k j below, stands) taken.again
 
-  pub again-on : WentOn (instruction_at true 0 s (At (get_or (instructions_from s p k).places j 0))).next
+  pub again-on : WentOn (instruction_at true 0 s (Ok (get_or (instructions_from s p k).places j 0))).next
   again-on = rw again here_on
 
-  pub again-is : (none : Instruction) → (instruction_at true 0 s (At (get_or (instructions_from s p k).places j 0))).instruction ≡ get_or (instructions_from s p k).list j none
+  pub again-is : (none : Instruction) → (instruction_at true 0 s (Ok (get_or (instructions_from s p k).places j 0))).instruction ≡ get_or (instructions_from s p k).list j none
   unfolding here
   again-is none = rw again (sym (instructions-nth s p k j none below))
+
+-- in other words
+pub whole : {p : Place} → WentOn p → IsOk p
+whole on = rw on.1

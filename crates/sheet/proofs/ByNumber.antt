@@ -5,19 +5,16 @@ use mathlib.Core.List.{List, map}
 use mathlib.Core.Bool.{Bool, true, false}
 use native.Mathlib.Omega.{arith}
 use lib.ListN.{length, get_or, length-map}
-use Rattle.sheet_field.specs.declared.Place.{Place}
-use Rattle.sheet_field.specs.declared.Place.TheVariants.{At}
-use Rattle.sheet_field.specs.Field.{little, start_of, WentOn}
+use Rattle.std.specs.Prelude.{Ok}
+use Rattle.sheet_field.specs.Field.{little, start_of, WentOn, Place}
 use Rattle.isa.specs.declared.Mnemonic.{Mnemonic}
 use Rattle.isa.specs.declared.Instruction.{Instruction}
 use Rattle.sheet_instruction.specs.Instruction.{instruction_at}
-use Rattle.sheet_node.specs.declared.NodeReading.{NodeReading}
-use Rattle.sheet_node.specs.Node.{Node, node_at, node_of}
+use Rattle.sheet_node.specs.Node.{NodeReading, Node, node_at, node_of}
 use Rattle.sheet_node.specs.Promises.{ReadNode}
 use Rattle.search.specs.Ascending.{Ascending}
 use Rattle.sheet.specs.declared.Block.{Block}
 use Rattle.sheet.specs.declared.Sheet.{Sheet}
-use Rattle.sheet.specs.declared.Reading.TheVariants as reading
 use Rattle.sheet.specs.Sheet.{no_block, instructions_from, nodes_from, sheet_at, reading_of}
 use Rattle.sheet.specs.Index.{over, addresses_of, targets_of, branches_of, Indexed, InFront}
 use Rattle.sheet.proofs.Accepted.{accepted, block_of, block-at, blocks-inside, nodes-back, nodes-next, nodes-nth, node-places-nth, node-places-length}
@@ -26,7 +23,7 @@ use Rattle.sheet.proofs.Fronts.{one, map_at, instructions-length, places-length,
 use Rattle.sheet.proofs.Rising.{rising}
 use Rattle.sheet.proofs.Again.{again-on, again-is}
 
-module _ (s : List ℕ) (sheet : Sheet) (read : reading_of s ≡ reading.Accepted sheet) where
+module _ (s : List ℕ) (sheet : Sheet) (read : reading_of s ≡ Ok sheet) where
   module _ (number : ℕ) (below : number < sheet.blocks.count) where
     -- a block's bytes are inside
     pub block_inside : sheet.blocks.at + 16 * number + 16 ≤ length s
@@ -45,77 +42,77 @@ module _ (s : List ℕ) (sheet : Sheet) (read : reading_of s ≡ reading.Accepte
   addresses-rise =
       let acc = accepted s sheet read in
       rw (← acc.instructions)
-      (rising s (At sheet.instructions.at) sheet.instructions.count {a = acc.after_instructions.0} (rw acc.instructions acc.after_instructions.1))
+      (rising s (Ok sheet.instructions.at) sheet.instructions.count {a = acc.after_instructions.0} (rw acc.instructions acc.after_instructions.1))
 
   pub instructions-count : length (sheet_at s).instructions.list ≡ sheet.instructions.count
   instructions-count =
-      rw (← (accepted s sheet read).instructions) (instructions-length s (At sheet.instructions.at) sheet.instructions.count)
+      rw (← (accepted s sheet read).instructions) (instructions-length s (Ok sheet.instructions.at) sheet.instructions.count)
 
   pub places_count : length (sheet_at s).instructions.places ≡ sheet.instructions.count
-  places_count = rw (← (accepted s sheet read).instructions) (places-length s (At sheet.instructions.at) sheet.instructions.count)
+  places_count = rw (← (accepted s sheet read).instructions) (places-length s (Ok sheet.instructions.at) sheet.instructions.count)
 
   pub node-places-count : length (sheet_at s).nodes.places ≡ sheet.nodes.count
-  node-places-count = rw (← (accepted s sheet read).nodes) (node-places-length s (At sheet.nodes.at) sheet.nodes.count)
+  node-places-count = rw (← (accepted s sheet read).nodes) (node-places-length s (Ok sheet.nodes.at) sheet.nodes.count)
 
   module _ (number : ℕ) {places : List ℕ} (places-are : places ≡ (sheet_at s).instructions.places) (below : number < length places) where
     numbered : number < sheet.instructions.count
     numbered = rw (places-are, places_count) at below
 
     code : Place
-    code = At sheet.instructions.at
+    code = Ok sheet.instructions.at
 
     code-on : WentOn (instructions_from s code sheet.instructions.count).next
     unfolding code
     code-on = let acc = accepted s sheet read in rw acc.instructions acc.after_instructions
 
-    pub nth-instruction-on : WentOn (instruction_at true 0 s (At (get_or places number 0))).next
+    pub nth-instruction-on : WentOn (instruction_at true 0 s (Ok (get_or places number 0))).next
     unfolding code
     nth-instruction-on =
         rw (places-are, ← (accepted s sheet read).instructions) (again-on s code sheet.instructions.count number code-on numbered)
 
-    pub nth-instruction-is : {i : Instruction} → i ≡ (instruction_at true 0 s (At (get_or places number 0))).instruction
+    pub nth-instruction-is : {i : Instruction} → i ≡ (instruction_at true 0 s (Ok (get_or places number 0))).instruction
         → (d : Instruction) → i ≡ get_or (sheet_at s).instructions.list number d
     unfolding code
     nth-instruction-is i-is d =
         rw (i-is, places-are, ← (accepted s sheet read).instructions) (again-is s code sheet.instructions.count number code-on numbered d)
 
-    pub nth-mnemonic-is : {m : Mnemonic} → m ≡ (instruction_at true 0 s (At (get_or places number 0))).instruction.mnemonic
+    pub nth-mnemonic-is : {m : Mnemonic} → m ≡ (instruction_at true 0 s (Ok (get_or places number 0))).instruction.mnemonic
         → (d : Instruction) → m ≡ (get_or (sheet_at s).instructions.list number d).mnemonic
     nth-mnemonic-is is d = is ∙ ap (λ (i : Instruction). i.mnemonic) (nth-instruction-is refl d)
 
     -- a field of it
-    nth-field : {A : Type 0} (f : Instruction → A) (e : A) → f (instruction_at true 0 s (At (get_or places number 0))).instruction ≡ get_or (map f (sheet_at s).instructions.list) number e
+    nth-field : {A : Type 0} (f : Instruction → A) (e : A) → f (instruction_at true 0 s (Ok (get_or places number 0))).instruction ≡ get_or (map f (sheet_at s).instructions.list) number e
     nth-field f e =
         let l = (sheet_at s).instructions.list in
         let there : number < length l = rw instructions-count numbered in
         let d = one l number there in
         ap f (nth-instruction-is refl d) ∙ sym (map_at f l number d e there)
 
-    pub nth-branch-is : {b : Bool} → b ≡ (instruction_at true 0 s (At (get_or places number 0))).instruction.branch
+    pub nth-branch-is : {b : Bool} → b ≡ (instruction_at true 0 s (Ok (get_or places number 0))).instruction.branch
         → b ≡ get_or (branches_of (sheet_at s).instructions.list) number false
     unfolding branches_of
     nth-branch-is is = is ∙ nth-field (λ (i : Instruction). i.branch) false
 
-    pub nth-target-is : {t : ℕ} → t ≡ (instruction_at true 0 s (At (get_or places number 0))).instruction.target
+    pub nth-target-is : {t : ℕ} → t ≡ (instruction_at true 0 s (Ok (get_or places number 0))).instruction.target
         → t ≡ get_or (targets_of (sheet_at s).instructions.list) number 0
     unfolding targets_of
     nth-target-is is = is ∙ nth-field (λ (i : Instruction). i.target) 0
 
   module _ (number : ℕ) {places : List ℕ} {r : NodeReading} (places-are : places ≡ (sheet_at s).nodes.places) (below : number < length places)
-      (r-is : r ≡ node_at s (At (get_or places number 0))) where
+      (r-is : r ≡ node_at s (Ok (get_or places number 0))) where
     counted : number < sheet.nodes.count
     counted = rw (places-are, node-places-count) at below
 
     from : Place
-    from = At sheet.nodes.at
+    from = Ok sheet.nodes.at
 
     stands : WentOn (nodes_from s from number).next
     unfolding from
     stands =
         let acc = accepted s sheet read in
-        nodes-back s (At sheet.nodes.at) sheet.nodes.count number {a = acc.after_nodes.0} (rw acc.nodes acc.after_nodes.1) (omega (arith, counted))
+        nodes-back s (Ok sheet.nodes.at) sheet.nodes.count number {a = acc.after_nodes.0} (rw acc.nodes acc.after_nodes.1) (omega (arith, counted))
 
-    here : At (get_or places number 0) ≡ (nodes_from s from number).next
+    here : Ok (get_or places number 0) ≡ (nodes_from s from number).next
     unfolding from
     here =
         let place : get_or places number 0 ≡ start_of (nodes_from s from number).next =
@@ -127,7 +124,7 @@ module _ (s : List ℕ) (sheet : Sheet) (read : reading_of s ≡ reading.Accepte
     nth-node-read =
         let acc = accepted s sheet read in
         let w = nodes-back s from sheet.nodes.count (number + 1) {a = acc.after_nodes.0} (rw acc.nodes acc.after_nodes.1) (omega (arith, counted)) in
-        record { at = At (get_or places number 0); is = r-is; on = (w.0, ap (λ (n : NodeReading). n.next) r-is ∙ ap (λ (q : Place). (node_at s q).next) here ∙ nodes-next s from number w.1) }
+        record { at = Ok (get_or places number 0); is = r-is; on = (w.0, ap (λ (n : NodeReading). n.next) r-is ∙ ap (λ (q : Place). (node_at s q).next) here ∙ nodes-next s from number w.1) }
 
     pub nth-node-is : (d : Node) → node_of s r ≡ get_or (sheet_at s).nodes.list number d
     unfolding from

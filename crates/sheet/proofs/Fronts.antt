@@ -7,20 +7,18 @@ use native.Mathlib.Omega.{arith}
 use native.Mathlib.Numerals.{add-one}
 use lib.Dec.{eqb}
 use lib.ListN.{length, get_or, set, take, length-map}
-use Rattle.sheet_field.specs.declared.Place.{Place}
-use Rattle.sheet_field.specs.declared.Place.TheVariants.{At}
-use Rattle.sheet_field.specs.declared.Field.{Field}
-use Rattle.sheet_field.specs.Field.{count_at, start_of, WentOn}
+use Rattle.std.specs.Prelude.{Ok, Err}
+use Rattle.refusal.specs.declared.Refusal.{Refusal}
+use Rattle.sheet_field.specs.Field.{Place, start_of, WentOn}
 use Rattle.sheet_field.proofs.Counted.{counted, nth}
 use Rattle.isa.specs.declared.Instruction.{Instruction}
-use Rattle.sheet_instruction.specs.declared.InstructionReading.{InstructionReading}
-use Rattle.sheet_instruction.specs.Instruction.{instruction_at}
+use Rattle.sheet_instruction.specs.Instruction.{InstructionReading, instruction_at}
 use Rattle.sheet_instruction.proofs.Accepted.{instruction-on}
-use Rattle.sheet.specs.Sheet.{InstructionsRead, NodesRead, instructions_from, blocks_from, nodes_from, sheet_at, reading_of}
-use Rattle.sheet.specs.declared.Sheet.{Sheet}
-use Rattle.sheet.specs.declared.Reading.TheVariants as reading
-use Rattle.sheet.specs.Index.{over, addresses_of, Noted, Indexed}
-use Rattle.sheet.proofs.Accepted.{accepted, node-places-length}
+use Rattle.sheet_node.specs.Node.{node_at}
+use Rattle.sheet.specs.Sheet.{InstructionsRead, instructions_from, nodes_from}
+use Rattle.sheet.specs.Index.{over, addresses_of, Noted}
+use Rattle.sheet.proofs.Sections.{instructions-stay, nodes-stay}
+use Rattle.sheet.proofs.Accepted.{node-places-length}
 
 module _ {A : Type 0} where
   pub over-length : (entries before : List A) → length (over entries before) ≡ length before
@@ -122,9 +120,9 @@ noting-none s from a p =
 
 -- one instruction more, read at an offset
 module _ (s : List ℕ) (from : Place) (k : ℕ) {a₀ a p₀ p : List ℕ} {last at : ℕ} {next : Place}
-    (f : Noting k a₀ a p₀ p last (At at) (instructions_from s from k)) (next-is : next ≡ (instruction_at (eqb k 0) last s (At at)).next) where
+    (f : Noting k a₀ a p₀ p last (Ok at) (instructions_from s from k)) (next-is : next ≡ (instruction_at (eqb k 0) last s (Ok at)).next) where
   read : InstructionReading
-  read = instruction_at (eqb k 0) last s (At at)
+  read = instruction_at (eqb k 0) last s (Ok at)
 
   read_is : instruction_at (eqb k 0) (instructions_from s from k).last s (instructions_from s from k).next ≡ read
   unfolding read
@@ -134,17 +132,17 @@ module _ (s : List ℕ) (from : Place) (k : ℕ) {a₀ a p₀ p : List ℕ} {las
   unfolding instructions_from read
   next_place = rw (add-one k, read_is) next-is
 
-  module _ {end : ℕ} (went : next ≡ At end) where
-    again : instruction_at true 0 s (At at) ≡ read
+  module _ {end : ℕ} (went : next ≡ Ok end) where
+    again : instruction_at true 0 s (Ok at) ≡ read
     unfolding read
-    again = (instruction-on (eqb k 0) last s (At at) (sym next-is ∙ went)).again
+    again = (instruction-on (eqb k 0) last s (Ok at) (sym next-is ∙ went)).again
 
-    pub taken-on : WentOn (instruction_at true 0 s (At at)).next
+    pub taken-on : WentOn (instruction_at true 0 s (Ok at)).next
     unfolding read
     taken-on = (end, rw again (sym next-is ∙ went))
 
-    pub noting-more : {address : ℕ} {a' p' : List ℕ} → address ≡ (instruction_at true 0 s (At at)).instruction.address
-        → a' ≡ set a k address → p' ≡ set p k at → Noting (k + 1) a₀ a' p₀ p' address (At end) (instructions_from s from (k + 1))
+    pub noting-more : {address : ℕ} {a' p' : List ℕ} → address ≡ (instruction_at true 0 s (Ok at)).instruction.address
+        → a' ≡ set a k address → p' ≡ set p k at → Noting (k + 1) a₀ a' p₀ p' address (Ok end) (instructions_from s from (k + 1))
     unfolding instructions_from addresses_of
     noting-more {address} address_is a-is p-is =
         let u = instructions_from s from k in
@@ -159,31 +157,28 @@ module _ (s : List ℕ) (from : Place) (k : ℕ) {a₀ a p₀ p : List ℕ} {las
           };
         }
 
+-- where it is refused
+pub instructions_err : (s : List ℕ) (from : Place) (n k : ℕ) {last at : ℕ} {r : Refusal} → last ≡ (instructions_from s from k).last → Ok at ≡ (instructions_from s from k).next
+    → (instruction_at (eqb k 0) last s (Ok at)).next ≡ Err r → k < n → Err r ≡ (instructions_from s from n).next
+unfolding instructions_from
+instructions_err s from n k {r = r} last-is here is lt = sym (instructions-stay s from n (suc k) r (rw (← last-is, ← here) is) (omega arith))
+
 -- the loop over nodes
-pub places-none : (s : List ℕ) (from : Place) (n : List ℕ) → n ≡ over (nodes_from s from 0).places n
+pub nodes_none : (s : List ℕ) (from : Place) (n : List ℕ) → (from ≡ (nodes_from s from 0).next) × (n ≡ over (nodes_from s from 0).places n)
 unfolding nodes_from over
-places-none s from n = refl
+nodes_none s from n = (refl, refl)
 
-pub places-more : (s : List ℕ) (from : Place) (k : ℕ) (n₀ : List ℕ) {n n' : List ℕ} {next : Place} {start : ℕ} → n ≡ over (nodes_from s from k).places n₀
-    → next ≡ (nodes_from s from k).next → start ≡ start_of next → n' ≡ set n k start → n' ≡ over (nodes_from s from (k + 1)).places n₀
+pub nodes_ok : (s : List ℕ) (from : Place) (k : ℕ) {at end : ℕ} → Ok at ≡ (nodes_from s from k).next → (node_at s (Ok at)).next ≡ Ok end
+    → Ok end ≡ (nodes_from s from (k + 1)).next
 unfolding nodes_from
-places-more s from k n₀ before place_is start_is n-is =
-    rw (add-one k, n-is, start_is, place_is) (entry _ _ _ k before (node-places-length s from k))
+nodes_ok s from k here is = rw (add-one k, ← here) (sym is)
 
--- the index of an accepted sheet, from what the loops left
-pub indexed : (s : List ℕ) {i b n : Field} {code ranges graph : Place} {a₀ a p₀ p n₀ n' : List ℕ}
-    → i ≡ count_at 0 2048 s (At 0) → code ≡ (instructions_from s i.next i.value).next
-    → b ≡ count_at 0 1024 s code → ranges ≡ (blocks_from s b.next b.value).next
-    → n ≡ count_at 0 1024 s ranges → graph ≡ (nodes_from s n.next n.value).next
-    → (WentOn code → Noted a₀ a p₀ p (instructions_from s i.next i.value))
-    → (WentOn graph → n' ≡ over (nodes_from s n.next n.value).places n₀)
-    → (sheet : Sheet) → reading_of s ≡ reading.Accepted sheet → Indexed a₀ a p₀ p n₀ n' (sheet_at s)
-unfolding sheet_at
-indexed s {i} {n = n} i-is code_is b-is ranges-is n-is graph_is noted places sheet read =
-    let acc = accepted s sheet read in
-    let first : (sheet_at s).instructions ≡ instructions_from s i.next i.value = rw i-is in
-    let last : (sheet_at s).nodes ≡ nodes_from s n.next n.value = rw (n-is, ranges-is, b-is, code_is, i-is) in
-    record {
-      instructions = rw first (noted (acc.after_instructions.0, code_is ∙ ap (λ (r : InstructionsRead). r.next) (sym first) ∙ acc.after_instructions.1));
-      nodes = rw last (places (acc.after_nodes.0, graph_is ∙ ap (λ (r : NodesRead). r.next) (sym last) ∙ acc.after_nodes.1));
-    }
+pub places_ok : (s : List ℕ) (from : Place) (k : ℕ) (n₀ : List ℕ) {n n' : List ℕ} {at : ℕ} → Ok at ≡ (nodes_from s from k).next
+    → n ≡ over (nodes_from s from k).places n₀ → n' ≡ set n k at → n' ≡ over (nodes_from s from (k + 1)).places n₀
+unfolding nodes_from
+places_ok s from k n₀ here before n-is = rw (add-one k, n-is, ← here) (entry _ _ _ k before (node-places-length s from k))
+
+pub nodes_err : (s : List ℕ) (from : Place) (n k : ℕ) {at : ℕ} {r : Refusal} → Ok at ≡ (nodes_from s from k).next
+    → (node_at s (Ok at)).next ≡ Err r → k < n → Err r ≡ (nodes_from s from n).next
+unfolding nodes_from
+nodes_err s from n k {r = r} here is lt = sym (nodes-stay s from n (suc k) r (rw (← here) is) (omega arith))

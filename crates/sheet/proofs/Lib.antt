@@ -7,4 +7,5 @@ pub mod Fronts
 pub mod Rising
 pub mod Again
 pub mod ByNumber
+pub mod InCode
 pub mod Found

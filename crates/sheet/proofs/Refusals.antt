@@ -8,32 +8,31 @@ use native.Mathlib.Omega.{arith}
 use lib.Dec.{leb, eqb}
 use lib.ListN.{length}
 use borrow.Author.Tests.{leb-true}
-use Rattle.sheet_field.specs.declared.Place.{Place}
-use Rattle.sheet_field.specs.declared.Place.TheVariants.{At, Refused}
-use Rattle.sheet_field.specs.declared.Field.{Field}
-use Rattle.sheet_field.specs.Field.{little, field_at, start_of, judge, check_field, code_at, count_at}
-use Rattle.sheet_instruction.specs.declared.OperandReading.{OperandReading}
-use Rattle.sheet_instruction.specs.declared.Registers.{Registers}
-use Rattle.sheet_instruction.specs.Instruction.{register_at, operand_at, with_register, registers_from, registers_at, optional_registers, optional_operand, bit_of, map_at, address_at, head_at, tail_at, instruction_at}
+use Rattle.std.specs.Prelude.{Ok, Err}
+use Rattle.refusal.specs.declared.Fault.{Fault}
+use Rattle.refusal.specs.declared.Fault.TheVariants.{Ends, Code, Count, Address, Register, Instruction, Tree, Constant, Typing}
+use Rattle.refusal.specs.declared.Refusal.{Refusal}
+use Rattle.refusal.specs.Numbers.{number_of, refused}
+use Rattle.sheet_field.specs.Field.{Place, FieldReading, little, field_at, start_of, judge, check_field, code_at, count_at, read_as}
+use Rattle.sheet_instruction.specs.Instruction.{OperandReading, Registers, register_at, operand_at, with_register, registers_from, registers_at, optional_registers, optional_operand, bit_of, map_at, address_at, head_at, tail_at, instruction_at}
 use Rattle.sheet_expression.specs.Expression.{has_argument, argument_at, constant_at, record_at, taken_more, taken_from, expression_at}
 use Rattle.sheet_node.specs.Node.{StatementRead, map_at as statement_map_at, assignment_at, statement_at, types_from, statements_from, addresses_from, node_at}
-use Rattle.sheet.specs.declared.Reading.TheVariants as reading
-use Rattle.sheet.specs.Sheet.{instructions_from, block_at, blocks_from, nodes_from, sheet_at, answer_of, reading_of}
+use Rattle.sheet.specs.Sheet.{instructions_from, block_at, blocks_from, nodes_from, sheet_at, reading_of}
 
 -- reading's refusals have the numbers 1 to 9
 abbrev pub ByReading : ℕ → Type 0
 ByReading k = (1 ≤ k) × (k ≤ 9)
 
 -- a refusal of a sheet of that length
-pub record Refusal (size k at : ℕ) : Type 0 where
-  pub number : ByReading k
-  pub place : at ≤ size
+pub record OfReading (size : ℕ) (r : Refusal) : Type 0 where
+  pub number : ByReading (number_of r.fault)
+  pub place : r.at ≤ size
 
 abbrev Within : ℕ → Place → Type 0
-Within size (At at) = at ≤ size
-Within size (Refused k at) = Refusal size k at
+Within size (Ok at) = at ≤ size
+Within size (Err r) = OfReading size r
 
-abbrev after : Field → Place
+abbrev after : FieldReading → Place
 after f = f.next
 
 module _ (s : List ℕ) where
@@ -42,13 +41,13 @@ module _ (s : List ℕ) where
     within : Within (length s) p
 
   start : (p : Place) → Placed p → start_of p ≤ length s
-  start (At at) h = h.within
-  start (Refused k at) h = h.within.place
+  start (Ok at) h = h.within
+  start (Err r) h = h.within.place
 
-  judged : (ok : Bool) (k at : ℕ) (p : Place) → ByReading k → at ≤ length s → Placed p → Placed (judge ok k at p)
-  judged true k at (At next) n le h = h
-  judged false k at (At next) n le h = record { within = record { number = n; place = le } }
-  judged ok k at (Refused k' at') n le h = h
+  judged : (ok : Bool) (fault : Fault) (at : ℕ) (p : Place) → ByReading (number_of fault) → at ≤ length s → Placed p → Placed (judge ok fault at p)
+  judged true fault at (Ok next) n le h = h
+  judged false fault at (Ok next) n le h = record { within = record { number = n; place = le } }
+  judged ok fault at (Err r) n le h = h
 
   -- one of two, each with an offset
   either : {A : Type 0} (next : A → Place) (b : Bool) (x y : A) → Placed (next x) → Placed (next y) → Placed (next (cond b x y))
@@ -58,26 +57,26 @@ module _ (s : List ℕ) where
   -- fields
   field : (n : ℕ) (p : Place) → Placed p → Placed (field_at n s p).next
   unfolding field_at
-  field n (At at) h = go (leb (at + n) (length s)) refl
+  field n (Ok at) h = go (leb (at + n) (length s)) refl
     where
       go : (t : Bool) → leb (at + n) (length s) ≡ t
-          → Placed (after (cond (leb (at + n) (length s)) (record { value = little s at n; next = At (at + n) }) (record { value = 0; next = Refused 1 at })))
+          → Placed (after (cond (leb (at + n) (length s)) (record { value = little s at n; next = Ok (at + n) }) (record { value = 0; next = Err (refused Ends at) })))
       go true e = rw e record { within = leb-true (at + n) (length s) e }
       go false e = rw e record { within = record { number = (omega arith, omega arith); place = h.within } }
-  field n (Refused k at) h = h
+  field n (Err r) h = h
 
   code : (limit : ℕ) (p : Place) → Placed p → Placed (code_at limit s p).next
   unfolding code_at check_field
-  code limit p h = judged _ 2 _ _ (omega arith, omega arith) (start p h) (field 1 p h)
+  code limit p h = judged _ Code _ _ (omega arith, omega arith) (start p h) (field 1 p h)
 
   count : (least most : ℕ) (p : Place) → Placed p → Placed (count_at least most s p).next
   unfolding count_at check_field
-  count least most p h = judged _ 3 _ _ (omega arith, omega arith) (start p h) (field 2 p h)
+  count least most p h = judged _ Count _ _ (omega arith, omega arith) (start p h) (field 2 p h)
 
   -- instructions
   register : (p : Place) → Placed p → Placed (register_at s p).next
   unfolding register_at
-  register p h = judged _ 5 _ _ (omega arith, omega arith) (start p h) (field 1 _ (field 1 _ (field 1 _ (field 1 p h))))
+  register p h = judged _ Register _ _ (omega arith, omega arith) (start p h) (field 1 _ (field 1 _ (field 1 _ (field 1 p h))))
 
   operand : (p : Place) → Placed p → Placed (operand_at s p).next
   unfolding operand_at
@@ -99,8 +98,8 @@ module _ (s : List ℕ) where
   head : (first : Bool) (last : ℕ) (p : Place) → Placed p → Placed (head_at first last s p).next
   unfolding head_at map_at address_at check_field
   head first last p h =
-      let m = judged _ 2 _ _ (omega arith, omega arith) (start p h) (field 1 p h) in
-      let a = judged _ 4 _ _ (omega arith, omega arith) (start (map_at s p).next m) (field 8 (map_at s p).next m) in
+      let m = judged _ Code _ _ (omega arith, omega arith) (start p h) (field 1 p h) in
+      let a = judged _ Address _ _ (omega arith, omega arith) (start (map_at s p).next m) (field 8 (map_at s p).next m) in
       let n = code 35 (address_at first last s (map_at s p).next).next a in
       either after (bit_of (map_at s p).value 1) _ _ (field 8 _ n) n
 
@@ -117,7 +116,7 @@ module _ (s : List ℕ) where
 
   instruction : (first : Bool) (last : ℕ) (p : Place) → Placed p → Placed (instruction_at first last s p).next
   unfolding instruction_at
-  instruction first last p h = judged _ 6 _ _ (omega arith, omega arith) (start p h) (tail _ _ (head first last p h))
+  instruction first last p h = judged _ Instruction _ _ (omega arith, omega arith) (start p h) (tail _ _ (head first last p h))
 
   instructions : (p : Place) (k : ℕ) → Placed p → Placed (instructions_from s p k).next
   unfolding instructions_from
@@ -133,7 +132,7 @@ module _ (s : List ℕ) where
   -- expressions
   argument : (variables kind : ℕ) (p : Place) → Placed p → Placed (argument_at variables kind s p).next
   unfolding argument_at check_field
-  argument variables kind p h = either after (has_argument kind) _ _ (judged _ 2 _ _ (omega arith, omega arith) (start p h) (field 1 p h)) h
+  argument variables kind p h = either after (has_argument kind) _ _ (judged _ Code _ _ (omega arith, omega arith) (start p h) (field 1 p h)) h
 
   constant : (kind : ℕ) (p : Place) → Placed p → Placed (constant_at kind s p).next
   unfolding constant_at
@@ -145,8 +144,8 @@ module _ (s : List ℕ) where
       let kind = code_at 9 s p in
       let a = argument variables kind.value kind.next (code 9 p h) in
       let v = constant kind.value _ a in
-      judged _ 8 _ _ (omega arith, omega arith) (start _ a)
-      (judged _ 7 _ _ (omega arith, omega arith) (start _ v) (judged _ 7 _ _ (omega arith, omega arith) (start p h) v))
+      judged _ Constant _ _ (omega arith, omega arith) (start _ a)
+      (judged _ Tree _ _ (omega arith, omega arith) (start _ v) (judged _ Tree _ _ (omega arith, omega arith) (start p h) v))
 
   records : (variables total : ℕ) (p : Place) (k : ℕ) → Placed p → Placed (taken_from variables total s p k).next
   unfolding taken_from taken_more
@@ -161,9 +160,9 @@ module _ (s : List ℕ) where
   statement : (types : List ℕ) (p : Place) → Placed p → Placed (statement_at types s p).next
   unfolding statement_at assignment_at statement_map_at check_field
   statement types p h =
-      let m = judged _ 2 _ _ (omega arith, omega arith) (start p h) (field 1 p h) in
+      let m = judged _ Code _ _ (omega arith, omega arith) (start p h) (field 1 p h) in
       either (λ (r : StatementRead). r.next) (eqb (statement_map_at s p).value 3) _ _
-      (judged _ 9 _ _ (omega arith, omega arith) (start p h) (expression (length types) _ (code (length types) (statement_map_at s p).next m))) m
+      (judged _ Typing _ _ (omega arith, omega arith) (start p h) (expression (length types) _ (code (length types) (statement_map_at s p).next m))) m
 
   statements : (types : List ℕ) (p : Place) (k : ℕ) → Placed p → Placed (statements_from types s p k).next
   unfolding statements_from
@@ -194,22 +193,19 @@ module _ (s : List ℕ) where
   -- the sheet
   all : Placed (sheet_at s).nodes.next
   unfolding sheet_at
-  all = nodes _ _ (count 0 1024 _ (blocks _ _ (count 0 1024 _ (instructions _ _ (count 0 2048 (At 0) (record { within = omega arith }))))))
+  all = nodes _ _ (count 0 1024 _ (blocks _ _ (count 0 1024 _ (instructions _ _ (count 0 2048 (Ok 0) (record { within = omega arith }))))))
 
   end : Placed (sheet_at s).end
   unfolding sheet_at
-  end = judged _ 1 _ _ (omega arith, omega arith) (start _ all) all
+  end = judged _ Ends _ _ (omega arith, omega arith) (start _ all) all
 
-  pub reading-refusal : {k at : ℕ} → reading_of s ≡ reading.Refused k at → Refusal (length s) k at
+  pub reading-refusal : {r : Refusal} → reading_of s ≡ Err r → OfReading (length s) r
   unfolding reading_of
-  reading-refusal {k} {at} e = go (sheet_at s).end end e
+  reading-refusal {r} e = go (sheet_at s).end end e
     where
-      go : (p : Place) → Placed p → answer_of p (sheet_at s).sheet ≡ reading.Refused k at → Refusal (length s) k at
-      go (At a) h q = let z : ◌≡◌ {A = ℕ} 0 1 = cc in absurd (omega arith)
-      go (Refused k' at') h q =
-          let same : k' ≡ k = cc in
-          let place : at' ≡ at = cc in
-          rw (same, place) at h.within
+      go : (p : Place) → Placed p → read_as p (λ end. (sheet_at s).sheet) ≡ Err r → OfReading (length s) r
+      go (Ok a) h q = absurd cc
+      go (Err r') h q = let same : r' ≡ r = cc in rw same at h.within
 
-  pub reading-number : {k at : ℕ} → reading_of s ≡ reading.Refused k at → ByReading k
+  pub reading-number : {r : Refusal} → reading_of s ≡ Err r → ByReading (number_of r.fault)
   reading-number e = (reading-refusal e).number

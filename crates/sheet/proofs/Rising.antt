@@ -7,8 +7,8 @@ use lib.Dec.{eqb}
 use lib.ListN.{length, get_or, length-map}
 use lib.Seq.{get_or_at}
 use borrow.Author.Tests.{ne_eqb}
-use Rattle.sheet_field.specs.declared.Place.{Place}
-use Rattle.sheet_field.specs.declared.Place.TheVariants.{At}
+use Rattle.std.specs.Prelude.{Ok}
+use Rattle.sheet_field.specs.Field.{Place}
 use Rattle.sheet_instruction.proofs.Accepted.{instruction-on}
 use Rattle.sheet.specs.Sheet.{instructions_from}
 use Rattle.search.specs.Ascending.{Ascending}
@@ -24,7 +24,7 @@ last-is : (s : List ℕ) (p : Place) (k : ℕ) → get_or (addresses_of (instruc
 unfolding instructions_from addresses_of
 last-is s p k = rw map_more (get_or_at (addresses_of (instructions_from s p k).list) _ [] 0 k (addresses-length s p k))
 
-below_next : (s : List ℕ) (p : Place) (k : ℕ) {a : ℕ} → (instructions_from s p (suc k)).next ≡ At a → 1 ≤ k
+below_next : (s : List ℕ) (p : Place) (k : ℕ) {a : ℕ} → (instructions_from s p (suc k)).next ≡ Ok a → 1 ≤ k
     → get_or (addresses_of (instructions_from s p k).list) (k - 1) 0 < (instructions_from s p (suc k)).last
 unfolding instructions_from
 below_next s p zero e some = omega arith
@@ -34,7 +34,7 @@ below_next s p (suc k) e some =
     let one : suc k - 1 ≡ k = omega arith in
     rw (one, last-is s p k) above
 
-pub rising : (s : List ℕ) (p : Place) (k : ℕ) {a : ℕ} → (instructions_from s p k).next ≡ At a → Ascending (addresses_of (instructions_from s p k).list)
+pub rising : (s : List ℕ) (p : Place) (k : ℕ) {a : ℕ} → (instructions_from s p k).next ≡ Ok a → Ascending (addresses_of (instructions_from s p k).list)
 unfolding instructions_from addresses_of
 rising s p zero e = ascending-none
 rising s p (suc k) e =

@@ -1,13 +1,16 @@
--- What finding a node by its number gives.
-use Rattle.std.specs.Prelude.{ℕ, List, cond, ltb}
-use Rattle.refusal.specs.Numbers.{NUMBER}
-use Rattle.sheet_field.specs.declared.Place.{Place}
-use Rattle.sheet_field.specs.declared.Place.TheVariants.{At, Refused}
-use Rattle.sheet.specs.declared.Reading.{Reading}
-use Rattle.sheet.specs.declared.Reading.TheVariants as reading
-use Rattle.sheet.specs.Sheet.{node_place}
+-- What finding a node or a block by its number gives.
+use Rattle.std.specs.Prelude.{ℕ, List, cond, ltb, Ok, Err}
+use Rattle.refusal.specs.declared.Fault.TheVariants.{Number}
+use Rattle.refusal.specs.Numbers.{refused}
+use Rattle.sheet_field.specs.Field.{Place}
+use Rattle.sheet.specs.Sheet.{Reading, node_place}
 
 -- where the node of that number starts; or reading's refusal, or 13 at offset 0 where there is no such node
 abbrev pub found_on : Reading → List ℕ → ℕ → Place
-found_on (reading.Refused k at) s number = Refused k at
-found_on (reading.Accepted sheet) s number = cond (ltb number sheet.nodes.count) (At (node_place s number)) (Refused NUMBER 0)
+found_on (Err r) s number = Err r
+found_on (Ok sheet) s number = cond (ltb number sheet.nodes.count) (Ok (node_place s number)) (Err (refused Number 0))
+
+-- the sheet, where it has a block of that number; or reading's refusal, or 13 at offset 0 where there is no such block
+abbrev pub having_block : Reading → ℕ → Reading
+having_block (Err r) number = Err r
+having_block (Ok sheet) number = cond (ltb number sheet.blocks.count) (Ok sheet) (Err (refused Number 0))

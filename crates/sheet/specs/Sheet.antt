@@ -13,18 +13,15 @@
 --  8 | a constant fits its width | its value's last byte | its value's first byte | record_at
 --  9 | an assigned value has its variable's type | the statement's last byte | its map byte | typed_at
 -- The first check that fails gives the refusal; of two at one byte, the one with the lower number (R2, R3, R4).
-use Rattle.std.specs.Prelude.{ℕ, zero, suc, List, [], ◌∷◌, ◌++◌, eqb, leb, length, get_or}
-use Rattle.refusal.specs.Numbers.{ENDS}
+use Rattle.std.specs.Prelude.{ℕ, zero, suc, List, [], ◌∷◌, ◌++◌, eqb, leb, length, get_or, Result, Ok}
+use Rattle.refusal.specs.declared.Fault.TheVariants.{Ends}
+use Rattle.refusal.specs.declared.Refusal.{Refusal}
 use Rattle.expr.specs.Tree.Expr.{condition_true}
-use Rattle.sheet_field.specs.declared.Place.{Place}
-use Rattle.sheet_field.specs.declared.Place.TheVariants.{At, Refused}
-use Rattle.sheet_field.specs.Field.{field_at, start_of, judge, count_at}
+use Rattle.sheet_field.specs.Field.{Place, field_at, start_of, judge, count_at, read_as}
 use Rattle.isa.specs.declared.Instruction.{Instruction}
 use Rattle.sheet_instruction.specs.Instruction.{instruction_at}
 use Rattle.sheet_node.specs.Node.{Node, node_at, node_of}
 use Rattle.sheet.specs.declared.Sheet.{Sheet}
-use Rattle.sheet.specs.declared.Reading.{Reading}
-use Rattle.sheet.specs.declared.Reading.TheVariants as reading
 use Rattle.sheet.specs.declared.Block.{Block}
 
 -- what instruction records that were read one after the other give: the instructions, the offset of each, the last address,
@@ -93,7 +90,7 @@ nodes_from s p (suc k) =
 
 -- Refusal 1, reported at the first byte that follows the last record, where one does (R7).
 abbrev pub ended : List ℕ → Place → Place
-ended s p = judge (leb (length s) (start_of p)) ENDS (start_of p) p
+ended s p = judge (leb (length s) (start_of p)) Ends (start_of p) p
 
 -- A sheet as syntax, the offsets of its records, and the offset that reading reached.
 pub record SheetRead : Type 0 where
@@ -107,7 +104,7 @@ pub record SheetRead : Type 0 where
 -- (S3, S4, R2, R23).
 unfoldable pub sheet_at : List ℕ → SheetRead
 sheet_at s =
-    let i = count_at 0 2048 s (At 0) in
+    let i = count_at 0 2048 s (Ok 0) in
     let instructions = instructions_from s i.next i.value in
     let b = count_at 0 1024 s instructions.next in
     let blocks = blocks_from s b.next b.value in
@@ -125,14 +122,13 @@ sheet_at s =
       end = ended s nodes.next;
     }
 
--- a sheet is accepted where reading came to its end
-abbrev pub answer_of : Place → Sheet → Reading
-answer_of (At at) sheet = reading.Accepted sheet
-answer_of (Refused number at) sheet = reading.Refused number at
+-- an accepted sheet, or a refusal
+abbrev pub Reading : Type 0
+Reading = Result Sheet Refusal
 
--- Reading: accepted, or the first refusal, its number and its offset (R1, R3, R23, D3).
+-- Reading: accepted where it came to the end, or else the first refusal (R1, R3, R23, D3).
 unfoldable pub reading_of : List ℕ → Reading
-reading_of s = answer_of (sheet_at s).end (sheet_at s).sheet
+reading_of s = read_as (sheet_at s).end (λ end. (sheet_at s).sheet)
 
 -- a node that no sheet has, for a number that is out of range
 abbrev pub no_node : Node

@@ -1,69 +1,59 @@
 // The instruction record at an offset of an accepted sheet: what it holds, with nothing checked again.
 #![tactic(auto)]
 
-ghost use Rattle.std.specs.Prelude.{◌≡◌, true, ◌+◌, ◌≤◌, length};
-ghost use Rattle.sheet_field.specs.declared.Place.TheVariants.{At};
-ghost use Rattle.sheet_field.specs.Field.{WentOn, bytes_of};
-ghost use Rattle.sheet_instruction.specs.Instruction.{operand_at, registers_from, optional_operand, tail_at, instruction_at};
+ghost use Rattle.std.specs.Prelude.{◌≡◌, true, ◌+◌, ◌≤◌, length, Ok};
+ghost use Rattle.sheet_field.specs.Field.{WentOn, little};
+ghost use Rattle.sheet_instruction.specs.Instruction.{operand_at, registers_from, optional_operand, tail_at};
+ghost use Rattle.sheet_accepted.specs.Record.{WasRead, recorded};
 ghost use Rattle.sheet_accepted.specs.Promises.{number_if, content_at};
 
 use isa::{Instruction, Mnemonic, Operand, Register};
-use sheet_field::Width;
-
-// A number, 0 where the record has none, and the offset after it.
-#[derive(Clone, Copy)]
-struct Number {
-    value: u64,
-    end: usize,
-}
-
-// An operand and the offset after it.
-#[derive(Clone, Copy)]
-struct Part {
-    operand: Operand,
-    end: usize,
-}
+use sheet_field::Field;
+use sheet_instruction::Part;
 
 // What stands behind a record's target.
 #[derive(Clone, Copy)]
 struct Content {
     first: Operand,
     second: Operand,
+    // the first count of these, as an instruction has them: without a heap, room for the most
     written: [Register; 8],
     count: u64,
     flags: u64,
 }
 
-fn number_if(there: bool, s: &[u8], at: usize, w: Width) -> Number
-    requires { there ≡ true → at + bytes_of w ≤ length s.now }
-    ensures { result ≡ number_if there (bytes_of w) s.now at }
+// A number of N bytes and the offset after it, 0 where the record has none.
+fn number_if<const N: usize>(there: bool, s: &[u8], at: usize) -> Field
+    requires width { N ≤ 8 }
+    requires inside { there ≡ true → at + N ≤ length s.now }
+    ensures { result ≡ number_if there N s.now at }
 {
     if there {
-        Number {
-            value: sheet_field::number(s, at, w),
-            end: at + sheet_field::bytes(w),
+        Field {
+            value: sheet_field::number::<N>(s, at),
+            end: at + N,
         }
     } else {
-        Number { value: 0, end: at }
+        Field { value: 0, end: at }
     }
 }
 
+#[tactic(auto, using(crate::proofs::Records::code_inside, crate::proofs::Records::register_inside, crate::proofs::Records::register_is, crate::proofs::Records::register_end, crate::proofs::Records::immediate_inside, crate::proofs::Records::immediate_is, crate::proofs::Records::immediate_end, crate::proofs::Records::memory_is, crate::proofs::Records::memory_end))]
 fn operand_at(s: &[u8], at: usize) -> Part
-    requires { WentOn (operand_at s.now (At at)).next }
-    ensures { (result.operand ≡ (operand_at s.now (At at)).operand) × (At result.end ≡ (operand_at s.now (At at)).next) }
+    requires { WentOn (operand_at s.now (Ok at)).next }
+    ensures operand { result.operand ≡ (operand_at s.now (Ok at)).operand }
+    ensures end { Ok result.end ≡ (operand_at s.now (Ok at)).next }
 {
     let kind = s[at];
     if kind == 0 {
-        let register = sheet_instruction::register_at(s, at + 1);
         return Part {
-            operand: Operand::Reg(register),
+            operand: Operand::Reg(sheet_instruction::register_at(s, at + 1)),
             end: at + 5,
         };
     }
     if kind == 1 {
-        let value = sheet_field::number(s, at + 1, Width::Eight);
         return Part {
-            operand: Operand::Imm(value),
+            operand: Operand::Imm(sheet_field::number::<8>(s, at + 1)),
             end: at + 9,
         };
     }
@@ -74,8 +64,9 @@ fn operand_at(s: &[u8], at: usize) -> Part
 }
 
 fn operand_if(there: bool, s: &[u8], at: usize) -> Part
-    requires { WentOn (optional_operand there s.now (At at)).next }
-    ensures { (result.operand ≡ (optional_operand there s.now (At at)).operand) × (At result.end ≡ (optional_operand there s.now (At at)).next) }
+    requires { WentOn (optional_operand there s.now (Ok at)).next }
+    ensures operand { result.operand ≡ (optional_operand there s.now (Ok at)).operand }
+    ensures end { Ok result.end ≡ (optional_operand there s.now (Ok at)).next }
 {
     if there {
         operand_at(s, at)
@@ -89,104 +80,111 @@ fn operand_if(there: bool, s: &[u8], at: usize) -> Part
 
 fn registers_at(s: &[u8], at: usize, n: u64) -> [Register; 8]
     requires n_bound { n ≤ 8 }
-    requires went_on { WentOn (registers_from s.now (At at) n).next }
-    ensures { result ≡ (registers_from s.now (At at) n).list }
+    requires went_on { WentOn (registers_from s.now (Ok at) n).next }
+    ensures { result ≡ (registers_from s.now (Ok at) n).list }
 {
-    let none = Register {
+    let mut list = [Register {
         class: 0,
         index: 0,
         size: 0,
         offset: 0,
-    };
-    let mut list = [none; 8];
-    let mut i: usize = 0;
-    while i < n as usize {
-        let register = sheet_instruction::register_at(s, at + 4 * i);
-        list[i] = register;
-        i += 1;
+    }; 8];
+    for i in 0..n as usize {
+        list[i] = sheet_instruction::register_at(s, at + 4 * i);
     }
     list
 }
 
 fn content_at(s: &[u8], at: usize, map: u64) -> Content
-    requires { WentOn (tail_at map s.now (At at)).next }
-    ensures { result ≡ content_at map s.now (At at) }
+    requires { WentOn (tail_at map s.now (Ok at)).next }
+    ensures { result ≡ content_at map s.now (Ok at) }
 {
-    let a = operand_if(sheet_instruction::bit(map, 4), s, at);
-    let b = operand_if(sheet_instruction::bit(map, 8), s, a.end);
-    let n = number_if(sheet_instruction::bit(map, 16), s, b.end, Width::Two);
+    let first = operand_if(sheet_instruction::bit(map, 4), s, at);
+    let second = operand_if(sheet_instruction::bit(map, 8), s, first.end);
+    let n = number_if::<2>(sheet_instruction::bit(map, 16), s, second.end);
     let written = registers_at(s, n.end, n.value);
     let end = n.end + 4 * (n.value as usize);
-    let f = number_if(sheet_instruction::bit(map, 32), s, end, Width::One);
-    let first = a.operand;
-    let second = b.operand;
+    let flags = number_if::<1>(sheet_instruction::bit(map, 32), s, end);
     Content {
-        first,
-        second,
+        first: first.operand,
+        second: second.operand,
         written,
         count: n.value,
-        flags: f.value,
+        flags: flags.value,
     }
 }
 
-// The address of the instruction that was read at that offset.
-pub fn address_at(s: &[u8], at: usize) -> u64
-    requires { WentOn (instruction_at true 0 s.now (At at)).next }
-    ensures { result ≡ (instruction_at true 0 s.now (At at)).instruction.address }
-{
-    sheet_field::number(s, at + 1, Width::Eight)
+// The instruction record at an offset of an accepted sheet.
+#[derive(Clone, Copy)]
+pub struct Record<'a> {
+    pub bytes: &'a [u8],
+    pub at: usize,
+    pub ghost read: { WasRead bytes.now at },
 }
 
-// The mnemonic of the instruction that was read at that offset.
-pub fn mnemonic_at(s: &[u8], at: usize) -> Mnemonic
-    requires { WentOn (instruction_at true 0 s.now (At at)).next }
-    ensures { result ≡ (instruction_at true 0 s.now (At at)).instruction.mnemonic }
-{
-    isa::mnemonic_of(sheet_field::number(s, at + 9, Width::One))
-}
+impl Record<'_> {
+    #[tactic(auto, using(crate::proofs::Records::record_inside))]
+    fn map(&self) -> u64
+        ensures { result ≡ little self.now.bytes.now self.now.at 1 }
+    {
+        sheet_field::number::<1>(self.bytes, self.at)
+    }
 
-// Whether the instruction that was read at that offset is a conditional branch.
-pub fn is_branch_at(s: &[u8], at: usize) -> bool
-    requires { WentOn (instruction_at true 0 s.now (At at)).next }
-    ensures { result ≡ (instruction_at true 0 s.now (At at)).instruction.branch }
-{
-    sheet_instruction::bit(sheet_field::number(s, at, Width::One), 1)
-}
+    #[tactic(auto, using(crate::proofs::Records::record_inside, crate::proofs::Records::address_here))]
+    pub fn address(&self) -> u64
+        ensures { result ≡ (recorded self.now.bytes.now self.now.at).address }
+    {
+        sheet_field::number::<8>(self.bytes, self.at + 1)
+    }
 
-// The target of the instruction that was read at that offset, 0 where it has none.
-pub fn target_at(s: &[u8], at: usize) -> u64
-    requires { WentOn (instruction_at true 0 s.now (At at)).next }
-    ensures { result ≡ (instruction_at true 0 s.now (At at)).instruction.target }
-{
-    let branch = is_branch_at(s, at);
-    let target = number_if(branch, s, at + 10, Width::Eight);
-    target.value
-}
+    #[tactic(auto, using(crate::proofs::Records::record_inside, crate::proofs::Records::numbered, crate::proofs::Records::mnemonic_here))]
+    pub fn mnemonic(&self) -> Mnemonic
+        ensures { result ≡ (recorded self.now.bytes.now self.now.at).mnemonic }
+    {
+        isa::mnemonic_of(sheet_field::number::<1>(self.bytes, self.at + 9))
+    }
 
-// The instruction that was read at that offset.
-pub fn instruction_at(s: &[u8], at: usize) -> Instruction
-    requires { WentOn (instruction_at true 0 s.now (At at)).next }
-    ensures { result ≡ (instruction_at true 0 s.now (At at)).instruction }
-{
-    let map = sheet_field::number(s, at, Width::One);
-    let address = address_at(s, at);
-    let mnemonic = mnemonic_at(s, at);
-    let branch = sheet_instruction::bit(map, 1);
-    let target = number_if(branch, s, at + 10, Width::Eight);
-    let rest = content_at(s, target.end, map);
-    let first = rest.first;
-    let second = rest.second;
-    let written = rest.written;
-    Instruction {
-        address,
-        mnemonic,
-        branch,
-        target: target.value,
-        call: sheet_instruction::bit(map, 2),
-        first,
-        second,
-        written,
-        count: rest.count,
-        flags: rest.flags,
+    // Whether it is a conditional branch.
+    #[tactic(auto, using(crate::proofs::Records::branch_here))]
+    pub fn is_branch(&self) -> bool
+        ensures { result ≡ (recorded self.now.bytes.now self.now.at).branch }
+    {
+        sheet_instruction::bit(self.map(), 1)
+    }
+
+    // The target, 0 where it is no conditional branch, and the offset after it.
+    #[tactic(auto, using(crate::proofs::Records::record_inside, crate::proofs::Records::target_room))]
+    fn take_target(&self) -> Field
+        ensures { result ≡ number_if (recorded self.now.bytes.now self.now.at).branch 8 self.now.bytes.now (self.now.at + 10) }
+    {
+        number_if::<8>(self.is_branch(), self.bytes, self.at + 10)
+    }
+
+    // The target, 0 where it is no conditional branch.
+    pub fn target(&self) -> u64
+        ensures { result ≡ (recorded self.now.bytes.now self.now.at).target }
+    {
+        self.take_target().value
+    }
+
+    pub fn instruction(&self) -> Instruction
+        ensures { result ≡ recorded self.now.bytes.now self.now.at }
+    {
+        let map = self.map();
+        let target = self.take_target();
+        let content = content_at(self.bytes, target.end, map);
+        let written = content.written;
+        Instruction {
+            address: self.address(),
+            mnemonic: self.mnemonic(),
+            branch: self.is_branch(),
+            target: target.value,
+            call: sheet_instruction::bit(map, 2),
+            first: content.first,
+            second: content.second,
+            written,
+            count: content.count,
+            flags: content.flags,
+        }
     }
 }

@@ -7,9 +7,9 @@ use native.Mathlib.Omega.{arith}
 use lib.Dec.{eqb}
 use lib.ListN.{length, take}
 use borrow.Author.Tests.{leb-true, eqb-true, eq-eqb, ne_eqb}
-use Rattle.sheet_field.specs.declared.Place.{Place}
-use Rattle.sheet_field.specs.declared.Place.TheVariants.{At}
-use Rattle.sheet_field.specs.Field.{field_at, start_of, code_at, count_at, WentOn}
+use Rattle.std.specs.Prelude.{Ok}
+use Rattle.refusal.specs.declared.Fault.TheVariants.{Code, Tree, Constant}
+use Rattle.sheet_field.specs.Field.{Place, field_at, start_of, code_at, count_at, WentOn}
 use Rattle.sheet_field.proofs.Fields.{judge-at, check-at, field-at, code-at, count_at_lem}
 use Rattle.expr.specs.Tree.{arity_of, Formed, Trees, tree_count, Wf}
 use Rattle.expr.proofs.Laws.{formed, trees-nil, count-nil, trees-snoc, count-snoc, trees-wf}
@@ -18,11 +18,11 @@ use Rattle.sheet_field.proofs.Counted.{back}
 use Rattle.sheet_expression.specs.Promises.{Took}
 use Rattle.sheet_expression.proofs.Lists.{taken-length, taken-keep, took-front}
 
-pub constant-at : (kind : ℕ) (s : List ℕ) (p : Place) {a : ℕ} → (constant_at kind s p).next ≡ At a → (b : ℕ) × (p ≡ At b)
+pub constant-at : (kind : ℕ) (s : List ℕ) (p : Place) {a : ℕ} → (constant_at kind s p).next ≡ Ok a → (b : ℕ) × (p ≡ Ok b)
 unfolding constant_at
 constant-at kind s p {a} e = go (eqb kind 1) refl
   where
-    go : (t : Bool) → eqb kind 1 ≡ t → (b : ℕ) × (p ≡ At b)
+    go : (t : Bool) → eqb kind 1 ≡ t → (b : ℕ) × (p ≡ Ok b)
     go true q = let w = field-at 8 s p (rw q at e) in (w.from, w.there)
     go false q = (a, rw q at e)
 
@@ -30,13 +30,13 @@ constant-zero : (kind : ℕ) (s : List ℕ) (p : Place) → (kind ≡ 1 → ⊥)
 unfolding constant_at
 constant-zero kind s p other = rw (ne_eqb kind 1 other)
 
-pub argument-at : (variables kind : ℕ) (s : List ℕ) (p : Place) {a : ℕ} → (argument_at variables kind s p).next ≡ At a → (b : ℕ) × (p ≡ At b)
+pub argument-at : (variables kind : ℕ) (s : List ℕ) (p : Place) {a : ℕ} → (argument_at variables kind s p).next ≡ Ok a → (b : ℕ) × (p ≡ Ok b)
 unfolding argument_at
 argument-at variables kind s p {a} e = go (has_argument kind) refl
   where
-    go : (t : Bool) → has_argument kind ≡ t → (b : ℕ) × (p ≡ At b)
+    go : (t : Bool) → has_argument kind ≡ t → (b : ℕ) × (p ≡ Ok b)
     go true q =
-        let w = field-at 1 s p (check-at _ 2 (start_of p) (field_at 1 s p) (rw q at e)).1 in
+        let w = field-at 1 s p (check-at _ Code (start_of p) (field_at 1 s p) (rw q at e)).1 in
         (w.from, w.there)
     go false q = (a, rw q at e)
 
@@ -47,7 +47,7 @@ argument-zero variables kind s p none = rw none
 -- what a record that was read whole is
 pub record Recorded (variables depth left : ℕ) (s : List ℕ) (p : Place) : Type 0 where
   pub from : ℕ
-  pub there : p ≡ At from
+  pub there : p ≡ Ok from
   pub well : Formed (record_at variables depth left s p).tag (record_at variables depth left s p).value
   pub kids : arity_of (record_at variables depth left s p).tag ≤ depth
   pub one : left ≡ 0 → (record_at variables depth left s p).depth ≡ 1
@@ -57,16 +57,16 @@ last_one : (left : ℕ) (t : Bool) → (not (eqb left 0) || t) ≡ true → left
 last_one left t e zero_left = rw (eq-eqb left 0 zero_left) at e
 
 pub record-at : (variables depth left : ℕ) (s : List ℕ) (p : Place) {a : ℕ}
-    → (record_at variables depth left s p).next ≡ At a → Recorded variables depth left s p
+    → (record_at variables depth left s p).next ≡ Ok a → Recorded variables depth left s p
 unfolding record_at
 record-at variables depth left s p e =
     let kind = code_at 9 s p in
     let argument = argument_at variables kind.value s kind.next in
     let value = constant_at kind.value s argument.next in
     let tag : ℕ = kind.value + 16 * argument.value in
-    let fits = judge-at _ 8 (start_of argument.next) _ e in
-    let last = judge-at _ 7 (start_of value.next) _ fits.1 in
-    let whole = judge-at _ 7 (start_of p) value.next last.1 in
+    let fits = judge-at _ Constant (start_of argument.next) _ e in
+    let last = judge-at _ Tree (start_of value.next) _ fits.1 in
+    let whole = judge-at _ Tree (start_of p) value.next last.1 in
     let behind = constant-at kind.value s argument.next whole.1 in
     let named = argument-at variables kind.value s kind.next behind.1 in
     let code = code-at 9 s p named.1 in
@@ -101,7 +101,7 @@ grown-more variables left s t g r =
     }
 
 pub grown : (variables total : ℕ) (s : List ℕ) (p : Place) (k : ℕ) {a : ℕ}
-    → (taken_from variables total s p k).next ≡ At a → Grown (taken_from variables total s p k)
+    → (taken_from variables total s p k).next ≡ Ok a → Grown (taken_from variables total s p k)
 unfolding taken_from taken_more
 grown variables total s p zero e = record { trees = trees-nil; count = count-nil }
 grown variables total s p (suc k) e =
@@ -111,7 +111,7 @@ grown variables total s p (suc k) e =
 
 -- behind the last record there is one tree
 last-depth : (variables total : ℕ) (s : List ℕ) (p : Place) (k : ℕ) {a : ℕ} → total ≡ k → 1 ≤ k
-    → (taken_from variables total s p k).next ≡ At a → (taken_from variables total s p k).depth ≡ 1
+    → (taken_from variables total s p k).next ≡ Ok a → (taken_from variables total s p k).depth ≡ 1
 unfolding taken_from taken_more
 last-depth variables total s p zero all some e = omega arith
 last-depth variables total s p (suc k) all some e =
@@ -121,15 +121,15 @@ last-depth variables total s p (suc k) all some e =
 -- an expression that was read whole: where it stood, and its words are exactly one tree of at most 128 records
 pub record OneTree (variables : ℕ) (s : List ℕ) (p : Place) : Type 0 where
   pub from : ℕ
-  pub there : p ≡ At from
+  pub there : p ≡ Ok from
   pub tree : Wf (expression_at variables s p).words
   pub short : length (expression_at variables s p).words ≤ 256
 
-pub start-at : (variables total : ℕ) (s : List ℕ) (p : Place) (k : ℕ) {a : ℕ} → (taken_from variables total s p k).next ≡ At a → WentOn p
+pub start-at : (variables total : ℕ) (s : List ℕ) (p : Place) (k : ℕ) {a : ℕ} → (taken_from variables total s p k).next ≡ Ok a → WentOn p
 unfolding taken_from
 start-at variables total s p k e = back (λ j. (taken_from variables total s p j).next) (taken-keep variables total s p) k 0 e (omega arith)
 
-pub one-tree : (variables : ℕ) (s : List ℕ) (p : Place) {a : ℕ} → (expression_at variables s p).next ≡ At a → OneTree variables s p
+pub one-tree : (variables : ℕ) (s : List ℕ) (p : Place) {a : ℕ} → (expression_at variables s p).next ≡ Ok a → OneTree variables s p
 unfolding expression_at
 one-tree variables s p e =
     let n = count_at 1 128 s p in

@@ -1,92 +1,112 @@
 -- Laws of the check of a record: where it may end, and what it gives where it does not.
 use Prim.Native.Nat.{ℕ, ◌+◌, ◌*◌, ◌≤◌, ◌<◌}
-use mathlib.Core.Path.{◌≡◌, refl, sym, ◌∙◌}
+use mathlib.Core.Path.{◌≡◌, refl, sym, ap, ◌∙◌}
 use mathlib.Core.List.{List}
-use mathlib.Core.Bool.{Bool, true, false, cond, not, ◌||◌}
+use mathlib.Core.Bool.{Bool, true, false, cond, not, ◌&&◌, ◌||◌}
 use lib.Dec.{leb, eqb}
 use borrow.Author.Tests.{lt-leb, le-leb}
-use Rattle.sheet_field.specs.declared.Place.{Place}
-use Rattle.sheet_field.specs.declared.Place.TheVariants.{At, Refused}
+use Rattle.std.specs.Prelude.{Ok, Err}
+use Rattle.refusal.specs.declared.Fault.TheVariants.{Tree, Constant}
+use Rattle.refusal.specs.declared.Refusal.{Refusal}
+use Rattle.refusal.specs.Numbers.{refused}
 use Rattle.sheet_field.specs.declared.Field.{Field}
-use Rattle.sheet_field.specs.Field.{field_at, start_of, judge, check_field, code_at}
-use Rattle.sheet_field.proofs.Fields.{not-both}
-use Rattle.expr.specs.Tree.{arity_of}
-use Rattle.sheet_expression.specs.declared.RecordReading.{RecordReading}
-use Rattle.sheet_expression.specs.Expression.{has_argument, argument_at, constant_at, fits_width, depth_after, record_at}
-use Rattle.sheet_expression.specs.Promises.{CheckedRecord}
+use Rattle.sheet_field.specs.Field.{Place, FieldReading, field_at, judge, check_field, code_at, answer_of}
+use Rattle.sheet_field.proofs.Fields.{answer_ok, answer_err, read_ok, read_err}
+use Rattle.expr.specs.Tree.{arity_of, tree_of}
+use Rattle.expr.specs.Types.{type_of}
+use Rattle.sheet_expression.specs.declared.Checked.{Checked}
+use Rattle.sheet_expression.specs.Expression.{has_argument, argument_at, constant_at, fits_width, depth_after, record_at, Taken}
+use Rattle.sheet_expression.specs.Promises.{checked_record, checked_expression}
 
-either : (t : Bool) (x y : Field) {p : Place} → x.next ≡ p → y.next ≡ p → (cond t x y).next ≡ p
+either : (t : Bool) (x y : FieldReading) {p : Place} → x.next ≡ p → y.next ≡ p → (cond t x y).next ≡ p
 either true x y e f = e
 either false x y e f = f
 
 -- an argument and a constant leave a refusal as it is
-argument-keep : (variables kind : ℕ) (s : List ℕ) (k at : ℕ) → (argument_at variables kind s (Refused k at)).next ≡ Refused k at
+argument-keep : (variables kind : ℕ) (s : List ℕ) (r : Refusal) → (argument_at variables kind s (Err r)).next ≡ Err r
 unfolding argument_at check_field field_at
-argument-keep variables kind s k at = either (has_argument kind) _ _ refl refl
+argument-keep variables kind s r = either (has_argument kind) _ _ refl refl
 
-constant-keep : (kind : ℕ) (s : List ℕ) (k at : ℕ) → (constant_at kind s (Refused k at)).next ≡ Refused k at
+constant-keep : (kind : ℕ) (s : List ℕ) (r : Refusal) → (constant_at kind s (Err r)).next ≡ Err r
 unfolding constant_at field_at
-constant-keep kind s k at = either (eqb kind 1) _ _ refl refl
+constant-keep kind s r = either (eqb kind 1) _ _ refl refl
 
-was-true : (t : Bool) → not t ≡ false → t ≡ true
-was-true true e = refl
-was-true false e = sym e
+other-side : (a b : Bool) {t : Bool} → (a && not b) ≡ t → (not a || b) ≡ not t
+other-side true true e = rw (← e)
+other-side true false e = rw (← e)
+other-side false b e = rw (← e)
 
-was-false : (t : Bool) → not t ≡ true → t ≡ false
-was-false true e = sym e
-was-false false e = refl
+module _ (variables depth left : ℕ) (s : List ℕ) (at : ℕ) where
+  -- a refusal of a record
+  ends : {r : Refusal} → (record_at variables depth left s (Ok at)).next ≡ Err r → Err r ≡ checked_record (record_at variables depth left s (Ok at))
+  ends e = rw e
 
--- a refusal has no record
-no_record : {r read : RecordReading} {k at : ℕ} → read.next ≡ Refused k at → r.next ≡ Refused k at → CheckedRecord r read
-no_record is r-is = record { place = r-is ∙ sym is; whole = λ on. absurd (not-both (sym is ∙ on.1)) }
-
-module _ (variables depth left : ℕ) (s : List ℕ) (p : Place) {kind : Field} (kind-is : kind ≡ code_at 9 s p) where
   -- reading is refused at the kind, the argument or the constant
-  pub kind-refused : {r : RecordReading} {k at : ℕ} → kind.next ≡ Refused k at → r.next ≡ kind.next → CheckedRecord r (record_at variables depth left s p)
+  pub kind-refused : {r : Refusal} → answer_of (code_at 9 s (Ok at)) ≡ Err r → Err r ≡ checked_record (record_at variables depth left s (Ok at))
   unfolding record_at
-  kind-refused {k = k} {at = at} gone r-is =
-      no_record (rw (← kind-is, gone, argument-keep variables kind.value s k at, constant-keep kind.value s k at)) (r-is ∙ gone)
+  kind-refused {r} e =
+      let gone = answer_err (code_at 9 s (Ok at)) e in
+      ends (rw (gone, argument-keep variables (code_at 9 s (Ok at)).value s r, constant-keep (code_at 9 s (Ok at)).value s r))
 
-  module _ {a : ℕ} (kind-on : kind.next ≡ At a) {argument : Field} (argument_is : argument ≡ argument_at variables kind.value s (At a)) where
-    pub argument-refused : {r : RecordReading} {k at : ℕ} → argument.next ≡ Refused k at → r.next ≡ argument.next → CheckedRecord r (record_at variables depth left s p)
+  module _ {kind : Field} (kind-is : answer_of (code_at 9 s (Ok at)) ≡ Ok kind) where
+    kind-read : code_at 9 s (Ok at) ≡ record { value = kind.value; next = Ok kind.end }
+    kind-read = answer_ok (code_at 9 s (Ok at)) kind-is
+
+    pub argument-refused : {r : Refusal} → answer_of (argument_at variables kind.value s (Ok kind.end)) ≡ Err r
+        → Err r ≡ checked_record (record_at variables depth left s (Ok at))
     unfolding record_at
-    argument-refused {k = k} {at = at} gone r-is =
-        no_record (rw (← kind-is, kind-on, ← argument_is, gone, constant-keep kind.value s k at)) (r-is ∙ gone)
+    argument-refused {r} e =
+        let gone = answer_err (argument_at variables kind.value s (Ok kind.end)) e in
+        ends (rw (kind-read, gone, constant-keep kind.value s r))
 
-    module _ {b : ℕ} (argument-on : argument.next ≡ At b) {value : Field} (value-is : value ≡ constant_at kind.value s (At b)) where
-      pub constant-refused : {r : RecordReading} {k at : ℕ} → value.next ≡ Refused k at → r.next ≡ value.next → CheckedRecord r (record_at variables depth left s p)
+    module _ {argument : Field} (argument_is : answer_of (argument_at variables kind.value s (Ok kind.end)) ≡ Ok argument) where
+      argument-read : argument_at variables kind.value s (Ok kind.end) ≡ record { value = argument.value; next = Ok argument.end }
+      argument-read = answer_ok (argument_at variables kind.value s (Ok kind.end)) argument_is
+
+      pub constant-refused : {r : Refusal} → answer_of (constant_at kind.value s (Ok argument.end)) ≡ Err r
+          → Err r ≡ checked_record (record_at variables depth left s (Ok at))
       unfolding record_at
-      constant-refused {k = k} {at = at} gone r-is =
-          no_record (rw (← kind-is, kind-on, ← argument_is, argument-on, ← value-is, gone)) (r-is ∙ gone)
+      constant-refused {r} e =
+          let gone = answer_err (constant_at kind.value s (Ok argument.end)) e in
+          ends (rw (kind-read, argument-read, gone))
 
       -- a check fails, or none does
-      module _ {e : ℕ} (Value-on : value.next ≡ At e) {arity : ℕ} (arity-is : arity ≡ arity_of (kind.value + 16 * argument.value)) where
-        checked-is : record_at variables depth left s p
+      module _ {value : Field} (value-is : answer_of (constant_at kind.value s (Ok argument.end)) ≡ Ok value)
+          {arity : ℕ} (arity-is : arity ≡ arity_of (kind.value + 16 * argument.value)) where
+        checked-is : record_at variables depth left s (Ok at)
             ≡ record {
               tag = kind.value + 16 * argument.value;
               value = value.value;
               depth = depth_after depth arity;
-              next = judge (fits_width kind.value argument.value value.value) 8 b
-                  (judge (not (eqb left 0) || eqb (depth_after depth arity) 1) 7 e (judge (leb arity depth) 7 (start_of p) (At e)));
+              next = judge (fits_width kind.value argument.value value.value) Constant argument.end
+                  (judge (not (eqb left 0) || eqb (depth_after depth arity) 1) Tree value.end (judge (leb arity depth) Tree at (Ok value.end)));
             }
         unfolding record_at
-        checked-is = rw (← kind-is, kind-on, ← argument_is, argument-on, ← value-is, Value-on, ← arity-is)
+        checked-is = rw (kind-read, argument-read, answer_ok (constant_at kind.value s (Ok argument.end)) value-is, ← arity-is)
 
-        pub child-lacking : {r : RecordReading} → depth < arity → r.next ≡ Refused 7 (start_of p) → CheckedRecord r (record_at variables depth left s p)
-        child-lacking less r-is = no_record (rw (checked-is, lt-leb arity depth less)) r-is
+        pub child-lacking : depth < arity → Err (refused Tree at) ≡ checked_record (record_at variables depth left s (Ok at))
+        child-lacking less = ends (rw (checked-is, lt-leb arity depth less))
 
         module _ (enough : arity ≤ depth) where
-          pub trees-left : {r : RecordReading} → not (not (eqb left 0) || eqb (depth_after depth arity) 1) ≡ true → r.next ≡ Refused 7 e
-              → CheckedRecord r (record_at variables depth left s p)
-          trees-left more r-is = no_record {k = 7} {at = e} (rw (checked-is, le-leb arity depth enough, was-false (not (eqb left 0) || eqb (depth_after depth arity) 1) more)) r-is
+          pub trees-left : (eqb left 0 && not (eqb (depth_after depth arity) 1)) ≡ true → Err (refused Tree value.end) ≡ checked_record (record_at variables depth left s (Ok at))
+          trees-left more = ends (rw (checked-is, le-leb arity depth enough, other-side (eqb left 0) (eqb (depth_after depth arity) 1) more))
 
-          module _ (last : not (not (eqb left 0) || eqb (depth_after depth arity) 1) ≡ false) {fits : Bool}
-              (fits-is : fits ≡ fits_width kind.value argument.value value.value) where
-            pub constant_wide : {r : RecordReading} → not fits ≡ true → r.next ≡ Refused 8 b → CheckedRecord r (record_at variables depth left s p)
-            constant_wide wide r-is = no_record {k = 8} {at = b} (rw (checked-is, le-leb arity depth enough, was-true (not (eqb left 0) || eqb (depth_after depth arity) 1) last, ← fits-is, was-false fits wide)) r-is
+          module _ (one : (eqb left 0 && not (eqb (depth_after depth arity) 1)) ≡ false) {fits : Bool} (fits-is : fits ≡ fits_width kind.value argument.value value.value) where
+            pub constant_wide : fits ≡ false → Err (refused Constant argument.end) ≡ checked_record (record_at variables depth left s (Ok at))
+            constant_wide wide = ends (rw (checked-is, le-leb arity depth enough, other-side (eqb left 0) (eqb (depth_after depth arity) 1) one, ← fits-is, wide))
 
-            pub record-checked : not fits ≡ false
-                → CheckedRecord (record { tag = kind.value + 16 * argument.value; value = value.value; depth = depth_after depth arity; next = At e }) (record_at variables depth left s p)
-            record-checked narrow =
-                rw (checked-is, le-leb arity depth enough, was-true (not (eqb left 0) || eqb (depth_after depth arity) 1) last, ← fits-is, was-true fits narrow)
-                record { place = refl; whole = λ on. refl }
+            pub record-checked : fits ≡ true
+                → Ok (record { tag = kind.value + 16 * argument.value; depth = depth_after depth arity; end = value.end }) ≡ checked_record (record_at variables depth left s (Ok at))
+            record-checked narrow = rw (checked-is, le-leb arity depth enough, other-side (eqb left 0) (eqb (depth_after depth arity) 1) one, ← fits-is, narrow)
+
+-- what the check of an expression returned
+pub checked-on : (types : List ℕ) (t : Taken) {e : Checked} → checked_expression types t ≡ Ok e → (t.next ≡ Ok e.end) × (e.typing ≡ type_of types (tree_of t.words))
+checked-on types t e-is =
+    let made : ℕ → Checked = λ end. record { typing = type_of types (tree_of t.words); end = end } in
+    let h = read_ok t.next made e-is in
+    (h.1 ∙ ap Ok (ap (λ (x : Checked). x.end) (sym h.2)), ap (λ (x : Checked). x.typing) h.2)
+
+pub checked-refused : (types : List ℕ) (t : Taken) {r : Refusal} → checked_expression types t ≡ Err r → t.next ≡ Err r
+checked-refused types t e-is =
+    let made : ℕ → Checked = λ end. record { typing = type_of types (tree_of t.words); end = end } in
+    read_err t.next made e-is

@@ -2,14 +2,13 @@
 use Prim.Native.Nat.{ℕ, ◌+◌, ◌-◌, ◌*◌, ◌≤◌, ◌<◌}
 use mathlib.Core.Path.{◌≡◌, refl, sym, ap, ◌∙◌}
 use mathlib.Core.List.{List}
-use mathlib.Core.Bool.{true, false}
+use mathlib.Core.Bool.{true, false, false≢true}
 use native.Mathlib.Omega.{arith}
 use lib.ListN.{length, set}
 use borrow.Author.Tests.{ne_eqb}
-use Rattle.sheet_field.specs.declared.Place.{Place}
-use Rattle.sheet_field.specs.declared.Place.TheVariants.{At}
-use Rattle.sheet_field.specs.declared.Field.{Field}
-use Rattle.sheet_field.specs.Field.{little, field_at, start_of, code_at, count_at, WentOn}
+use Rattle.std.specs.Prelude.{Ok}
+use Rattle.refusal.specs.declared.Fault.TheVariants.{Code, Count, Tree, Constant}
+use Rattle.sheet_field.specs.Field.{Place, FieldReading, little, field_at, start_of, code_at, count_at, WentOn}
 use Rattle.sheet_field.proofs.Fields.{field-whole, field-at, judge-at, check-at, code-at, count_most}
 use Rattle.sheet_field.proofs.Counted.{back}
 use Rattle.sheet_expression.specs.declared.Record.{Record}
@@ -19,35 +18,35 @@ use Rattle.sheet_expression.proofs.Lists.{Stored, stored_more, taken_next, taken
 use Rattle.sheet_expression.proofs.Accepted.{constant-at, argument-at, start-at}
 
 -- a field that was read whole
-pub field-from : (n : ℕ) (s : List ℕ) (at : ℕ) {b : ℕ} → (field_at n s (At at)).next ≡ At b
-    → (at + n ≤ length s) × (field_at n s (At at) ≡ record { value = little s at n; next = At (at + n) })
+pub field-from : (n : ℕ) (s : List ℕ) (at : ℕ) {b : ℕ} → (field_at n s (Ok at)).next ≡ Ok b
+    → (at + n ≤ length s) × (field_at n s (Ok at) ≡ record { value = little s at n; next = Ok (at + n) })
 field-from n s at on =
-    let w = field-at n s (At at) on in
+    let w = field-at n s (Ok at) on in
     let same : at ≡ w.from = cc w.there in
     let inside : at + n ≤ length s = omega (arith, same, w.inside) in
-    (inside, sym (field-whole n s {p = At at} refl inside refl refl))
+    (inside, sym (field-whole n s {p = Ok at} refl inside refl refl))
 
-pub code-from : (limit : ℕ) (s : List ℕ) (at : ℕ) {b : ℕ} → (code_at limit s (At at)).next ≡ At b
-    → (at + 1 ≤ length s) × (code_at limit s (At at) ≡ record { value = little s at 1; next = At (at + 1) })
+pub code-from : (limit : ℕ) (s : List ℕ) (at : ℕ) {b : ℕ} → (code_at limit s (Ok at)).next ≡ Ok b
+    → (at + 1 ≤ length s) × (code_at limit s (Ok at) ≡ record { value = little s at 1; next = Ok (at + 1) })
 code-from limit s at on =
-    let c = code-at limit s (At at) on in
-    let f = field-from 1 s at (ap (λ (x : Field). x.next) (sym c.is) ∙ on) in
+    let c = code-at limit s (Ok at) on in
+    let f = field-from 1 s at (ap (λ (x : FieldReading). x.next) (sym c.is) ∙ on) in
     (f.0, c.is ∙ f.1)
 
-argument-from : (variables kind : ℕ) (s : List ℕ) (at : ℕ) {b : ℕ} → has_argument kind ≡ true → (argument_at variables kind s (At at)).next ≡ At b
-    → (at + 1 ≤ length s) × (argument_at variables kind s (At at) ≡ record { value = little s at 1; next = At (at + 1) })
+argument-from : (variables kind : ℕ) (s : List ℕ) (at : ℕ) {b : ℕ} → has_argument kind ≡ true → (argument_at variables kind s (Ok at)).next ≡ Ok b
+    → (at + 1 ≤ length s) × (argument_at variables kind s (Ok at) ≡ record { value = little s at 1; next = Ok (at + 1) })
 unfolding argument_at
 argument-from variables kind s at has on =
-    let c = check-at _ 2 at (field_at 1 s (At at)) (rw has at on) in
+    let c = check-at _ Code at (field_at 1 s (Ok at)) (rw has at on) in
     let f = field-from 1 s at c.1 in
     (f.0, rw has (c.2 ∙ f.1))
 
-argument-bare : (variables kind : ℕ) (s : List ℕ) (at : ℕ) → has_argument kind ≡ false → argument_at variables kind s (At at) ≡ record { value = 0; next = At at }
+argument-bare : (variables kind : ℕ) (s : List ℕ) (at : ℕ) → has_argument kind ≡ false → argument_at variables kind s (Ok at) ≡ record { value = 0; next = Ok at }
 unfolding argument_at
 argument-bare variables kind s at none = rw none
 
-constant-from : (s : List ℕ) (at : ℕ) {b : ℕ} → (constant_at 1 s (At at)).next ≡ At b
-    → (at + 8 ≤ length s) × (constant_at 1 s (At at) ≡ record { value = little s at 8; next = At (at + 8) })
+constant-from : (s : List ℕ) (at : ℕ) {b : ℕ} → (constant_at 1 s (Ok at)).next ≡ Ok b
+    → (at + 8 ≤ length s) × (constant_at 1 s (Ok at) ≡ record { value = little s at 8; next = Ok (at + 8) })
 unfolding constant_at
 constant-from s at on = field-from 8 s at on
 
@@ -56,32 +55,32 @@ unfolding constant_at
 constant-bare kind s p other = rw (ne_eqb kind 1 other)
 
 -- the stages of a record that was read whole
-module _ (variables depth left : ℕ) (s : List ℕ) (at : ℕ) (on : WentOn (record_at variables depth left s (At at)).next) where
-  value_on : (constant_at (code_at 9 s (At at)).value s (argument_at variables (code_at 9 s (At at)).value s (code_at 9 s (At at)).next).next).next ≡ At on.0
+module _ (variables depth left : ℕ) (s : List ℕ) (at : ℕ) (on : WentOn (record_at variables depth left s (Ok at)).next) where
+  value_on : (constant_at (code_at 9 s (Ok at)).value s (argument_at variables (code_at 9 s (Ok at)).value s (code_at 9 s (Ok at)).next).next).next ≡ Ok on.0
   unfolding record_at
   value_on =
-      let argument = argument_at variables (code_at 9 s (At at)).value s (code_at 9 s (At at)).next in
-      let value = constant_at (code_at 9 s (At at)).value s argument.next in
-      let fits = judge-at _ 8 (start_of argument.next) _ on.1 in
-      let last = judge-at _ 7 (start_of value.next) _ fits.1 in
-      (judge-at _ 7 at value.next last.1).1
+      let argument = argument_at variables (code_at 9 s (Ok at)).value s (code_at 9 s (Ok at)).next in
+      let value = constant_at (code_at 9 s (Ok at)).value s argument.next in
+      let fits = judge-at _ Constant (start_of argument.next) _ on.1 in
+      let last = judge-at _ Tree (start_of value.next) _ fits.1 in
+      (judge-at _ Tree at value.next last.1).1
 
-  argument-on : WentOn (argument_at variables (code_at 9 s (At at)).value s (code_at 9 s (At at)).next).next
-  argument-on = constant-at (code_at 9 s (At at)).value s _ value_on
+  argument-on : WentOn (argument_at variables (code_at 9 s (Ok at)).value s (code_at 9 s (Ok at)).next).next
+  argument-on = constant-at (code_at 9 s (Ok at)).value s _ value_on
 
-  kind-read : (at + 1 ≤ length s) × (code_at 9 s (At at) ≡ record { value = little s at 1; next = At (at + 1) })
-  kind-read = code-from 9 s at (argument-at variables (code_at 9 s (At at)).value s (code_at 9 s (At at)).next argument-on.1).1
+  kind-read : (at + 1 ≤ length s) × (code_at 9 s (Ok at) ≡ record { value = little s at 1; next = Ok (at + 1) })
+  kind-read = code-from 9 s at (argument-at variables (code_at 9 s (Ok at)).value s (code_at 9 s (Ok at)).next argument-on.1).1
 
   pub kind-inside : at + 1 ≤ length s
   kind-inside = kind-read.0
 
-  place_is : (record_at variables depth left s (At at)).next ≡ (constant_at (code_at 9 s (At at)).value s (argument_at variables (code_at 9 s (At at)).value s (code_at 9 s (At at)).next).next).next
+  place_is : (record_at variables depth left s (Ok at)).next ≡ (constant_at (code_at 9 s (Ok at)).value s (argument_at variables (code_at 9 s (Ok at)).value s (code_at 9 s (Ok at)).next).next).next
   place_is = on.1 ∙ sym value_on
 
   -- a record from its argument and its value
-  read_is : {argument value : Field} → argument ≡ argument_at variables (little s at 1) s (At (at + 1)) → value ≡ constant_at (little s at 1) s argument.next
-      → {r : Record} → r.tag ≡ little s at 1 + 16 * argument.value → r.value ≡ value.value → At r.end ≡ value.next
-      → RecordIs r (record_at variables depth left s (At at))
+  read_is : {argument value : FieldReading} → argument ≡ argument_at variables (little s at 1) s (Ok (at + 1)) → value ≡ constant_at (little s at 1) s argument.next
+      → {r : Record} → r.tag ≡ little s at 1 + 16 * argument.value → r.value ≡ value.value → Ok r.end ≡ value.next
+      → RecordIs r (record_at variables depth left s (Ok at))
   unfolding record_at
   read_is argument_is value-is tag_is r-value end_is =
       record {
@@ -91,67 +90,68 @@ module _ (variables depth left : ℕ) (s : List ℕ) (at : ℕ) (on : WentOn (re
       }
 
   module _ {kind : ℕ} (kind-is : kind ≡ little s at 1) where
-    argument-there : WentOn (argument_at variables kind s (At (at + 1))).next
+    argument-there : WentOn (argument_at variables kind s (Ok (at + 1))).next
     argument-there = rw (kind-is) (rw kind-read.1 at argument-on)
 
-    value_there : (constant_at kind s (argument_at variables kind s (At (at + 1))).next).next ≡ At on.0
+    value_there : (constant_at kind s (argument_at variables kind s (Ok (at + 1))).next).next ≡ Ok on.0
     value_there = rw (kind-is) (rw kind-read.1 at value_on)
 
     -- with an argument
     module _ (has : has_argument kind ≡ true) where
-      argument-read : (at + 1 + 1 ≤ length s) × (argument_at variables kind s (At (at + 1)) ≡ record { value = little s (at + 1) 1; next = At (at + 1 + 1) })
+      argument-read : (at + 1 + 1 ≤ length s) × (argument_at variables kind s (Ok (at + 1)) ≡ record { value = little s (at + 1) 1; next = Ok (at + 1 + 1) })
       argument-read = argument-from variables kind s (at + 1) has argument-there.1
 
       pub argument-inside : at + 1 + 1 ≤ length s
       argument-inside = argument-read.0
 
       pub argument-record : {r : Record} {x : ℕ} → (kind ≡ 1 → ⊥) → x ≡ little s (at + 1) 1 → r ≡ record { tag = kind + 16 * x; value = 0; end = at + 2 }
-          → RecordIs r (record_at variables depth left s (At at))
+          → RecordIs r (record_at variables depth left s (Ok at))
       argument-record {r} {x} other x-is r-is =
-          read_is {argument = record { value = x; next = At (at + 1 + 1) }} {value = record { value = 0; next = At (at + 1 + 1) }}
-          (rw (← kind-is, argument-read.1, x-is)) (rw (← kind-is, constant-bare kind s (At (at + 1 + 1)) other))
-          (rw (r-is, ← kind-is)) (rw r-is) (rw r-is (ap At (omega arith)))
+          read_is {argument = record { value = x; next = Ok (at + 1 + 1) }} {value = record { value = 0; next = Ok (at + 1 + 1) }}
+          (rw (← kind-is, argument-read.1, x-is)) (rw (← kind-is, constant-bare kind s (Ok (at + 1 + 1)) other))
+          (rw (r-is, ← kind-is)) (rw r-is) (rw r-is (ap Ok (omega arith)))
 
     -- a constant
     module _ (one : kind ≡ 1) where
-      width_read : (at + 1 + 1 ≤ length s) × (argument_at variables kind s (At (at + 1)) ≡ record { value = little s (at + 1) 1; next = At (at + 1 + 1) })
+      width_read : (at + 1 + 1 ≤ length s) × (argument_at variables kind s (Ok (at + 1)) ≡ record { value = little s (at + 1) 1; next = Ok (at + 1 + 1) })
       width_read = argument-read (rw one)
 
-      constant-read : (at + 1 + 1 + 8 ≤ length s) × (constant_at 1 s (At (at + 1 + 1)) ≡ record { value = little s (at + 1 + 1) 8; next = At (at + 1 + 1 + 8) })
+      constant-read : (at + 1 + 1 + 8 ≤ length s) × (constant_at 1 s (Ok (at + 1 + 1)) ≡ record { value = little s (at + 1 + 1) 8; next = Ok (at + 1 + 1 + 8) })
       constant-read = constant-from s (at + 1 + 1) (rw (width_read.1, one) at value_there)
 
       pub constant-inside : at + 10 ≤ length s
       constant-inside = omega (arith, constant-read.0)
 
       pub constant-record : {r : Record} {x v : ℕ} → x ≡ little s (at + 1) 1 → v ≡ little s (at + 2) 8 → r ≡ record { tag = kind + 16 * x; value = v; end = at + 10 }
-          → RecordIs r (record_at variables depth left s (At at))
+          → RecordIs r (record_at variables depth left s (Ok at))
       constant-record {r} {x} {v} x-is v-is r-is =
           let two : at + 1 + 1 ≡ at + 2 = omega arith in
-          read_is {argument = record { value = x; next = At (at + 1 + 1) }} {value = record { value = v; next = At (at + 1 + 1 + 8) }}
+          read_is {argument = record { value = x; next = Ok (at + 1 + 1) }} {value = record { value = v; next = Ok (at + 1 + 1 + 8) }}
           (rw (← kind-is, width_read.1, x-is)) (rw (← kind-is, one, constant-read.1, v-is, two))
-          (rw (r-is, ← kind-is)) (rw r-is) (rw r-is (ap At (omega arith)))
+          (rw (r-is, ← kind-is)) (rw r-is) (rw r-is (ap Ok (omega arith)))
 
-    pub bare-record : {r : Record} → (kind ≡ 1 → ⊥) → has_argument kind ≡ false → r ≡ record { tag = kind; value = 0; end = at + 1 }
-        → RecordIs r (record_at variables depth left s (At at))
-    bare-record {r} other none r-is =
-        read_is {argument = record { value = 0; next = At (at + 1) }} {value = record { value = 0; next = At (at + 1) }}
-        (rw (← kind-is, argument-bare variables kind s (at + 1) none)) (rw (← kind-is, constant-bare kind s (At (at + 1)) other))
+    pub bare-record : {r : Record} → has_argument kind ≡ false → r ≡ record { tag = kind; value = 0; end = at + 1 }
+        → RecordIs r (record_at variables depth left s (Ok at))
+    bare-record {r} none r-is =
+        let other : kind ≡ 1 → ⊥ = λ one. let has : has_argument 1 ≡ false = rw one at none in false≢true (sym has) in
+        read_is {argument = record { value = 0; next = Ok (at + 1) }} {value = record { value = 0; next = Ok (at + 1) }}
+        (rw (← kind-is, argument-bare variables kind s (at + 1) none)) (rw (← kind-is, constant-bare kind s (Ok (at + 1)) other))
         (rw (r-is, ← kind-is) (omega arith)) (rw r-is) (rw r-is)
 
 -- the first k records of an expression whose count stands at an offset
 abbrev pub up_to : ℕ → List ℕ → ℕ → ℕ → Taken
-up_to variables s from k = taken_from variables (little s from 2) s (At (from + 2)) k
+up_to variables s from k = taken_from variables (little s from 2) s (Ok (from + 2)) k
 
 -- an expression that was read whole: its count, and each of its records
-module _ (variables : ℕ) (s : List ℕ) (from : ℕ) (on : WentOn (expression_at variables s (At from)).next) where
-  start : WentOn (count_at 1 128 s (At from)).next
+module _ (variables : ℕ) (s : List ℕ) (from : ℕ) (on : WentOn (expression_at variables s (Ok from)).next) where
+  start : WentOn (count_at 1 128 s (Ok from)).next
   unfolding expression_at
-  start = let n = count_at 1 128 s (At from) in start-at variables n.value s n.next n.value on.1
+  start = let n = count_at 1 128 s (Ok from) in start-at variables n.value s n.next n.value on.1
 
-  counted : (from + 2 ≤ length s) × (count_at 1 128 s (At from) ≡ record { value = little s from 2; next = At (from + 2) })
+  counted : (from + 2 ≤ length s) × (count_at 1 128 s (Ok from) ≡ record { value = little s from 2; next = Ok (from + 2) })
   unfolding count_at
   counted =
-      let c = check-at _ 3 from (field_at 2 s (At from)) start.1 in
+      let c = check-at _ Count from (field_at 2 s (Ok from)) start.1 in
       let f = field-from 2 s from c.1 in
       (f.0, c.2 ∙ f.1)
 
@@ -159,30 +159,30 @@ module _ (variables : ℕ) (s : List ℕ) (from : ℕ) (on : WentOn (expression_
   count-inside = counted.0
 
   pub count-few : little s from 2 ≤ 128
-  count-few = rw counted.1 at (count_most 1 128 s (At from))
+  count-few = rw counted.1 at (count_most 1 128 s (Ok from))
 
-  expression-is : expression_at variables s (At from) ≡ up_to variables s from (little s from 2)
+  expression-is : expression_at variables s (Ok from) ≡ up_to variables s from (little s from 2)
   unfolding expression_at
   expression-is = rw counted.1
 
-  module _ (k : ℕ) (below : k < little s from 2) {at : ℕ} {before after : List ℕ} (stored : Stored (up_to variables s from k).depth (At at) before after (up_to variables s from k)) where
-    pub record-there : WentOn (record_at variables (up_to variables s from k).depth (little s from 2 - k - 1) s (At at)).next
+  module _ (k : ℕ) (below : k < little s from 2) {at : ℕ} {before after : List ℕ} (stored : Stored (up_to variables s from k).depth (Ok at) before after (up_to variables s from k)) where
+    pub record-there : WentOn (record_at variables (up_to variables s from k).depth (little s from 2 - k - 1) s (Ok at)).next
     unfolding taken_more
     record-there =
         let n : ℕ = little s from 2 in
-        let w = back (λ j. (taken_from variables n s (At (from + 2)) j).next) (taken-keep variables n s (At (from + 2))) n (k + 1) (ap (λ (t : Taken). t.next) (sym expression-is) ∙ on.1) (omega arith) in
-        (w.0, rw stored.place (ap (λ (t : Taken). t.next) (sym (taken_next variables n s (At (from + 2)) k)) ∙ w.1))
+        let w = back (λ j. (taken_from variables n s (Ok (from + 2)) j).next) (taken-keep variables n s (Ok (from + 2))) n (k + 1) (ap (λ (t : Taken). t.next) (sym expression-is) ∙ on.1) (omega arith) in
+        (w.0, rw stored.place (ap (λ (t : Taken). t.next) (sym (taken_next variables n s (Ok (from + 2)) k)) ∙ w.1))
 
-    pub stored-record : {r : Record} → RecordIs r (record_at variables (up_to variables s from k).depth (little s from 2 - k - 1) s (At at)) → 2 * k + 2 ≤ length before
-        → Stored (up_to variables s from (k + 1)).depth (At r.end) before (set (set after (2 * k) r.tag) (2 * k + 1) r.value) (up_to variables s from (k + 1))
+    pub stored-record : {r : Record} → RecordIs r (record_at variables (up_to variables s from k).depth (little s from 2 - k - 1) s (Ok at)) → 2 * k + 2 ≤ length before
+        → Stored (up_to variables s from (k + 1)).depth (Ok r.end) before (set (set after (2 * k) r.tag) (2 * k + 1) r.value) (up_to variables s from (k + 1))
     stored-record is fits =
-        let more = stored_more variables (little s from 2) s (At (from + 2)) k stored refl fits in
+        let more = stored_more variables (little s from 2) s (Ok (from + 2)) k stored refl fits in
         record { trees = refl; place = is.place ∙ more.place; list = rw (is.tag, is.value) more.list }
 
   pub took-whole : (k : ℕ) {next : Place} {before after : List ℕ} → k ≡ little s from 2
-      → Stored (up_to variables s from k).depth next before after (up_to variables s from k) → Took (little s from 2) next before after (expression_at variables s (At from))
-  took-whole k all stored = rw expression-is (took-all variables (little s from 2) s (At (from + 2)) (rw all at stored) count-few)
+      → Stored (up_to variables s from k).depth next before after (up_to variables s from k) → Took (little s from 2) next before after (expression_at variables s (Ok from))
+  took-whole k all stored = rw expression-is (took-all variables (little s from 2) s (Ok (from + 2)) (rw all at stored) count-few)
 
-pub stored-first : (variables : ℕ) (s : List ℕ) (from : ℕ) (before : List ℕ) → Stored (up_to variables s from 0).depth (At (from + 2)) before before (up_to variables s from 0)
+pub stored-first : (variables : ℕ) (s : List ℕ) (from : ℕ) (before : List ℕ) → Stored (up_to variables s from 0).depth (Ok (from + 2)) before before (up_to variables s from 0)
 unfolding taken_from
 stored-first variables s from before = record { trees = refl; place = refl; list = refl }

@@ -6,12 +6,11 @@ use native.Mathlib.Omega.{arith}
 use native.Mathlib.Numerals.{add-one}
 use lib.ListN.{length, take, drop, set, get_or, length-append, length-drop}
 use lib.Seq.{take_at, set_at, drop-cons, append_snoc}
-use Rattle.sheet_field.specs.declared.Place.{Place}
-use Rattle.sheet_expression.specs.declared.RecordReading.{RecordReading}
-use Rattle.sheet_expression.specs.Expression.{argument_at, constant_at, record_at, Taken, taken_more, taken_from}
+use Rattle.sheet_expression.specs.Expression.{RecordReading, argument_at, constant_at, record_at, Taken, taken_more, taken_from}
 use Rattle.sheet_expression.specs.Promises.{Took}
-use Rattle.sheet_field.specs.declared.Place.TheVariants.{Refused}
-use Rattle.sheet_field.specs.Field.{field_at, check_field, code_at, WentOn}
+use Rattle.std.specs.Prelude.{Err}
+use Rattle.refusal.specs.declared.Refusal.{Refusal}
+use Rattle.sheet_field.specs.Field.{Place, field_at, check_field, code_at, WentOn}
 
 pub taken-length : (variables total : ℕ) (s : List ℕ) (p : Place) (k : ℕ) → length (taken_from variables total s p k).words ≡ 2 * k
 unfolding taken_from taken_more
@@ -72,10 +71,10 @@ unfolding taken_from
 taken_next variables total s p k = let left : total - k - 1 ≡ total - suc k = omega arith in rw (add-one k, left)
 
 -- a record that is read where reading was refused leaves the refusal
-pub taken-keep : (variables total : ℕ) (s : List ℕ) (p : Place) (j k at : ℕ) → (taken_from variables total s p j).next ≡ Refused k at
-    → (taken_from variables total s p (suc j)).next ≡ Refused k at
+pub taken-keep : (variables total : ℕ) (s : List ℕ) (p : Place) (j : ℕ) (r : Refusal) → (taken_from variables total s p j).next ≡ Err r
+    → (taken_from variables total s p (suc j)).next ≡ Err r
 unfolding taken_from taken_more record_at argument_at constant_at code_at check_field field_at
-taken-keep variables total s p j k at e = rw e
+taken-keep variables total s p j r e = rw e
 
 module _ (variables total : ℕ) (s : List ℕ) (p : Place) where
   pub stored-none : (before : List ℕ) → Stored 0 p before before (taken_from variables total s p 0)

@@ -1,13 +1,13 @@
 -- Laws of tables packed into one number, and of the types of records whose arguments are in their tables.
-use Prim.Native.Nat.{ℕ, zero, suc, ◌+◌, ◌*◌, ◌/◌, ◌%◌, ◌^◌, ◌≤◌, ◌<◌, max}
+use Prim.Native.Nat.{ℕ, zero, suc, ◌*◌, ◌≤◌, ◌<◌, max}
 use mathlib.Core.Path.{◌≡◌, refl}
-use mathlib.Core.List.{List}
+use mathlib.Core.List.{List, [], ◌∷◌}
 use mathlib.Core.Logic.{◌⊎◌, inl, inr, ⊎_elim}
-use mathlib.Core.Bool.{Bool, true, false, cond, ◌&&◌, ◌||◌, or-false, false≢true}
+use mathlib.Core.Bool.{Bool, true, false, cond, ◌&&◌, ◌||◌, or-false}
 use native.Mathlib.Omega.{arith}
 use native.Mathlib.Nat.{eq-or-lt_of_le}
 use lib.Dec.{eqb, ltb, lit<}
-use lib.ListN.{length, get_or}
+use lib.ListN.{length, get_or, replicate}
 use lib.Pow.{pow_pos}
 use borrow.Author.Tests.{eqb-true, ltb-true, le-ltb}
 use Rattle.laws.proofs.Booleans.{and_left, and_right}
@@ -16,7 +16,6 @@ use Rattle.expr.specs.Types.{bits, plain_type, promoted, common, together, recor
 use Rattle.expr.specs.Admission.{InTable}
 use Rattle.expr.proofs.Laws.{nine}
 use Rattle.expr.proofs.Admission.{together-in, binary-in, constant-in}
-use Rattle.sheet_expression.specs.Expression.{has_argument, argument_ok}
 use Rattle.sheet_expression.specs.Promises.{Tagged}
 use Rattle.sheet_expression.proofs.OneRecord.{or-true}
 
@@ -33,39 +32,33 @@ each test (suc n) k all below =
     (λ (less : suc k < suc n). each test n k (and_right (test n) (every test n) all) (omega arith))
     (eq-or-lt_of_le below)
 
--- a kind with an argument has a byte in the limits
-pub limit-there : (kind : ℕ) → kind ≤ 8 → has_argument kind ≡ true → kind < 8
-limit-there =
-    nine (λ (k : ℕ). has_argument k ≡ true → k < 8) (λ h. lit< tt) (λ h. lit< tt) (λ h. lit< tt) (λ h. lit< tt) (λ h. lit< tt) (λ h. lit< tt) (λ h. lit< tt) (λ h. lit< tt)
-    (λ h. absurd (false≢true h))
+-- the entries of an empty stack
+pub zeros-below : (n j : ℕ) → get_or (replicate n 0) j 0 < 10
+zeros-below zero j = lit< tt
+zeros-below (suc n) zero = lit< tt
+zeros-below (suc n) (suc j) = zeros-below n j
 
--- the arguments of that kind are below it
-pub argument-limit : (variables kind x : ℕ) → variables ≤ 32 → kind ≤ 8 → has_argument kind ≡ true → (kind ≡ 1 → ⊥)
-    → ltb x ((0x120a_0a0a_0000_0900 + variables) / 2 ^ (8 * kind) % 256) ≡ argument_ok variables kind x
-argument-limit variables kind x few is has other =
-    nine (λ (k : ℕ). has_argument k ≡ true → (k ≡ 1 → ⊥) → ltb x ((0x120a_0a0a_0000_0900 + variables) / 2 ^ (8 * k) % 256) ≡ argument_ok variables k x)
-    (λ h o. let e : (0x120a_0a0a_0000_0900 + variables) / 1 % 256 ≡ variables = omega arith in rw e (simp or-false))
-    (λ h o. absurd (o refl))
-    (λ h o. absurd (false≢true h))
-    (λ h o. absurd (false≢true h))
-    (λ h o. let e : (0x120a_0a0a_0000_0900 + variables) / 2 ^ 32 % 256 ≡ 10 = omega arith in rw e (simp or-false))
-    (λ h o. let e : (0x120a_0a0a_0000_0900 + variables) / 2 ^ 40 % 256 ≡ 10 = omega arith in rw e (simp or-false))
-    (λ h o. let e : (0x120a_0a0a_0000_0900 + variables) / 2 ^ 48 % 256 ≡ 10 = omega arith in rw e (simp or-false))
-    (λ h o. let e : (0x120a_0a0a_0000_0900 + variables) / 2 ^ 56 % 256 ≡ 18 = omega arith in rw e)
-    (λ h o. absurd (false≢true h))
-    kind is has other
+-- by type, the place in the order of what operands are promoted to, and by two places the type
+abbrev rank : ℕ → ℕ
+rank a = get_or (0 ∷ 0 ∷ 0 ∷ 2 ∷ 0 ∷ 0 ∷ 1 ∷ 3 ∷ 3 ∷ 0 ∷ []) a 0
 
--- the order of promoted types
-abbrev pub ranked : ℕ → ℕ → ℕ
-ranked a b = 0x7362 / 2 ^ (4 * max (0x3d080 / 2 ^ (2 * a) % 4) (0x3d080 / 2 ^ (2 * b) % 4)) % 16
+abbrev ranked : ℕ → ℕ → ℕ
+ranked a b = get_or (2 ∷ 6 ∷ 3 ∷ 7 ∷ []) (max (rank a) (rank b)) 0
 
 right : ℕ → ℕ → Bool
-right a b = eqb (ranked a b) (together a b)
+right a b = ltb (max (rank a) (rank b)) 4 && eqb (ranked a b) (together a b)
+
+ranks-right : (a b : ℕ) → a < 10 → b < 10 → right a b ≡ true
+unfolding every right common promoted plain_type bits
+ranks-right a b h k = each (right a) 10 b (each (λ (x : ℕ). every (right x) 10) 10 a refl h) k
+
+pub rank-below : (a b : ℕ) → a < 10 → b < 10 → max (rank a) (rank b) < 4
+unfolding right
+rank-below a b h k = ltb-true _ _ (and_left (ltb (max (rank a) (rank b)) 4) (eqb (ranked a b) (together a b)) (ranks-right a b h k))
 
 pub ranked-is : (a b : ℕ) → a < 10 → b < 10 → ranked a b ≡ together a b
-unfolding every right common promoted plain_type bits
-ranked-is a b h k =
-    eqb-true (ranked a b) (together a b) (each (right a) 10 b (each (λ (x : ℕ). every (right x) 10) 10 a refl h) k)
+unfolding right
+ranked-is a b h k = eqb-true _ _ (and_right (ltb (max (rank a) (rank b)) 4) (eqb (ranked a b) (together a b)) (ranks-right a b h k))
 
 pub together-self : (a : ℕ) → together a a ≡ promoted a
 unfolding common

@@ -1,13 +1,10 @@
 -- Expressions of a sheet: a count, then records in postfix order that form one tree. A record's codes are judged as they come (2), the record itself
 -- at its last byte (7, then 8).
 use Rattle.std.specs.Prelude.{ℕ, zero, suc, ◌+◌, ◌-◌, ◌*◌, ◌^◌, List, [], ◌∷◌, ◌++◌, Bool, cond, not, ◌&&◌, ◌||◌, leb, ltb, eqb}
-use Rattle.refusal.specs.Numbers.{CODE, TREE, CONSTANT}
-use Rattle.sheet_field.specs.declared.Place.{Place}
-use Rattle.sheet_field.specs.declared.Field.{Field}
-use Rattle.sheet_field.specs.Field.{field_at, start_of, judge, check_field, code_at, count_at}
+use Rattle.refusal.specs.declared.Fault.TheVariants.{Code, Tree, Constant}
+use Rattle.sheet_field.specs.Field.{Place, FieldReading, field_at, start_of, judge, check_field, code_at, count_at}
 use Rattle.expr.specs.Codes.{kind_variable, kind_constant, kind_true, kind_false, kind_effect, kind_cast, kind_binary, kind_ternary, kind_count, type_count, operator_count}
 use Rattle.expr.specs.Tree.{arity_of}
-use Rattle.sheet_expression.specs.declared.RecordReading.{RecordReading}
 
 -- True, false and ternary have no argument; every other kind has one, a byte (S39, S44).
 abbrev pub has_argument : ℕ → Bool
@@ -22,13 +19,13 @@ argument_ok variables kind x =
     || (leb kind_effect kind && leb kind kind_cast && ltb x type_count)
     || (eqb kind kind_binary && ltb x operator_count)
 
-unfoldable pub argument_at : ℕ → ℕ → List ℕ → Place → Field
+unfoldable pub argument_at : ℕ → ℕ → List ℕ → Place → FieldReading
 argument_at variables kind s p =
     let f = field_at 1 s p in
-    cond (has_argument kind) (check_field (argument_ok variables kind f.value) CODE (start_of p) f) (record { value = 0; next = p })
+    cond (has_argument kind) (check_field (argument_ok variables kind f.value) Code (start_of p) f) (record { value = 0; next = p })
 
 -- A constant has a value of 8 bytes after its width (S38).
-unfoldable pub constant_at : ℕ → List ℕ → Place → Field
+unfoldable pub constant_at : ℕ → List ℕ → Place → FieldReading
 constant_at kind s p = cond (eqb kind kind_constant) (field_at 8 s p) (record { value = 0; next = p })
 
 -- Refusal 8: a constant of 1, 2 or 4 bytes is below 2 to the 8, 16 or 32; 8 bytes hold any value (R20).
@@ -43,6 +40,13 @@ fits_width kind width value =
 abbrev pub depth_after : ℕ → ℕ → ℕ
 depth_after depth arity = depth - arity + 1
 
+-- a record as it is read: its two words, how many trees are complete after it, and where reading has come to after it
+pub record RecordReading : Type 0 where
+  pub tag : ℕ
+  pub value : ℕ
+  pub depth : ℕ
+  pub next : Place
+
 -- A record, with `depth` complete trees before it and `left` records after it. Its checks are made at its last byte, in the order of their numbers:
 -- 7, a record lacks a child, reported at its kind byte; 7, after the last record there is more than one tree, reported at the byte after the
 -- expression; 8, a constant above its width, reported at its value (S36, S37, S38, S40, S41, S42, S43, R2, R4, R8, R18, R19, R20).
@@ -53,9 +57,9 @@ record_at variables depth left s p =
     let value = constant_at kind.value s argument.next in
     let tag = kind.value + 16 * argument.value in
     let after = depth_after depth (arity_of tag) in
-    let whole = judge (leb (arity_of tag) depth) TREE (start_of p) value.next in
-    let one = judge (not (eqb left 0) || eqb after 1) TREE (start_of value.next) whole in
-    let fits = judge (fits_width kind.value argument.value value.value) CONSTANT (start_of argument.next) one in
+    let whole = judge (leb (arity_of tag) depth) Tree (start_of p) value.next in
+    let one = judge (not (eqb left 0) || eqb after 1) Tree (start_of value.next) whole in
+    let fits = judge (fits_width kind.value argument.value value.value) Constant (start_of argument.next) one in
     record { tag = tag; value = value.value; depth = after; next = fits }
 
 -- what records that were read one after the other give: their words, how many trees are complete, and the offset after them

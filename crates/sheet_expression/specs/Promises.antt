@@ -1,15 +1,14 @@
 -- What the contracts of the readers give.
-use Rattle.std.specs.Prelude.{ℕ, ◌*◌, ◌≤◌, true, List, ◌++◌, ◌≡◌, length, drop}
-use Rattle.sheet_field.specs.declared.Place.{Place}
-use Rattle.sheet_field.specs.declared.Place.TheVariants.{At}
-use Rattle.sheet_field.specs.Field.{WentOn}
+use Rattle.std.specs.Prelude.{ℕ, ◌*◌, ◌≤◌, true, List, ◌++◌, ◌≡◌, length, drop, Result, Ok}
+use Rattle.refusal.specs.declared.Refusal.{Refusal}
+use Rattle.sheet_field.specs.Field.{Place, WentOn, read_as}
 use Rattle.expr.specs.Codes.{kind_ternary}
 use Rattle.expr.specs.Tree.{kind_of, argument_of, tree_of}
 use Rattle.expr.specs.Types.{type_of}
-use Rattle.sheet_expression.specs.declared.RecordReading.{RecordReading}
+use Rattle.sheet_expression.specs.declared.CheckedRecord.{CheckedRecord}
 use Rattle.sheet_expression.specs.declared.Checked.{Checked}
 use Rattle.sheet_expression.specs.declared.Record.{Record}
-use Rattle.sheet_expression.specs.Expression.{has_argument, argument_ok, record_at, Taken, expression_at}
+use Rattle.sheet_expression.specs.Expression.{has_argument, argument_ok, RecordReading, record_at, Taken, expression_at}
 
 -- What a reader of records leaves: how many they are, the offset, and a borrowed list that was `before` and is `after`: where
 -- reading went on, the words stand at its start, and the rest is as it was.
@@ -24,29 +23,27 @@ pub record Tagged (variables tag : ℕ) : Type 0 where
   pub kind : kind_of tag ≤ kind_ternary
   pub argument : has_argument (kind_of tag) ≡ true → argument_ok variables (kind_of tag) (argument_of tag) ≡ true
 
--- What the check of a record gives: the offset after it and, where reading went on, what reading the record gives.
-pub record CheckedRecord (r read : RecordReading) : Type 0 where
-  pub place : r.next ≡ read.next
-  pub whole : WentOn read.next → r ≡ read
+-- what the check of a record returns: how it was read, or the first refusal
+abbrev pub checked_record : RecordReading → Result CheckedRecord Refusal
+checked_record r = read_as r.next (λ end. record { tag = r.tag; depth = r.depth; end = end })
 
--- What the check of an expression gives: the offset after it and, where reading went on, its static type.
-pub record CheckedIs (r : Checked) (types : List ℕ) (t : Taken) : Type 0 where
-  pub place : r.next ≡ t.next
-  pub typing : WentOn t.next → r.typing ≡ type_of types (tree_of t.words)
+-- what the check of an expression returns: its static type and the offset after it, or the first refusal
+abbrev pub checked_expression : List ℕ → Taken → Result Checked Refusal
+checked_expression types t = read_as t.next (λ end. record { typing = type_of types (tree_of t.words); end = end })
 
 -- at this offset a record was read whole, or an expression, as one of so many variables
 pub record WholeRecord (s : List ℕ) (at : ℕ) : Type 0 where
   pub variables : ℕ
   pub depth : ℕ
   pub left : ℕ
-  pub on : WentOn (record_at variables depth left s (At at)).next
+  pub on : WentOn (record_at variables depth left s (Ok at)).next
 
 pub record WholeExpression (s : List ℕ) (from : ℕ) : Type 0 where
   pub variables : ℕ
-  pub on : WentOn (expression_at variables s (At from)).next
+  pub on : WentOn (expression_at variables s (Ok from)).next
 
 -- what a record that was read whole holds, and the offset after it
 pub record RecordIs (r : Record) (read : RecordReading) : Type 0 where
   pub tag : r.tag ≡ read.tag
   pub value : r.value ≡ read.value
-  pub place : At r.end ≡ read.next
+  pub place : Ok r.end ≡ read.next

@@ -1,182 +1,77 @@
-// Fields of a sheet: little-endian numbers of 1, 2 or 8 bytes, the offset that reading has reached, and the checks
-// made on the way. Once refused, reading stays refused, so the first refusal wins.
+// Fields of a sheet: little-endian numbers of up to 8 bytes, the offset that reading has reached, and the checks made on the
+// way.
 #![tactic(auto)]
 
-ghost use Rattle.std.specs.Prelude.{◌≡◌, ◌+◌, ◌<◌, ◌≤◌, length};
-ghost use Rattle.sheet_field.specs.Field.{little, bytes_of, field_at, start_of, is_refused, judge, keep, check_field, code_at, count_at};
+ghost use Rattle.std.specs.Prelude.{◌≡◌, ◌+◌, ◌≤◌, length, Ok, ℕ, Bool};
+ghost use Rattle.sheet_field.specs.Field.{little, field_at, Answers, tested_at, code_at, count_at, answer_of};
 
-// The state of reading: the next byte's offset, or the first refusal, its number and its offset.
-#[derive(Clone, Copy)]
-pub enum Place {
-    At(usize),
-    Refused(u64, usize),
-}
+use refusal::{Fault, Refusal};
 
-// What a field holds, 0 where it was refused, and the offset after it.
-#[derive(Clone, Copy)]
+// Where reading has come to: the next byte's offset, or the first refusal.
+pub type Place = Result<usize, Refusal>;
+
+// What a field holds, and the offset after it.
+#[derive(Clone, Copy, PartialEq, Eq, Debug)]
 pub struct Field {
     pub value: u64,
-    pub next: Place,
+    pub end: usize,
 }
 
-fn wide(byte: u8) -> u16
-    ensures { (result ≡ byte) × (result < 256) }
+// The number in the N bytes from an offset on.
+pub fn number<const N: usize>(s: &[u8], at: usize) -> u64
+    requires width { N ≤ 8 }
+    requires inside { at + N ≤ length s.now }
+    ensures { result ≡ little s.now at N }
 {
-    byte as u16
+    let mut bytes = [0; 8];
+    bytes[..N].copy_from_slice(&s[at..at + N]);
+    u64::from_le_bytes(bytes)
 }
 
-fn two(s: &[u8], at: usize) -> u16
-    requires { at + 2 ≤ length s.now }
-    ensures { result ≡ little s.now at 2 }
+// A field of N bytes.
+pub fn take_field<const N: usize>(s: &[u8], at: usize) -> Result<Field, Refusal>
+    requires { N ≤ 8 }
+    ensures { result ≡ answer_of (field_at N s.now (Ok at)) }
 {
-    wide(s[at]) + 256 * wide(s[at + 1])
-}
-
-fn four(s: &[u8], at: usize) -> u32
-    requires { at + 4 ≤ length s.now }
-    ensures { result ≡ little s.now at 4 }
-{
-    (two(s, at) as u32) + 65536 * (two(s, at + 2) as u32)
-}
-
-fn eight(s: &[u8], at: usize) -> u64
-    requires { at + 8 ≤ length s.now }
-    ensures { result ≡ little s.now at 8 }
-{
-    (four(s, at) as u64) + 4294967296 * (four(s, at + 4) as u64)
-}
-
-#[derive(Clone, Copy)]
-pub enum Width {
-    One,
-    Two,
-    Eight,
-}
-
-pub fn bytes(w: Width) -> usize
-    ensures { result ≡ bytes_of w }
-{
-    match w {
-        Width::One => 1,
-        Width::Two => 2,
-        Width::Eight => 8,
+    if at <= s.len() && N <= s.len() - at {
+        Ok(Field {
+            value: number::<N>(s, at),
+            end: at + N,
+        })
+    } else {
+        Err(Fault::Ends.at(at))
     }
 }
 
-// The number in as many bytes.
-pub fn number(s: &[u8], at: usize, w: Width) -> u64
-    requires { at + bytes_of w ≤ length s.now }
-    ensures { result ≡ little s.now at (bytes_of w) }
+// A field of N bytes that passes the check.
+pub fn take_checked<const N: usize, F: Fn(u64) -> bool>(
+    s: &[u8],
+    at: usize,
+    fault: Fault,
+    check: F,
+) -> Result<Field, Refusal>
+    requires width { N ≤ 8 }
+    requires callable { F.IsAlwaysCallable check }
+    ensures { (test : ℕ → Bool) → Answers (F.post check) test → result ≡ answer_of (tested_at N test fault s.now (Ok at)) }
 {
-    match w {
-        Width::One => wide(s[at]) as u64,
-        Width::Two => two(s, at) as u64,
-        Width::Eight => eight(s, at),
+    let f = take_field::<N>(s, at)?;
+    if check(f.value) {
+        Ok(f)
+    } else {
+        Err(fault.at(at))
     }
 }
 
-// A field of that width.
-pub fn take_field(s: &[u8], p: Place, w: Width) -> Field
-    ensures { result ≡ field_at (bytes_of w) s.now p }
+// A code byte below its table's end.
+pub fn code(s: &[u8], at: usize, limit: u64) -> Result<Field, Refusal>
+    ensures { result ≡ answer_of (code_at limit s.now (Ok at)) }
 {
-    match p {
-        Place::Refused(k, at) => Field {
-            value: 0,
-            next: Place::Refused(k, at),
-        },
-        Place::At(at) => {
-            let n = bytes(w);
-            if at <= s.len() {
-                if n <= s.len() - at {
-                    return Field {
-                        value: number(s, at, w),
-                        next: Place::At(at + n),
-                    };
-                }
-            }
-            Field {
-                value: 0,
-                next: Place::Refused(refusal::ENDS, at),
-            }
-        }
-    }
+    take_checked::<1, _>(s, at, Fault::Code, |x| x < limit)
 }
 
-// The offset itself: of the next byte, or of the refusal.
-pub fn start(p: Place) -> usize
-    ensures { result ≡ start_of p }
+// A count from least to most.
+pub fn count(s: &[u8], at: usize, least: u64, most: u64) -> Result<Field, Refusal>
+    ensures { result ≡ answer_of (count_at least most s.now (Ok at)) }
 {
-    match p {
-        Place::At(at) => at,
-        Place::Refused(_, at) => at,
-    }
-}
-
-// Whether reading was refused.
-pub fn is_refused(p: Place) -> bool
-    ensures { result ≡ is_refused p }
-{
-    match p {
-        Place::At(_) => false,
-        Place::Refused(_, _) => true,
-    }
-}
-
-// A check: where it fails, the refusal with that number and offset, unless one was made before.
-pub fn judged(p: Place, ok: bool, number: u64, at: usize) -> Place
-    ensures { result ≡ judge ok number at p }
-{
-    match p {
-        Place::Refused(k, place) => Place::Refused(k, place),
-        Place::At(next) => {
-            if ok {
-                Place::At(next)
-            } else {
-                Place::Refused(number, at)
-            }
-        }
-    }
-}
-
-// A value where reading went on, else 0.
-fn kept(p: Place, value: u64) -> u64
-    ensures { result ≡ keep p value }
-{
-    match p {
-        Place::At(_) => value,
-        Place::Refused(_, _) => 0,
-    }
-}
-
-// A check of a field, at whose start a refusal stands.
-pub fn checked(f: Field, ok: bool, number: u64, at: usize) -> Field
-    ensures { result ≡ check_field ok number at f }
-{
-    let before = f.next;
-    let next = judged(before, ok, number, at);
-    Field {
-        value: kept(next, f.value),
-        next,
-    }
-}
-
-// A code byte below limit, else 2.
-pub fn code(s: &[u8], p: Place, limit: u64) -> Field
-    ensures { result ≡ code_at limit s.now p }
-{
-    let f = take_field(s, p, Width::One);
-    checked(f, f.value < limit, refusal::CODE, start(p))
-}
-
-// A count from least to most, else 3.
-pub fn count(s: &[u8], p: Place, least: u64, most: u64) -> Field
-    ensures { result ≡ count_at least most s.now p }
-{
-    let f = take_field(s, p, Width::Two);
-    checked(
-        f,
-        (least <= f.value) & (f.value <= most),
-        refusal::COUNT,
-        start(p),
-    )
+    take_checked::<2, _>(s, at, Fault::Count, |x| (least <= x) & (x <= most))
 }

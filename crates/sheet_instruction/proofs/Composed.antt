@@ -1,142 +1,193 @@
--- A record from its checked stages: a refusal at one of them is the record's.
-use Prim.Native.Nat.{ℕ, ◌≤◌, ◌<◌}
+-- Heads, tails and whole records by their stages, as `Checks` has them.
+use Prim.Native.Nat.{ℕ, ◌<◌}
 use mathlib.Core.Path.{◌≡◌, refl, ap, sym, ◌∙◌}
 use mathlib.Core.List.{List}
-use mathlib.Core.Bool.{Bool, not}
-use native.Mathlib.Omega.{arith}
-use lib.ListN.{length}
-use Rattle.isa.specs.declared.Mnemonic.{Mnemonic}
-use Rattle.isa.specs.Mnemonics.{named}
+use mathlib.Core.Bool.{Bool, true, false, not}
+use Rattle.std.specs.Prelude.{Result, Ok, Err}
+use Rattle.refusal.specs.declared.Fault.TheVariants as fault
+use Rattle.refusal.specs.declared.Refusal.{Refusal}
+use Rattle.refusal.specs.Numbers.{refused}
 use Rattle.isa.specs.Promises.{fault_of}
-use Rattle.sheet_field.specs.declared.Place.{Place}
-use Rattle.sheet_field.specs.declared.Place.TheVariants.{At, Refused}
+use Rattle.isa.specs.Mnemonics.{named}
 use Rattle.sheet_field.specs.declared.Field.{Field}
-use Rattle.sheet_field.specs.Field.{field_at, check_field, code_at, judge, WentOn}
-use Rattle.sheet_field.proofs.Fields.{field-at, check-at, code-at}
+use Rattle.sheet_field.specs.Field.{Place, FieldReading, field_at, judge, check_field, code_at, answer_of}
+use Rattle.sheet_field.proofs.Fields.{code-at, answer_ok, answer_err, read_ok, read_err}
 use Rattle.sheet_instruction.specs.declared.Operands.{Operands}
 use Rattle.sheet_instruction.specs.declared.HeadCheck.{HeadCheck}
-use Rattle.sheet_instruction.specs.declared.Tail.{Tail}
 use Rattle.sheet_instruction.specs.declared.TailCheck.{TailCheck}
-use Rattle.sheet_instruction.specs.Instruction.{optional_registers, optional_operand, optional_field, optional_code, bit_of, map_at, address_at, head_at, tail_at, instruction_at}
-use Rattle.sheet_instruction.specs.Promises.{operands_at, HeadSeen, tail_seen}
+use Rattle.sheet_instruction.specs.Instruction.{registers_from, registers_at, Head, Tail, optional_registers, optional_field, optional_code, bit_of, map_at, address_at, head_at, tail_at, instruction_at}
+use Rattle.sheet_instruction.specs.Promises.{OperandsReading, operands_at, operands_of, head_of, tail_of}
 use Rattle.sheet_instruction.proofs.Checks.{operand-stays, written-stays, code_stays, field-stays}
 
--- a refusal behind the operands, or before them
-behind-operands : (map : ℕ) (s : List ℕ) (p : Place) {q : Place} {k a : ℕ} → q ≡ (operands_at map s p).next → q ≡ Refused k a → q ≡ (tail_at map s p).next
-unfolding tail_at
-behind-operands map s p q-is e =
-    code_stays (bit_of map 32) 32 s e
-    ∙ ap (λ (x : Place). (optional_code (bit_of map 32) 32 s x).next) (written-stays (bit_of map 16) s e)
-    ∙ rw q-is
+-- what was read where its bit stands, and else not
+pub registers_there : (there : Bool) (s : List ℕ) (p : ℕ) {q : Place} → (there ≡ true → q ≡ (registers_at s (Ok p)).next) → (there ≡ false → q ≡ Ok p)
+    → (optional_registers there s (Ok p)).next ≡ q
+unfolding registers_from
+registers_there true s p h k = sym (h refl)
+registers_there false s p h k = sym (k refl)
 
-tail-stays : (map : ℕ) (s : List ℕ) {p : Place} {k a : ℕ} → p ≡ Refused k a → p ≡ (tail_at map s p).next
-tail-stays map s {p} e =
-    behind-operands map s p
-    (operand-stays (bit_of map 8) s e ∙ ap (λ (x : Place). (optional_operand (bit_of map 8) s x).next) (operand-stays (bit_of map 4) s e))
-    e
+pub code_there : (there : Bool) (s : List ℕ) (p : ℕ) {f : Result Field Refusal} → (there ≡ true → f ≡ answer_of (code_at 32 s (Ok p)))
+    → (there ≡ false → f ≡ Ok (record { value = 0; end = p })) → answer_of (optional_code there 32 s (Ok p)) ≡ f
+code_there true s p h k = sym (h refl)
+code_there false s p h k = sym (k refl)
+
+pub field_there : (there : Bool) (s : List ℕ) (p : ℕ) {f : Result Field Refusal} → (there ≡ true → f ≡ answer_of (field_at 8 s (Ok p)))
+    → (there ≡ false → f ≡ Ok (record { value = 0; end = p })) → answer_of (optional_field there s (Ok p)) ≡ f
+field_there true s p h k = sym (h refl)
+field_there false s p h k = sym (k refl)
+
+-- both operands as they were read
+the-operands : OperandsReading → ℕ → Operands
+the-operands both end = record { first = both.first; second = both.second; end = end }
+
+both-stop : (both : OperandsReading) {r : Refusal} → operands_of both ≡ Err r → both.next ≡ Err r
+unfolding the-operands
+both-stop both e = read_err both.next (λ (end : ℕ). the-operands both end) e
+
+both-are : (both : OperandsReading) {x : Operands} → operands_of both ≡ Ok x → both ≡ record { first = x.first; second = x.second; next = Ok x.end }
+unfolding the-operands
+both-are both e =
+    let t = read_ok both.next (λ (end : ℕ). the-operands both end) e in
+    rw t.2 (rw (← t.1) refl)
+
+-- a refusal where a tail starts, or behind its operands
+behind-operands : (map : ℕ) (s : List ℕ) (p : Place) {r : Refusal} → (operands_at map s p).next ≡ Err r → (tail_at map s p).next ≡ Err r
+unfolding tail_at
+behind-operands map s p e = code_stays (bit_of map 32) 32 s (written-stays (bit_of map 16) s e)
+
+tail-stays : (map : ℕ) (s : List ℕ) {p : Place} {r : Refusal} → p ≡ Err r → (tail_at map s p).next ≡ Err r
+tail-stays map s {p} e = behind-operands map s p (operand-stays (bit_of map 8) s (operand-stays (bit_of map 4) s e))
 
 -- a tail
-module _ (map : ℕ) (s : List ℕ) (at : ℕ) {both : Operands}
-    (both_is : (both.next ≡ (operands_at map s (At at)).next) × (WentOn both.next → both ≡ operands_at map s (At at))) where
-  pub operands-refused : {k a : ℕ} → both.next ≡ Refused k a → both.next ≡ (tail_at map s (At at)).next
-  operands-refused e = behind-operands map s (At at) both_is.0 e
+pub operands_refused : (map : ℕ) (s : List ℕ) (at : ℕ) {r : Refusal} → operands_of (operands_at map s (Ok at)) ≡ Err r → tail_of (tail_at map s (Ok at)) ≡ Err r
+operands_refused map s at e = rw (behind-operands map s (Ok at) (both-stop (operands_at map s (Ok at)) e)) refl
 
-  module _ {p : ℕ} {b16 : Bool} {q : Place} (behind : both.next ≡ At p) (b16-is : b16 ≡ bit_of map 16) (q-is : q ≡ (optional_registers b16 s (At p)).next) where
-    written-place : q ≡ (optional_registers (bit_of map 16) s (operands_at map s (At at)).next).next
-    written-place = q-is ∙ rw (b16-is, ← both_is.0, behind)
+module _ (map : ℕ) (s : List ℕ) (at : ℕ) {both : Operands} (both_is : operands_of (operands_at map s (Ok at)) ≡ Ok both) where
+  both-read : operands_at map s (Ok at) ≡ record { first = both.first; second = both.second; next = Ok both.end }
+  both-read = both-are (operands_at map s (Ok at)) both_is
 
-    pub written-refused : {k a : ℕ} → q ≡ Refused k a → q ≡ (tail_at map s (At at)).next
+  first-is : (operands_at map s (Ok at)).first ≡ both.first
+  first-is = ap (λ (o : OperandsReading). o.first) both-read
+
+  second-is : (operands_at map s (Ok at)).second ≡ both.second
+  second-is = ap (λ (o : OperandsReading). o.second) both-read
+
+  place : (operands_at map s (Ok at)).next ≡ Ok both.end
+  place = ap (λ (o : OperandsReading). o.next) both-read
+
+  pub written_refused : {r : Refusal} → (optional_registers (bit_of map 16) s (Ok both.end)).next ≡ Err r → tail_of (tail_at map s (Ok at)) ≡ Err r
+  unfolding tail_at
+  written_refused {r} e =
+      let written : (optional_registers (bit_of map 16) s (operands_at map s (Ok at)).next).next ≡ Err r = rw place e in
+      rw (code_stays (bit_of map 32) 32 s written) refl
+
+  module _ {end : ℕ} (written : (optional_registers (bit_of map 16) s (Ok both.end)).next ≡ Ok end) where
+    pub flags_refused : {r : Refusal} → answer_of (optional_code (bit_of map 32) 32 s (Ok end)) ≡ Err r → tail_of (tail_at map s (Ok at)) ≡ Err r
     unfolding tail_at
-    written-refused e = code_stays (bit_of map 32) 32 s e ∙ rw written-place
+    flags_refused e = rw (place, written, answer_err (optional_code (bit_of map 32) 32 s (Ok end)) e) refl
 
-    pub tail-are : {b : ℕ} {b32 : Bool} {f : Field} → q ≡ At b → b32 ≡ bit_of map 32 → f ≡ optional_code b32 32 s (At b)
-        → (f.next ≡ (tail_at map s (At at)).next)
-        × (WentOn f.next → ◌≡◌ {A = TailCheck} (record { first = both.first; second = both.second; flags = f.value; next = f.next }) (tail_seen (tail_at map s (At at))))
+    pub tail_ok : {f : Field} → answer_of (optional_code (bit_of map 32) 32 s (Ok end)) ≡ Ok f
+        → tail_of (tail_at map s (Ok at)) ≡ Ok (record { first = both.first; second = both.second; flags = f.value; end = f.end })
     unfolding tail_at
-    tail-are {f = f} went b32-is f-is =
-        let flags : f ≡ optional_code (bit_of map 32) 32 s (optional_registers (bit_of map 16) s (operands_at map s (At at)).next).next =
-        f-is ∙ rw (b32-is, ← written-place, went) in
-        (ap (λ (x : Field). x.next) flags, λ on. rw (both_is.1 (p, behind), flags))
+    tail_ok e = rw (first-is, second-is, place, written, answer_ok (optional_code (bit_of map 32) 32 s (Ok end)) e) refl
 
 -- a head
-module _ (opens : Bool) (last : ℕ) (s : List ℕ) (at : ℕ) {map : Field} (map_is : map ≡ map_at s (At at)) where
-  pub map-refused : {k a : ℕ} → map.next ≡ Refused k a → map.next ≡ (head_at opens last s (At at)).next
+module _ (opens : Bool) (last : ℕ) (s : List ℕ) (at : ℕ) where
+  pub map_refused : {r : Refusal} → answer_of (map_at s (Ok at)) ≡ Err r → head_of (head_at opens last s (Ok at)) ≡ Err r
   unfolding head_at address_at code_at check_field field_at
-  map-refused e = rw (← map_is, e) (field-stays (bit_of map.value 1) s refl)
+  map_refused {r} e =
+      let map = map_at s (Ok at) in
+      rw (answer_err map e) (rw (field-stays (bit_of map.value 1) s {p = Err r} {r = r} refl) refl)
 
-  pub map-inside : {a : ℕ} → map.next ≡ At a → a ≤ length s
-  unfolding map_at
-  map-inside e = let w = field-at 1 s (At at) (check-at _ 2 at (field_at 1 s (At at)) (rw map_is at e)).1 in omega (arith, w.after, w.inside)
+  module _ {map : Field} (map-is : answer_of (map_at s (Ok at)) ≡ Ok map) where
+    map-read : map_at s (Ok at) ≡ record { value = map.value; next = Ok map.end }
+    map-read = answer_ok (map_at s (Ok at)) map-is
 
-  module _ {a : ℕ} (After-map : map.next ≡ At a) {q : Place} (q-is : q ≡ (address_at opens last s (At a)).next) where
-    address-place : q ≡ (address_at opens last s (map_at s (At at)).next).next
-    address-place = q-is ∙ rw (← map_is, After-map)
-
-    pub address-refused : {k b : ℕ} → q ≡ Refused k b → q ≡ (head_at opens last s (At at)).next
+    pub address_refused : {r : Refusal} → answer_of (address_at opens last s (Ok map.end)) ≡ Err r → head_of (head_at opens last s (Ok at)) ≡ Err r
     unfolding head_at code_at check_field field_at
-    address-refused e = rw (← address-place, e) (field-stays (bit_of (map_at s (At at)).value 1) s refl)
+    address_refused {r} e =
+        rw (map-read, answer_err (address_at opens last s (Ok map.end)) e) (rw (field-stays (bit_of map.value 1) s {p = Err r} {r = r} refl) refl)
 
-    module _ {c : ℕ} (after-address : q ≡ At c) {number : Field} (number_is : number ≡ code_at 35 s (At c)) where
-      number-place : number ≡ code_at 35 s (address_at opens last s (map_at s (At at)).next).next
-      number-place = number_is ∙ rw (← address-place, after-address)
+    module _ {address : Field} (address-is : answer_of (address_at opens last s (Ok map.end)) ≡ Ok address) where
+      address-read : address_at opens last s (Ok map.end) ≡ record { value = address.value; next = Ok address.end }
+      address-read = answer_ok (address_at opens last s (Ok map.end)) address-is
 
-      pub number-refused : {k b : ℕ} → number.next ≡ Refused k b → number.next ≡ (head_at opens last s (At at)).next
+      pub number_refused : {r : Refusal} → answer_of (code_at 35 s (Ok address.end)) ≡ Err r → head_of (head_at opens last s (Ok at)) ≡ Err r
       unfolding head_at
-      number-refused e = field-stays (bit_of (map_at s (At at)).value 1) s e ∙ rw number-place
+      number_refused e =
+          rw (map-read, address-read) (rw (field-stays (bit_of map.value 1) s (answer_err (code_at 35 s (Ok address.end)) e)) refl)
 
-      pub head-are : {t : ℕ} {branch : Bool} {r : Place} → number.next ≡ At t → branch ≡ bit_of map.value 1 → r ≡ (optional_field branch s (At t)).next
-          → (r ≡ (head_at opens last s (At at)).next)
-          × (WentOn r → HeadSeen (record { map = map.value; number = number.value; next = r }) (head_at opens last s (At at)))
-      unfolding head_at
-      head-are went branch-is r-is = (
-        r-is ∙ rw (branch-is, ← went, number-place, map_is),
-        λ on. record {
-          map = rw map_is;
-          below = rw number_is (code-at 35 s (At c) (rw number_is at went)).below;
-          mnemonic = rw number-place;
-        },
-      )
+      module _ {number : Field} (number-is : answer_of (code_at 35 s (Ok address.end)) ≡ Ok number) where
+        number-read : code_at 35 s (Ok address.end) ≡ record { value = number.value; next = Ok number.end }
+        number-read = answer_ok (code_at 35 s (Ok address.end)) number-is
+
+        pub target_refused : {r : Refusal} → answer_of (optional_field (bit_of map.value 1) s (Ok number.end)) ≡ Err r → head_of (head_at opens last s (Ok at)) ≡ Err r
+        unfolding head_at
+        target_refused e =
+            rw (map-read, address-read, number-read) (rw (answer_err (optional_field (bit_of map.value 1) s (Ok number.end)) e) refl)
+
+        pub head_ok : {target : Field} → answer_of (optional_field (bit_of map.value 1) s (Ok number.end)) ≡ Ok target
+            → head_of (head_at opens last s (Ok at)) ≡ Ok (record { map = map.value; mnemonic = named number.value; end = target.end })
+        unfolding head_at
+        head_ok e = rw (map-read, address-read, number-read, answer_ok (optional_field (bit_of map.value 1) s (Ok number.end)) e) refl
+
+pub number_below : (s : List ℕ) (p : Place) {x : Field} → answer_of (code_at 35 s p) ≡ Ok x → x.value < 35
+number_below s p e =
+    let is = answer_ok (code_at 35 s p) e in
+    let c = code-at 35 s p (ap (λ (f : FieldReading). f.next) is) in
+    rw is at c.below
 
 -- a record
-judge-stays : (ok : Bool) (n at : ℕ) {p q : Place} {k a : ℕ} → p ≡ q → p ≡ Refused k a → p ≡ judge ok n at q
-judge-stays ok n at same e = rw (← same, e)
+the-head : Head → ℕ → HeadCheck
+the-head head end = record { map = head.map; mnemonic = head.mnemonic; end = end }
 
-module _ (opens : Bool) (last : ℕ) (s : List ℕ) (at : ℕ) {head : HeadCheck}
-    (head-is : (head.next ≡ (head_at opens last s (At at)).next) × (WentOn head.next → HeadSeen head (head_at opens last s (At at)))) where
-  pub head-refused : {k a : ℕ} → head.next ≡ Refused k a → head.next ≡ (instruction_at opens last s (At at)).next
-  unfolding instruction_at
-  head-refused e =
-      let whole = head_at opens last s (At at) in
-      let behind : head.next ≡ (tail_at whole.map s whole.next).next = tail-stays whole.map s e ∙ rw head-is.0 in
-      judge-stays _ 6 at behind e
+the-tail : Tail → ℕ → TailCheck
+the-tail tail end = record { first = tail.first; second = tail.second; flags = tail.flags; end = end }
 
-  module _ {p : ℕ} (after-head : head.next ≡ At p) {tail : TailCheck}
-      (tail-is : (tail.next ≡ (tail_at head.map s (At p)).next) × (WentOn tail.next → tail ≡ tail_seen (tail_at head.map s (At p)))) where
-    seen : HeadSeen head (head_at opens last s (At at))
-    seen = head-is.1 (p, after-head)
+module _ (opens : Bool) (last : ℕ) (s : List ℕ) (at : ℕ) where
+  pub head_refused : {r : Refusal} → head_of (head_at opens last s (Ok at)) ≡ Err r → (instruction_at opens last s (Ok at)).next ≡ Err r
+  unfolding instruction_at the-head
+  head_refused e =
+      let head = head_at opens last s (Ok at) in
+      rw (tail-stays head.map s (read_err head.next (λ (end : ℕ). the-head head end) e)) refl
 
-    whole-tail : Tail
-    whole-tail = tail_at (head_at opens last s (At at)).map s (head_at opens last s (At at)).next
+  module _ {head : HeadCheck} (head-is : head_of (head_at opens last s (Ok at)) ≡ Ok head) where
+    head-read : (b : ℕ) × ((head_at opens last s (Ok at)).next ≡ Ok b) × (head ≡ the-head (head_at opens last s (Ok at)) b)
+    unfolding the-head
+    head-read = read_ok (head_at opens last s (Ok at)).next (λ (end : ℕ). the-head (head_at opens last s (Ok at)) end) head-is
 
-    same : tail_at head.map s (At p) ≡ whole-tail
-    unfolding whole-tail
-    same = rw (seen.map, ← head-is.0, after-head)
+    head-end : (head_at opens last s (Ok at)).next ≡ Ok head.end
+    unfolding the-head
+    head-end = head-read.1 ∙ ap Ok (sym (ap (λ (h : HeadCheck). h.end) head-read.2))
 
-    tail-place : tail.next ≡ whole-tail.next
-    tail-place = tail-is.0 ∙ ap (λ (t : Tail). t.next) same
+    map-seen : (head_at opens last s (Ok at)).map ≡ head.map
+    unfolding the-head
+    map-seen = sym (ap (λ (h : HeadCheck). h.map) head-read.2)
 
-    pub tail-refused : {k a : ℕ} → tail.next ≡ Refused k a → tail.next ≡ (instruction_at opens last s (At at)).next
-    unfolding instruction_at whole-tail
-    tail-refused e = judge-stays _ 6 at tail-place e
+    mnemonic-seen : (head_at opens last s (Ok at)).mnemonic ≡ head.mnemonic
+    unfolding the-head
+    mnemonic-seen = sym (ap (λ (h : HeadCheck). h.mnemonic) head-read.2)
 
-    pub number-below : head.number < 35
-    number-below = seen.below
+    pub tail_refused : {r : Refusal} → tail_of (tail_at head.map s (Ok head.end)) ≡ Err r → (instruction_at opens last s (Ok at)).next ≡ Err r
+    unfolding instruction_at the-tail
+    tail_refused e =
+        let tail = tail_at head.map s (Ok head.end) in
+        rw (map-seen, head-end, read_err tail.next (λ (end : ℕ). the-tail tail end) e) refl
 
-    pub instruction-judged : {b : ℕ} {m : Mnemonic} {call fault : Bool} → tail.next ≡ At b → m ≡ named head.number → call ≡ bit_of head.map 2
-        → fault ≡ fault_of m call tail.first tail.second tail.flags
-        → judge (not fault) 6 at (At b) ≡ (instruction_at opens last s (At at)).next
-    unfolding instruction_at whole-tail
-    instruction-judged {b} went m-is call-is fault-is =
-        let whole : tail ≡ tail_seen whole-tail = tail-is.1 (b, went) ∙ ap tail_seen same in
-        let end : At b ≡ whole-tail.next = sym went ∙ tail-place in
-        rw (fault-is, m-is, call-is, seen.mnemonic, seen.map, whole, ← end)
+    module _ {tail : TailCheck} (tail-is : tail_of (tail_at head.map s (Ok head.end)) ≡ Ok tail) where
+      tail-read : (b : ℕ) × ((tail_at head.map s (Ok head.end)).next ≡ Ok b) × (tail ≡ the-tail (tail_at head.map s (Ok head.end)) b)
+      unfolding the-tail
+      tail-read = read_ok (tail_at head.map s (Ok head.end)).next (λ (end : ℕ). the-tail (tail_at head.map s (Ok head.end)) end) tail-is
+
+      judged : judge (not (fault_of head.mnemonic (bit_of head.map 2) tail.first tail.second tail.flags)) fault.Instruction at (Ok tail.end)
+          ≡ (instruction_at opens last s (Ok at)).next
+      unfolding instruction_at the-tail
+      judged = rw (tail-read.2, map-seen, mnemonic-seen, head-end, tail-read.1) refl
+
+      pub instruction_taken : fault_of head.mnemonic (bit_of head.map 2) tail.first tail.second tail.flags ≡ false
+          → (instruction_at opens last s (Ok at)).next ≡ Ok tail.end
+      instruction_taken e = sym (rw e at judged)
+
+      pub instruction_failed : fault_of head.mnemonic (bit_of head.map 2) tail.first tail.second tail.flags ≡ true
+          → (instruction_at opens last s (Ok at)).next ≡ Err (refused fault.Instruction at)
+      instruction_failed e = sym (rw e at judged)

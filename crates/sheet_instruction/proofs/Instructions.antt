@@ -5,8 +5,8 @@ use mathlib.Core.List.{List}
 use lib.ListN.{set}
 use native.Mathlib.Numerals.{add-one}
 use Rattle.isa.specs.declared.Register.{Register}
-use Rattle.sheet_field.specs.declared.Place.{Place}
-use Rattle.sheet_instruction.specs.declared.RegisterReading.{RegisterReading}
+use Rattle.sheet_field.specs.Field.{Place}
+use Rattle.sheet_instruction.specs.Instruction.{RegisterReading}
 use Rattle.sheet_instruction.specs.Instruction.{register_at, with_register, registers_from}
 
 pub registers-count : (s : List ℕ) (p : Place) (k : ℕ) → (registers_from s p k).count ≡ k

@@ -9,30 +9,29 @@ use lib.ListN.{length, get_or, take, drop, length-drop}
 use lib.Seq.{length-take-le}
 use Rattle.expr.specs.Tree.{Wf}
 use Rattle.expr.specs.Statement.{Statement}
-use Rattle.sheet_field.specs.declared.Place.{Place}
-use Rattle.sheet_field.specs.declared.Place.TheVariants.{At}
-use Rattle.sheet_field.specs.Field.{field_at, start_of, code_at, count_at, WentOn}
+use Rattle.std.specs.Prelude.{Ok}
+use Rattle.refusal.specs.declared.Fault.TheVariants.{Code, Typing}
+use Rattle.sheet_field.specs.Field.{Place, field_at, start_of, code_at, count_at, WentOn}
 use Rattle.sheet_field.proofs.Fields.{judge-at, check-at, field-at, code-at, count_most, count-on}
 use Rattle.sheet_expression.specs.Expression.{expression_at}
 use Rattle.sheet_expression.proofs.Accepted.{one-tree}
 use Rattle.sheet_field.proofs.Counted.{back, counted, nth}
 use Rattle.sheet_node.proofs.Nodes.{types-keep, statements-keep, addresses-keep, types-inside}
-use Rattle.sheet_node.specs.declared.NodeReading.{NodeReading}
-use Rattle.sheet_node.specs.Node.{map_at, assignment_at, statement_at, statement_of, statements_from, types_from, types_of, addresses_from, node_at, types_in}
+use Rattle.sheet_node.specs.Node.{NodeReading, map_at, assignment_at, statement_at, statement_of, statements_from, types_from, types_of, addresses_from, node_at, types_in}
 use Rattle.sheet_node.specs.Promises.{ReadNode, addresses_end}
 
-map_on : (s : List ℕ) (p : Place) {a : ℕ} → (map_at s p).next ≡ At a → WentOn p
+map_on : (s : List ℕ) (p : Place) {a : ℕ} → (map_at s p).next ≡ Ok a → WentOn p
 unfolding map_at
-map_on s p e = let w = field-at 1 s p (check-at _ 2 (start_of p) (field_at 1 s p) e).1 in (w.from, w.there)
+map_on s p e = let w = field-at 1 s p (check-at _ Code (start_of p) (field_at 1 s p) e).1 in (w.from, w.there)
 
-pub assignment-on : (types : List ℕ) (begin : ℕ) (s : List ℕ) (p : Place) {a : ℕ} → (assignment_at types begin s p).next ≡ At a → WentOn p
+pub assignment-on : (types : List ℕ) (begin : ℕ) (s : List ℕ) (p : Place) {a : ℕ} → (assignment_at types begin s p).next ≡ Ok a → WentOn p
 unfolding assignment_at
 assignment-on types begin s p e =
-    let value = one-tree (length types) s _ (judge-at _ 9 begin _ e).1 in
+    let value = one-tree (length types) s _ (judge-at _ Typing begin _ e).1 in
     let w = (code-at (length types) s p value.there).whole in
     (w.from, w.there)
 
-pub statement-on : (types s : List ℕ) (p : Place) {a : ℕ} → (statement_at types s p).next ≡ At a → WentOn p
+pub statement-on : (types s : List ℕ) (p : Place) {a : ℕ} → (statement_at types s p).next ≡ Ok a → WentOn p
 unfolding statement_at
 statement-on types s p e = go (eqb (map_at s p).value 3) refl
   where
@@ -40,20 +39,20 @@ statement-on types s p e = go (eqb (map_at s p).value 3) refl
     go true q = map_on s p (assignment-on types (start_of p) s (map_at s p).next (rw q at e)).1
     go false q = map_on s p (rw q at e)
 
-pub statements-on : (types s : List ℕ) (p : Place) (k : ℕ) {a : ℕ} → (statements_from types s p k).next ≡ At a → WentOn p
+pub statements-on : (types s : List ℕ) (p : Place) (k : ℕ) {a : ℕ} → (statements_from types s p k).next ≡ Ok a → WentOn p
 unfolding statements_from
 statements-on types s p k e = back (λ j. (statements_from types s p j).next) (statements-keep types s p) k 0 e (omega arith)
 
-pub types-on : (s : List ℕ) (p : Place) (k : ℕ) {a : ℕ} → types_from s p k ≡ At a → WentOn p
+pub types-on : (s : List ℕ) (p : Place) (k : ℕ) {a : ℕ} → types_from s p k ≡ Ok a → WentOn p
 unfolding types_from
 types-on s p k e = back (λ j. types_from s p j) (types-keep s p) k 0 e (omega arith)
 
-addresses-on : (s : List ℕ) (p : Place) (k : ℕ) {a : ℕ} → (addresses_from s p k).next ≡ At a → WentOn p
+pub addresses-on : (s : List ℕ) (p : Place) (k : ℕ) {a : ℕ} → (addresses_from s p k).next ≡ Ok a → WentOn p
 unfolding addresses_from
 addresses-on s p k e = back (λ j. (addresses_from s p j).next) (addresses-keep s p) k 0 e (omega arith)
 
 -- statements that were read whole were so one by one
-pub statements-back : (types s : List ℕ) (p : Place) (k j : ℕ) {a : ℕ} → (statements_from types s p k).next ≡ At a → j ≤ k
+pub statements-back : (types s : List ℕ) (p : Place) (k j : ℕ) {a : ℕ} → (statements_from types s p k).next ≡ Ok a → j ≤ k
     → WentOn (statements_from types s p j).next
 statements-back types s p = back (λ j. (statements_from types s p j).next) (statements-keep types s p)
 
@@ -83,7 +82,7 @@ pub record Assigned (types s : List ℕ) (p : Place) : Type 0 where
   pub short : length (statement_at types s p).words ≤ 256
   pub declared : (statement_at types s p).variable < length types
 
-pub assigned : (types s : List ℕ) (p : Place) {a : ℕ} → (statement_at types s p).next ≡ At a → (statement_at types s p).assigned ≡ true
+pub assigned : (types s : List ℕ) (p : Place) {a : ℕ} → (statement_at types s p).next ≡ Ok a → (statement_at types s p).assigned ≡ true
     → Assigned types s p
 unfolding statement_at assignment_at
 assigned types s p e there = go (eqb (map_at s p).value 3) refl
@@ -91,7 +90,7 @@ assigned types s p e there = go (eqb (map_at s p).value 3) refl
     go : (t : Bool) → eqb (map_at s p).value 3 ≡ t → Assigned types s p
     go true q =
         let v = code_at (length types) s (map_at s p).next in
-        let value = one-tree (length types) s v.next (judge-at _ 9 (start_of p) _ (rw q at e)).1 in
+        let value = one-tree (length types) s v.next (judge-at _ Typing (start_of p) _ (rw q at e)).1 in
         let code = code-at (length types) s (map_at s p).next value.there in
         record { tree = rw q value.tree; short = rw q value.short; declared = rw q code.below }
     go false q = let z : false ≡ true = rw q at there in absurd (false≢true z)
@@ -109,10 +108,10 @@ pub record Parts (s : List ℕ) (node : NodeReading) (types : List ℕ) : Type 0
   pub sites : (count_at 0 16 s (expression_at (length types) s node.condition).next).next ≡ node.sites
   pub end : addresses_end s (expression_at (length types) s node.condition).next ≡ node.next
 
-types-whole : {end : Place} {a : ℕ} (from n : ℕ) (s : List ℕ) → end ≡ At a → types_of end from n s ≡ take n (drop from s)
+types-whole : {end : Place} {a : ℕ} (from n : ℕ) (s : List ℕ) → end ≡ Ok a → types_of end from n s ≡ take n (drop from s)
 types-whole from n s e = rw e
 
-pub whole-node : (s : List ℕ) (p : Place) {a : ℕ} → (node_at s p).next ≡ At a → Parts s (node_at s p) (types_in s (node_at s p))
+pub whole-node : (s : List ℕ) (p : Place) {a : ℕ} → (node_at s p).next ≡ Ok a → Parts s (node_at s p) (types_in s (node_at s p))
 unfolding node_at addresses_end
 whole-node s p e =
     let v = count_at 0 32 s p in

@@ -1,17 +1,16 @@
 -- Laws of a node's parts.
-use Prim.Native.Nat.{ℕ, zero, suc, ◌+◌, ◌≤◌}
+use Prim.Native.Nat.{ℕ, zero, suc, ◌+◌, ◌*◌, ◌≤◌, ◌<◌}
 use mathlib.Core.Path.{◌≡◌, sym, ap, ◌∙◌}
 use mathlib.Core.List.{List}
-use mathlib.Core.Bool.{true}
 use native.Mathlib.Omega.{arith}
 use native.Mathlib.Numerals.{add-one}
 use lib.ListN.{length, length-take}
-use Rattle.sheet_field.specs.declared.Place.{Place}
-use Rattle.sheet_field.specs.declared.Place.TheVariants.{At, Refused}
+use Rattle.std.specs.Prelude.{Ok, Err}
+use Rattle.refusal.specs.declared.Refusal.{Refusal}
 use Rattle.sheet_field.specs.declared.Field.{Field}
-use Rattle.sheet_field.specs.Field.{field_at, code_at, check_field, count_at, start_of, is_refused}
-use Rattle.sheet_field.proofs.Fields.{code-at, count_at_lem, count_most}
-use Rattle.sheet_field.proofs.Counted.{stopped}
+use Rattle.sheet_field.specs.Field.{Place, FieldReading, field_at, code_at, check_field, count_at, start_of, answer_of}
+use Rattle.sheet_field.proofs.Fields.{code-at, field-at, count_at_lem, count_most, answer_ok, answer_err}
+use Rattle.sheet_field.proofs.Counted.{stays}
 use Rattle.sheet_node.specs.Node.{map_at, statement_at, statements_from, types_from, types_of, addresses_from}
 
 -- one type, statement or address more
@@ -30,34 +29,43 @@ unfolding addresses_from
 addresses-more s p k = rw (add-one k)
 
 -- one that is read where reading was refused leaves the refusal
-pub types-keep : (s : List ℕ) (p : Place) (j k at : ℕ) → types_from s p j ≡ Refused k at → types_from s p (suc j) ≡ Refused k at
+pub types-keep : (s : List ℕ) (p : Place) (j : ℕ) (r : Refusal) → types_from s p j ≡ Err r → types_from s p (suc j) ≡ Err r
 unfolding types_from code_at check_field field_at
-types-keep s p j k at e = rw e
+types-keep s p j r e = rw e
 
-pub statements-keep : (types s : List ℕ) (p : Place) (j k at : ℕ) → (statements_from types s p j).next ≡ Refused k at
-    → (statements_from types s p (suc j)).next ≡ Refused k at
+pub statements-keep : (types s : List ℕ) (p : Place) (j : ℕ) (r : Refusal) → (statements_from types s p j).next ≡ Err r
+    → (statements_from types s p (suc j)).next ≡ Err r
 unfolding statements_from statement_at map_at check_field field_at
-statements-keep types s p j k at e = rw e
+statements-keep types s p j r e = rw e
 
-pub addresses-keep : (s : List ℕ) (p : Place) (j k at : ℕ) → (addresses_from s p j).next ≡ Refused k at
-    → (addresses_from s p (suc j)).next ≡ Refused k at
+pub addresses-keep : (s : List ℕ) (p : Place) (j : ℕ) (r : Refusal) → (addresses_from s p j).next ≡ Err r
+    → (addresses_from s p (suc j)).next ≡ Err r
 unfolding addresses_from field_at
-addresses-keep s p j k at e = rw e
+addresses-keep s p j r e = rw e
 
--- so a loop may end there
-pub types-stopped : (s : List ℕ) (p : Place) (n j : ℕ) (q : Place) → q ≡ types_from s p j → is_refused q ≡ true → j ≤ n → q ≡ types_from s p n
-types-stopped s p = stopped (λ j. types_from s p j) (types-keep s p)
+-- one type more, and where it is refused
+module _ (s : List ℕ) (from i : ℕ) {at : ℕ} (here : Ok at ≡ types_from s (Ok from) i) where
+  pub type-read : {f : Field} → answer_of (code_at 10 s (Ok at)) ≡ Ok f → Ok f.end ≡ types_from s (Ok from) (i + 1)
+  type-read e = sym (ap (λ (x : FieldReading). x.next) (answer_ok (code_at 10 s (Ok at)) e)) ∙ rw here (types_more s (Ok from) i)
 
-pub statements-stopped : (types s : List ℕ) (p : Place) (n j : ℕ) (q : Place) → q ≡ (statements_from types s p j).next → is_refused q ≡ true
-    → j ≤ n → q ≡ (statements_from types s p n).next
-statements-stopped types s p = stopped (λ j. (statements_from types s p j).next) (statements-keep types s p)
+  pub type-refused : {n : ℕ} {r : Refusal} → answer_of (code_at 10 s (Ok at)) ≡ Err r → i < n → Err r ≡ types_from s (Ok from) n
+  type-refused {n} {r} e less =
+      let gone : types_from s (Ok from) (i + 1) ≡ Err r = sym (types_more s (Ok from) i) ∙ rw here at (answer_err (code_at 10 s (Ok at)) e) in
+      sym (stays (λ j. types_from s (Ok from) j) (types-keep s (Ok from)) n (i + 1) r gone (omega arith))
 
-pub addresses-stopped : (s : List ℕ) (p : Place) (n j : ℕ) (q : Place) → q ≡ (addresses_from s p j).next → is_refused q ≡ true
-    → j ≤ n → q ≡ (addresses_from s p n).next
-addresses-stopped s p = stopped (λ j. (addresses_from s p j).next) (addresses-keep s p)
+-- one statement more, and where it is refused
+module _ (types s : List ℕ) (from i : ℕ) {at : ℕ} (here : Ok at ≡ (statements_from types s (Ok from) i).next) where
+  pub statement-read : {p : Place} {end : ℕ} → p ≡ (statement_at types s (Ok at)).next → p ≡ Ok end → Ok end ≡ (statements_from types s (Ok from) (i + 1)).next
+  statement-read p-is on = sym on ∙ p-is ∙ rw here (statements-more types s (Ok from) i)
+
+  pub statement-refused : {n : ℕ} {p : Place} {r : Refusal} → p ≡ (statement_at types s (Ok at)).next → p ≡ Err r → i < n
+      → Err r ≡ (statements_from types s (Ok from) n).next
+  statement-refused {n} {r = r} p-is gone less =
+      let ends : (statements_from types s (Ok from) (i + 1)).next ≡ Err r = sym (p-is ∙ rw here (statements-more types s (Ok from) i)) ∙ gone in
+      sym (stays (λ j. (statements_from types s (Ok from) j).next) (statements-keep types s (Ok from)) n (i + 1) r ends (omega arith))
 
 -- types that were read whole stand inside the sheet
-pub types-end : (s : List ℕ) (p : Place) (k a : ℕ) → ((b : ℕ) → p ≡ At b → b ≤ length s) → types_from s p k ≡ At a
+pub types-end : (s : List ℕ) (p : Place) (k a : ℕ) → ((b : ℕ) → p ≡ Ok b → b ≤ length s) → types_from s p k ≡ Ok a
     → (start_of p + k ≡ a) × (a ≤ length s)
 unfolding types_from
 types-end s p zero a inside e = (rw e (omega arith), inside a e)
@@ -66,22 +74,31 @@ types-end s p (suc k) a inside e =
     let before = types-end s p k w.from inside w.there in
     (omega (arith, before.0, w.after), omega (arith, w.after, w.inside))
 
-pub types-inside : (s : List ℕ) (p : Place) {v : Field} {end : Place} {start : ℕ} → v ≡ count_at 0 32 s p
-    → end ≡ types_from s v.next v.value → start ≡ start_of v.next → (a : ℕ) → end ≡ At a → start + v.value ≤ length s
+pub types-inside : (s : List ℕ) (p : Place) {v : FieldReading} {end : Place} {start : ℕ} → v ≡ count_at 0 32 s p
+    → end ≡ types_from s v.next v.value → start ≡ start_of v.next → (a : ℕ) → end ≡ Ok a → start + v.value ≤ length s
 types-inside s p {v} v-is end_is start_is a e =
-    let inside : (b : ℕ) → v.next ≡ At b → b ≤ length s = λ b q.
-    let w = (count_at_lem 0 32 s p (ap (λ (x : Field). x.next) (sym v-is) ∙ q)).whole in
+    let inside : (b : ℕ) → v.next ≡ Ok b → b ≤ length s = λ b q.
+    let w = (count_at_lem 0 32 s p (ap (λ (x : FieldReading). x.next) (sym v-is) ∙ q)).whole in
     omega (arith, w.after, w.inside) in
     let r = types-end s v.next v.value a inside (sym end_is ∙ e) in
     omega (arith, r.0, r.1, start_is)
 
+-- addresses that were read whole stand inside the sheet
+pub addresses-end : (s : List ℕ) (at n : ℕ) {a : ℕ} → at ≤ length s → (addresses_from s (Ok at) n).next ≡ Ok a → (a ≡ at + 8 * n) × (a ≤ length s)
+unfolding addresses_from
+addresses-end s at zero {a} inside e = let z : at ≡ a = cc in (omega arith, omega arith)
+addresses-end s at (suc n) inside e =
+    let w = field-at 8 s (addresses_from s (Ok at) n).next e in
+    let before = addresses-end s at n inside w.there in
+    (omega (arith, w.after, before.0), omega (arith, w.after, w.inside))
+
 -- there are at most as many types as were counted
 pub types-few : (end : Place) (from n : ℕ) (s : List ℕ) → length (types_of end from n s) ≤ n
-types-few (At a) from n s = rw length-take (omega arith)
-types-few (Refused k at) from n s = omega arith
+types-few (Ok a) from n s = rw length-take (omega arith)
+types-few (Err r) from n s = omega arith
 
 -- there are at most 32 of them
-pub types-32 : (s : List ℕ) (p : Place) {v : Field} (end : Place) (from : ℕ) (types : List ℕ) → v ≡ count_at 0 32 s p
+pub types-32 : (s : List ℕ) (p : Place) {v : FieldReading} (end : Place) (from : ℕ) (types : List ℕ) → v ≡ count_at 0 32 s p
     → types ≡ types_of end from v.value s → length types ≤ 32
 types-32 s p {v} end from types v-is types-is =
     let few : v.value ≤ 32 = rw v-is (count_most 0 32 s p) in

@@ -1,16 +1,12 @@
 -- Node records: variables' types, statements, a condition, addresses.
-use Rattle.std.specs.Prelude.{ℕ, zero, suc, List, [], ◌∷◌, ◌++◌, Bool, true, false, cond, ◌||◌, eqb, length, get_or, take, drop}
-use Rattle.refusal.specs.Numbers.{CODE, TYPE}
-use Rattle.sheet_field.specs.declared.Place.{Place}
-use Rattle.sheet_field.specs.declared.Place.TheVariants.{At, Refused}
-use Rattle.sheet_field.specs.declared.Field.{Field}
-use Rattle.sheet_field.specs.Field.{field_at, start_of, judge, check_field, code_at, count_at}
+use Rattle.std.specs.Prelude.{ℕ, zero, suc, List, [], ◌∷◌, ◌++◌, Bool, true, false, cond, ◌||◌, eqb, length, get_or, take, drop, Ok, Err}
+use Rattle.refusal.specs.declared.Fault.TheVariants.{Code, Typing}
+use Rattle.sheet_field.specs.Field.{Place, FieldReading, field_at, start_of, judge, check_field, code_at, count_at}
 use Rattle.expr.specs.Tree.{Expr, tree_of}
 use Rattle.expr.specs.Statement.{Statement}
 use Rattle.expr.specs.Statement.Statement.{assignment, other}
 use Rattle.expr.specs.Types.{type_of, same_type}
 use Rattle.sheet_expression.specs.Expression.{expression_at}
-use Rattle.sheet_node.specs.declared.NodeReading.{NodeReading}
 
 -- what reading a statement gives: whether it is an assignment, its variable, its value's words, and the offset after it
 pub record StatementRead : Type 0 where
@@ -23,15 +19,15 @@ abbrev pub statement_of : StatementRead → Statement
 statement_of r = cond r.assigned (assignment r.variable (tree_of r.words)) other
 
 -- A statement's map byte: 3 for an assignment, 0 for anything else; any other is refusal 2, reported there (S31, S32, R9).
-unfoldable pub map_at : List ℕ → Place → Field
+unfoldable pub map_at : List ℕ → Place → FieldReading
 map_at s p =
     let f = field_at 1 s p in
-    check_field (eqb f.value 0 || eqb f.value 3) CODE (start_of p) f
+    check_field (eqb f.value 0 || eqb f.value 3) Code (start_of p) f
 
 -- Refusal 9, made at the statement's last byte and reported at its first: an assigned expression has another type than its variable, pointer being
 -- the same as unsigned 64 (R2, R4, R21, R22).
 abbrev pub typed_at : List ℕ → ℕ → List ℕ → ℕ → Place → Place
-typed_at types variable words begin end = judge (same_type (type_of types (tree_of words)) (get_or types variable 0)) TYPE begin end
+typed_at types variable words begin end = judge (same_type (type_of types (tree_of words)) (get_or types variable 0)) Typing begin end
 
 -- An assignment: the number of one of the node's variables, and an expression (S31, R10).
 unfoldable pub assignment_at : List ℕ → ℕ → List ℕ → Place → StatementRead
@@ -54,8 +50,8 @@ types_from s p (suc k) = (code_at 10 s (types_from s p k)).next
 
 -- the types of n variables, whose bytes stand from an offset on; none where reading them was refused
 abbrev pub types_of : Place → ℕ → ℕ → List ℕ → List ℕ
-types_of (At end) from n s = take n (drop from s)
-types_of (Refused k at) from n s = []
+types_of (Ok end) from n s = take n (drop from s)
+types_of (Err r) from n s = []
 
 pub record StatementsRead : Type 0 where
   pub list : List Statement
@@ -80,6 +76,18 @@ addresses_from s p (suc k) =
     let before = addresses_from s p k in
     let f = field_at 8 s before.next in
     record { list = before.list ++ (f.value ∷ []); next = f.next }
+
+-- a node as it is read: its counts, where its types, its statements (body), its condition and its addresses (sites) start, and where reading
+-- has come to after it
+pub record NodeReading : Type 0 where
+  pub variables : ℕ
+  pub types : Place
+  pub statements : ℕ
+  pub body : Place
+  pub condition : Place
+  pub addresses : ℕ
+  pub sites : Place
+  pub next : Place
 
 -- A node's parts in reading order: at most 32 variables, each by its type; at most 64 statements; the condition; at most 16 addresses
 -- (S27, S28, S29, S30, R2).

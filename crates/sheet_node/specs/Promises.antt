@@ -1,27 +1,48 @@
 -- What the contracts of the readers ask and give.
-use Rattle.std.specs.Prelude.{ℕ, ◌*◌, ◌≤◌, ◌≡◌, List, ◌++◌, length, drop}
-use Rattle.sheet_field.specs.declared.Place.{Place}
-use Rattle.sheet_field.specs.Field.{WentOn}
-use Rattle.sheet_node.specs.declared.StatementReading.{StatementReading}
-use Rattle.sheet_node.specs.declared.NodeReading.{NodeReading}
-use Rattle.sheet_node.specs.declared.NodeFront.{NodeFront}
-use Rattle.sheet_field.specs.Field.{count_at}
+use Rattle.std.specs.Prelude.{ℕ, ◌*◌, ◌≤◌, ◌≡◌, List, ◌++◌, true, false, length, drop, Option, Some, None, Ok}
+use Rattle.sheet_field.specs.Field.{Place, WentOn, start_of, count_at}
 use Rattle.sheet_expression.specs.Expression.{expression_at}
-use Rattle.sheet_node.specs.Node.{StatementRead, statement_at, statements_from, addresses_from, node_at}
+use Rattle.sheet_node.specs.declared.Assignment.{Assignment}
+use Rattle.sheet_node.specs.declared.StatementParts.{StatementParts}
+use Rattle.sheet_node.specs.declared.NodeFront.{NodeFront}
+use Rattle.sheet_node.specs.declared.NodeParts.{NodeParts}
+use Rattle.sheet_node.specs.Node.{StatementRead, statement_at, statements_from, addresses_from, NodeReading, node_at}
 
--- What a reader of a statement leaves: the statement, and a borrowed list that was `before` and is `after`: where reading went
--- on, the value's words stand at its start, and the rest is as it was.
-pub record TookStatement (f : StatementReading) (before after : List ℕ) (r : StatementRead) : Type 0 where
-  pub assigned : f.assigned ≡ r.assigned
+-- What a reader of an assignment leaves: the variable, and a borrowed list that was `before` and is `after`: the value's words stand
+-- at its start, and the rest is as it was.
+pub record TookAssignment (f : Assignment) (before after : List ℕ) (r : StatementRead) : Type 0 where
+  pub assigned : r.assigned ≡ true
   pub variable : f.variable ≡ r.variable
   pub size : length r.words ≡ 2 * f.records
   pub few : f.records ≤ 128
-  pub place : f.next ≡ r.next
-  pub list : WentOn r.next → after ≡ r.words ++ drop (2 * f.records) before
+  pub list : after ≡ r.words ++ drop (2 * f.records) before
+
+-- of any other statement, the list as it was
+abbrev pub TookContent : Option Assignment → List ℕ → List ℕ → StatementRead → Type 0
+TookContent (Some f) before after r = TookAssignment f before after r
+TookContent None before after r = (r.assigned ≡ false) × (after ≡ before)
+
+-- what a reader of a statement leaves
+pub record TookStatement (f : StatementParts) (before after : List ℕ) (r : StatementRead) : Type 0 where
+  pub assignment : TookContent f.assignment before after r
+  pub place : Ok f.end ≡ r.next
 
 -- what stands before a node's statements
 abbrev pub front_of : NodeReading → NodeFront
-front_of n = record { variables = n.variables; types = n.types; statements = n.statements; body = n.body }
+front_of n = record { variables = n.variables; types = start_of n.types; statements = n.statements; body = start_of n.body }
+
+-- the reading of a node whose parts stand at these offsets
+abbrev pub reading_of : NodeParts → NodeReading
+reading_of n = record {
+  variables = n.front.variables;
+  types = Ok n.front.types;
+  statements = n.front.statements;
+  body = Ok n.front.body;
+  condition = Ok n.condition;
+  addresses = n.addresses;
+  sites = Ok n.sites;
+  next = Ok n.end;
+}
 
 -- a node that was read whole
 pub record ReadNode (s : List ℕ) (node : NodeReading) : Type 0 where
@@ -40,11 +61,11 @@ body_end types s p =
     addresses_end s (expression_at (length types) s (statements_from types s n.next n.value).next).next
 
 -- at this offset a statement was read whole, in a node of variables of these types
-pub record WholeStatement (s : List ℕ) (p : Place) : Type 0 where
+pub record WholeStatement (s : List ℕ) (at : ℕ) : Type 0 where
   pub types : List ℕ
-  pub on : WentOn (statement_at types s p).next
+  pub on : WentOn (statement_at types s (Ok at)).next
 
 -- from this offset on n statements were read whole
-pub record WholeStatements (s : List ℕ) (p : Place) (n : ℕ) : Type 0 where
+pub record WholeStatements (s : List ℕ) (from n : ℕ) : Type 0 where
   pub types : List ℕ
-  pub on : WentOn (statements_from types s p n).next
+  pub on : WentOn (statements_from types s (Ok from) n).next

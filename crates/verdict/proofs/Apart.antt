@@ -3,14 +3,16 @@ use Prim.Native.Nat.{ℕ}
 use mathlib.Core.Path.{◌≡◌, refl, sym, ap, ◌∙◌}
 use mathlib.Core.Bool.{cond}
 use lib.Dec.{eqb}
+use Rattle.std.specs.Prelude.{Ok, Err}
+use Rattle.refusal.specs.declared.Fault.{Fault}
+use Rattle.refusal.specs.Numbers.{refused}
+use Rattle.refusal.proofs.Apart.{fault_of, fault_back}
 use Rattle.verdict.specs.declared.Reason.{Reason}
 use Rattle.verdict.specs.declared.Reason.TheVariants.{Flags, EqualSides, Truth, UnsignedZero, ExactSides, Parity, Halves}
 use Rattle.verdict.specs.declared.Verdict.{Verdict}
 use Rattle.verdict.specs.declared.Verdict.TheVariants.{Always, Never, Undecided, NoBranch}
-use Rattle.verdict.specs.declared.Answer.{Answer}
-use Rattle.verdict.specs.declared.Answer.TheVariants.{Given, Refused}
-use Rattle.verdict.specs.Numbers.{Numbers, reason_number, answer_numbers}
-use Rattle.verdict.specs.Numbers.Numbers.{decision, undecided, no_branch, refused}
+use Rattle.verdict.specs.Numbers.{Answer, Numbers, reason_number, answer_numbers}
+use Rattle.verdict.specs.Numbers.Numbers.{decision, undecided, no_branch, refused as numbered_refusal}
 
 -- the reason of a number
 abbrev numbered : ℕ → Reason
@@ -34,17 +36,17 @@ valued v r = cond (eqb v 1) (Always (numbered r)) (Never (numbered r))
 
 -- the answer that has these numbers
 abbrev answered : Numbers → Answer
-answered (decision v r) = Given (valued v r)
-answered undecided = Given Undecided
-answered no_branch = Given NoBranch
-answered (refused number place) = Refused number place
+answered (decision v r) = Ok (valued v r)
+answered undecided = Ok Undecided
+answered no_branch = Ok NoBranch
+answered (numbered_refusal number place) = Err (refused (fault_of number) place)
 
 answer_back : (a : Answer) → answered (answer_numbers a) ≡ a
-answer_back (Given (Always r)) = ap (λ (x : Reason). Given (Always x)) (back r)
-answer_back (Given (Never r)) = ap (λ (x : Reason). Given (Never x)) (back r)
-answer_back (Given Undecided) = refl
-answer_back (Given NoBranch) = refl
-answer_back (Refused number place) = refl
+answer_back (Ok (Always r)) = ap (λ (x : Reason). Ok (Always x)) (back r)
+answer_back (Ok (Never r)) = ap (λ (x : Reason). Ok (Never x)) (back r)
+answer_back (Ok Undecided) = refl
+answer_back (Ok NoBranch) = refl
+answer_back (Err r) = ap (λ (f : Fault). Err (refused f r.at)) (fault_back r.fault)
 
 pub answers-apart : (a b : Answer) → answer_numbers a ≡ answer_numbers b → a ≡ b
 answers-apart a b e = sym (answer_back a) ∙ (ap answered e ∙ answer_back b)

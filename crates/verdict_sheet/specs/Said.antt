@@ -1,11 +1,11 @@
 -- What the records of an accepted sheet say of its branches, and the lines due.
-use Rattle.std.specs.Prelude.{ℕ, zero, suc, List, [], ◌∷◌, ◌++◌, cond, eqb}
+use Rattle.std.specs.Prelude.{ℕ, zero, suc, List, [], ◌∷◌, ◌++◌, cond, eqb, Result, Ok, Err}
 use Rattle.std.proofs.Math.Option.{Option, none, some}
+use Rattle.refusal.specs.declared.Refusal.{Refusal}
 use Rattle.isa.specs.declared.Instruction.{Instruction}
 use Rattle.verdict.specs.declared.Verdict.{Verdict}
 use Rattle.verdict.specs.declared.Verdict.TheVariants.{Always, Never, Undecided, NoBranch}
-use Rattle.verdict.specs.declared.Answer.{Answer}
-use Rattle.verdict.specs.declared.Answer.TheVariants as answer
+use Rattle.verdict.specs.Numbers.{Answer}
 use Rattle.sheet.specs.Sheet.{node_numbered, node_place}
 use Rattle.verdict_block.specs.Verdict.{verdict_on}
 use Rattle.verdict_node.specs.NodeVerdict.{node_verdict}
@@ -28,19 +28,18 @@ blocks_say s zero = []
 blocks_say s (suc k) = blocks_say s k ++ saying (block_site s k) (verdict_on s k)
 
 -- what the records say, or the refusal of the first node that has one
-pub data Judged : Type 0 where
-  all : List Said → Judged
-  refused : (number place : ℕ) → Judged
+abbrev pub Judged : Type 0
+Judged = Result (List Said) Refusal
 
 -- One node more, where none before it was refused. A node without a jump is judged too (L8, S35).
 abbrev pub node_too : Judged → Option ℕ → Answer → Judged
-node_too (all said) site (answer.Given verdict) = all (said ++ saying site verdict)
-node_too (all said) site (answer.Refused number place) = refused number place
-node_too (refused number place) site a = refused number place
+node_too (Ok said) site (Ok verdict) = Ok (said ++ saying site verdict)
+node_too (Ok said) site (Err r) = Err r
+node_too (Err r) site a = Err r
 
 -- What the first `blocks` blocks and then the first `nodes` nodes say: blocks before nodes, earlier records before later ones (L4, L8).
 unfoldable pub judged_up_to : List ℕ → ℕ → ℕ → Judged
-judged_up_to s blocks zero = all (blocks_say s blocks)
+judged_up_to s blocks zero = Ok (blocks_say s blocks)
 judged_up_to s blocks (suc k) = node_too (judged_up_to s blocks k) (node_site s k) (node_verdict (node_numbered s k) (node_place s k))
 
 -- a verdict, where it is decided, or else a later one

@@ -19,6 +19,7 @@ ghost use Rattle.verdict_sheet.specs.Said.{Said, saying, blocks_say, node_too, j
 ghost use Rattle.verdict_sheet.specs.Said.Judged.{all};
 ghost use Rattle.verdict_sheet.specs.Kept.{CodeIndex, if_branch, branch_ending, SiteIs, kept_at, HasSlot, slots_of, Reached};
 
+use search::Found;
 use sheet::Sheet;
 use sheet_field::{Place, Width};
 use verdict::{Answer, Verdict};
@@ -34,133 +35,130 @@ pub enum Progress {
 
 // The number of the conditional branch at an address, or else another.
 fn branch_or(
-    s: &[u8],
-    sheet: Sheet,
-    addresses: &[u64],
-    places: &[u64],
+    code: &Code,
     address: u64,
-    otherwise: Option<usize>,
-) -> Option<usize>
-    requires s_value { reading_of s.now ≡ Accepted sheet }
-    requires code_index { CodeIndex s.now addresses.now places.now }
-    ensures { result ≡ if_branch (sheet_at s.now).instructions.list (place_of addresses.now address) otherwise }
+    otherwise: Found,
+) -> Found
+    ensures { result ≡ if_branch (sheet_at code.now.bytes.now).instructions.list (place_of code.now.addresses.now address) otherwise }
 {
-    match search::find(addresses, address) {
-        Some(k) if sheet::is_branch(s, sheet, places, k) => Some(k),
-        _ => otherwise,
+    let found = search::find(addresses, address);
+    match found {
+        Found::At(k) => {
+            if code.is_branch(k) {
+                found
+            } else {
+                otherwise
+            }
+        }
+        Found::Nothing => otherwise,
     }
 }
 
 // The number of a node's jump, from its n addresses, which start at an offset.
 fn node_jump(
-    s: &[u8],
-    sheet: Sheet,
+    code: &Code,
     sites: Place,
     n: u64,
     addresses: &[u64],
     places: &[u64],
-) -> Option<usize>
-    requires s_value { reading_of s.now ≡ Accepted sheet }
-    requires code_index { CodeIndex s.now addresses.now places.now }
-    ensures { SiteIs (sheet_at s.now).instructions.list result (last_branch (sheet_at s.now).instructions.list (addresses_from s.now sites n).list) }
+) -> Found
+    ensures { SiteIs (sheet_at code.now.bytes.now).instructions.list result (last_branch (sheet_at code.now.bytes.now).instructions.list (addresses_from code.now.bytes.now sites n).list) }
 {
     let mut next = sites;
-    let mut jump = None;
-    for _ in 0..n {
+    let mut jump = Found::Nothing;
+    let mut i: u64 = 0;
+    while i < n {
         let f = sheet_field::take_field(s, next, Width::Eight);
-        jump = branch_or(s, sheet, addresses, places, f.value, jump);
+        jump = branch_or(code, f.value, jump);
         next = f.next;
+        i += 1;
     }
     jump
 }
 
 // The number of the conditional branch that ends a range of instructions.
-fn last_branch(s: &[u8], sheet: Sheet, places: &[u64], range: Range) -> Option<usize>
-    requires s_value { reading_of s.now ≡ Accepted sheet }
-    requires places_value { places.now ≡ (sheet_at s.now).instructions.places }
-    requires end_in_bounds { range.end ≤ length places.now }
-    ensures { result ≡ branch_ending (sheet_at s.now).instructions.list range.first range.end }
+fn last_branch(code: &Code, range: Range) -> Found
+    requires { range.end ≤ length code.now.places.now }
+    ensures { result ≡ branch_ending (sheet_at code.now.bytes.now).instructions.list range.first range.end }
 {
-    if range.end <= range.first {
-        return None;
+    let end = range.end;
+    if end <= range.first {
+        return Found::Nothing;
     }
-    let last = range.end - 1;
-    sheet::is_branch(s, sheet, places, last).then_some(last)
+    let last = end - 1;
+    if code.is_branch(last) {
+        return Found::At(last);
+    }
+    Found::Nothing
 }
 
 // Keeps a verdict in the slot of that number, if there is one.
-fn keep_at(slots: &mut [u8], at: Option<usize>, v: Verdict)
+fn keep_at(slots: &mut [u8], at: Found, v: Verdict)
     requires { HasSlot slots.old at }
     ensures { slots.new ≡ kept_at slots.old at v }
 {
-    if let Some(k) = at {
-        verdict_lines::keep(slots, k, v);
+    match at {
+        Found::At(k) => verdict_lines::keep(slots, k, v),
+        Found::Nothing => {}
     }
 }
 
 // Keeps the verdict at the end of a range in the slot of that number; where one is kept already, there is nothing to judge.
-fn keep_end(s: &[u8], sheet: Sheet, places: &[u64], range: Range, slots: &mut [u8], number: usize)
-    requires s_value { reading_of s.now ≡ Accepted sheet }
-    requires places_value { places.now ≡ (sheet_at s.now).instructions.places }
-    requires end_in_bounds { (range.end ≤ length places.now) × (number < length slots.old) }
-    ensures { slots.new ≡ kept slots.old number (verdict_at (end_from nothing_known (slice range.first range.end (sheet_at s.now).instructions.list))) }
+fn keep_end(code: &Code, range: Range, slots: &mut [u8], number: usize)
+    requires { (range.end ≤ length code.now.places.now) × (number < length slots.old) }
+    ensures { slots.new ≡ kept slots.old number (verdict_at (end_from nothing_known (slice range.first range.end (sheet_at code.now.bytes.now).instructions.list))) }
 {
     if slots[number] == 0 {
-        let v = verdict_block::verdict_in(s, sheet, places, range);
+        let v = verdict_block::verdict_in(code, range);
         verdict_lines::keep(slots, number, v);
     }
 }
 
 // The block of that number, where it has a branch; and where its instructions end, a guess where the next block's start.
 fn judge_block(
-    s: &[u8],
-    sheet: Sheet,
-    addresses: &[u64],
-    places: &[u64],
+    code: &Code,
     number: u64,
     guess: usize,
     slots: &mut [u8],
 ) -> usize
-    requires s_value { reading_of s.now ≡ Accepted sheet }
-    requires number_lt_count { number < sheet.blocks.count }
-    requires code_index { CodeIndex s.now addresses.now places.now }
-    requires slots_len { length slots.old ≡ length addresses.now }
-    ensures { (said : List Said) → slots.old ≡ slots_of (sheet_at s.now).instructions.list said → slots.new ≡ slots_of (sheet_at s.now).instructions.list (said ++ saying (block_site s.now number) (verdict_on s.now number)) }
+    requires number_lt_count { number < code.now.sheet.blocks.count }
+    requires slots_len { length slots.old ≡ length code.now.addresses.now }
+    ensures { (said : List Said) → slots.old ≡ slots_of (sheet_at code.now.bytes.now).instructions.list said → slots.new ≡ slots_of (sheet_at code.now.bytes.now).instructions.list (said ++ saying (block_site code.now.bytes.now number) (verdict_on code.now.bytes.now number)) }
 {
-    let range = verdict_block::range_of(s, sheet, addresses, number, guess);
-    if let Some(k) = last_branch(s, sheet, places, range) {
-        keep_end(s, sheet, places, range, slots, k);
+    let range = verdict_block::range_of(code, number, guess);
+    let at = last_branch(code, range);
+    match at {
+        Found::At(k) => keep_end(code, range, slots, k),
+        Found::Nothing => {}
     }
     range.end
 }
 
 // All blocks, in order.
-fn judge_blocks(s: &[u8], sheet: Sheet, addresses: &[u64], places: &[u64], slots: &mut [u8])
-    requires s_value { reading_of s.now ≡ Accepted sheet }
-    requires code_index { CodeIndex s.now addresses.now places.now }
-    requires slots_value { slots.old ≡ slots_of (sheet_at s.now).instructions.list [] }
-    ensures { slots.new ≡ slots_of (sheet_at s.now).instructions.list (blocks_say s.now sheet.blocks.count) }
+fn judge_blocks(code: &Code, slots: &mut [u8])
+    requires { slots.old ≡ slots_of (sheet_at code.now.bytes.now).instructions.list [] }
+    ensures { slots.new ≡ slots_of (sheet_at code.now.bytes.now).instructions.list (blocks_say code.now.bytes.now code.now.sheet.blocks.count) }
 {
     let section = sheet.blocks;
-    let mut guess = 0;
-    for i in 0..section.count {
-        guess = judge_block(s, sheet, addresses, places, i, guess, slots);
+    let n = section.count;
+    let mut guess: usize = 0;
+    let mut i: u64 = 0;
+    while i < n {
+        guess = judge_block(code, i, guess, slots);
+        i += 1;
     }
 }
 
 // Keeps a node's verdict at its jump, if it has one; or the refusal.
 fn keep_node(
-    s: &[u8],
-    sheet: Sheet,
+    code: &Code,
     judged: JudgedNode,
     addresses: &[u64],
     places: &[u64],
     slots: &mut [u8],
 ) -> Progress
-    requires s_value { reading_of s.now ≡ Accepted sheet }
-    requires code_index { CodeIndex s.now addresses.now places.now }
-    requires slots_len { length slots.old ≡ length addresses.now }
-    ensures { (node : NodeReading) (place : ℕ) (said : List Said) → JudgedIs judged s.now node place → slots.old ≡ slots_of (sheet_at s.now).instructions.list said → Reached (sheet_at s.now).instructions.list result slots.new (node_too (all said) (last_branch (sheet_at s.now).instructions.list (node_of s.now node).addresses) (node_verdict (node_of s.now node) place)) }
+    requires { length slots.old ≡ length code.now.addresses.now }
+    ensures { (node : NodeReading) (place : ℕ) (said : List Said) → JudgedIs judged code.now.bytes.now node place → slots.old ≡ slots_of (sheet_at code.now.bytes.now).instructions.list said → Reached (sheet_at code.now.bytes.now).instructions.list result slots.new (node_too (all said) (last_branch (sheet_at code.now.bytes.now).instructions.list (node_of code.now.bytes.now node).addresses) (node_verdict (node_of code.now.bytes.now node) place)) }
 {
     let answer = judged.answer;
     let sites = judged.sites;
@@ -179,44 +177,36 @@ fn keep_node(
 
 // All nodes, in order, up to the first that is refused.
 fn judge_nodes(
-    s: &[u8],
-    sheet: Sheet,
-    addresses: &[u64],
-    places: &[u64],
+    code: &Code,
     nodes: &[u64],
     slots: &mut [u8],
 ) -> Progress
-    requires s_value { reading_of s.now ≡ Accepted sheet }
-    requires code_index { CodeIndex s.now addresses.now places.now }
-    requires nodes_value { nodes.now ≡ (sheet_at s.now).nodes.places }
-    requires slots_value { slots.old ≡ slots_of (sheet_at s.now).instructions.list (blocks_say s.now sheet.blocks.count) }
-    ensures { Reached (sheet_at s.now).instructions.list result slots.new (judged_up_to s.now sheet.blocks.count sheet.nodes.count) }
+    requires nodes_value { nodes.now ≡ (sheet_at code.now.bytes.now).nodes.places }
+    requires slots_value { slots.old ≡ slots_of (sheet_at code.now.bytes.now).instructions.list (blocks_say code.now.bytes.now code.now.sheet.blocks.count) }
+    ensures { Reached (sheet_at code.now.bytes.now).instructions.list result slots.new (judged_up_to code.now.bytes.now code.now.sheet.blocks.count code.now.sheet.nodes.count) }
 {
-    for node in nodes {
-        let judged = verdict_node::verdict_at(s, *node as usize);
+    let mut i = 0;
+    while i < nodes.len() {
+        let judged = verdict_node::verdict_at(s, nodes[i] as usize);
         let r = keep_node(s, sheet, judged, addresses, places, slots);
         if let Progress::Refused(k, at) = r {
             return Progress::Refused(k, at);
         }
+        i += 1;
     }
     Progress::Through
 }
 
 // All records of an accepted sheet with its index, on slots that hold nothing.
 pub fn judge(
-    s: &[u8],
-    sheet: Sheet,
-    addresses: &[u64],
-    places: &[u64],
+    code: &Code,
     nodes: &[u64],
     slots: &mut [u8],
 ) -> Progress
-    requires s_value { reading_of s.now ≡ Accepted sheet }
-    requires code_index { CodeIndex s.now addresses.now places.now }
-    requires nodes_value { nodes.now ≡ (sheet_at s.now).nodes.places }
-    requires slots_value { slots.old ≡ slots_of (sheet_at s.now).instructions.list [] }
-    ensures { Reached (sheet_at s.now).instructions.list result slots.new (judged_up_to s.now sheet.blocks.count sheet.nodes.count) }
+    requires nodes_value { nodes.now ≡ (sheet_at code.now.bytes.now).nodes.places }
+    requires slots_value { slots.old ≡ slots_of (sheet_at code.now.bytes.now).instructions.list [] }
+    ensures { Reached (sheet_at code.now.bytes.now).instructions.list result slots.new (judged_up_to code.now.bytes.now code.now.sheet.blocks.count code.now.sheet.nodes.count) }
 {
-    judge_blocks(s, sheet, addresses, places, slots);
-    judge_nodes(s, sheet, addresses, places, nodes, slots)
+    judge_blocks(code, slots);
+    judge_nodes(code, nodes, slots)
 }

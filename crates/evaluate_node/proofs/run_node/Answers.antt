@@ -1,21 +1,28 @@
--- `evaluate_node::run_node` meets its contract: by how far the statements went. Assumes nothing.
 use mathlib.Core.Path.{sym, ◌∙◌}
-use Rattle.evaluate_node.proofs.Runs.{node-refused, node-stopped, node-went}
+use Rattle.sheet_node.specs.Promises.{reading_of}
+use Rattle.evaluate_node.proofs.Runs.{node-refused, node-unfit, node-stopped, node-went}
 use Rattle.evaluate_node.proofs.Whole.{fit-enough}
 use Rattle.evaluate_node.proofs.run_node.Goals as goal
 
-pub start-fits-requires : goal.start-fits-requires
-start-fits-requires c =
-    record { n_in_bounds = (λ e. fit-enough 0 c.args.types.now c.args.values.now (sym c.first_unfit-fit.ensures ∙ e)); n_in_bounds_2 = c.requires.few }
+pub start-fits-requires-clause-n_in_bounds : goal.start-fits-requires-clause-n_in_bounds
+start-fits-requires-clause-n_in_bounds c =
+    λ e. fit-enough 0 c.args.types.now c.args.values.now (sym c.first_unfit-unfit.ensures ∙ e)
 
-pub returns-in-NotPlain : goal.returns-in-NotPlain
-returns-in-NotPlain c =
-    node-refused c.args.s.now c.args.node c.args.place c.args.types.now c.args.values.now c.args.condition.tree.words.now c.requires c.args.condition.plain (rw c.in-NotPlain.is at c.run_statements-end.ensures)
+pub returns-in_default : goal.returns-in_default
+returns-in_default c =
+    rw c.at.ensures (node-refused c.args.s.now (reading_of c.args.node) c.args.place c.args.types.now c.args.values.now c.args.condition.now c.requires (rw c.in_default.is at c.run_statements.ensures))
 
-pub returns-in-Stopped : goal.returns-in-Stopped
-returns-in-Stopped c =
-    let k = rw c.in-Stopped.is at c.run_statements-end.ensures in node-stopped c.args.s.now c.args.node c.args.place c.args.types.now c.args.values.now c.args.condition.tree.words.now c.requires c.args.condition.plain k.0 c.first_unfit-fit.ensures c.start-fits.result _ c.start-fits.ensures k.1 c.stopped.ensures
+pub returns-in-Some-unfit : goal.returns-in-Some-unfit
+returns-in-Some-unfit c =
+    let k = rw c.in-Some.is at c.run_statements.ensures in
+    rw c.at-in-Some-unfit.ensures (node-unfit c.args.s.now (reading_of c.args.node) c.args.place c.args.types.now c.args.values.now c.args.condition.now c.requires k.0 c.first_unfit-unfit.ensures c.start-fits.result c.start-fits.new.room c.start-fits.ensures c.in-Some-unfit.is)
 
-pub returns-in-Went : goal.returns-in-Went
-returns-in-Went c =
-    let k = rw c.in-Went.is at c.run_statements-end.ensures in node-went c.args.s.now c.args.node c.args.place c.args.types.now c.args.values.now c.args.condition.tree.words.now c.requires c.args.condition.plain k.0 c.first_unfit-fit.ensures c.start-fits.result _ c.start-fits.ensures k.1 c.condition.ensures c.outcome.ensures
+pub returns-then-not-went : goal.returns-then-not-went
+returns-then-not-went c =
+    let k = rw c.in-Some.is at c.run_statements.ensures in
+    rw c.at-then-not-went.ensures (node-stopped c.args.s.now (reading_of c.args.node) c.args.place c.args.types.now c.args.values.now c.args.condition.now c.requires k.0 c.first_unfit-unfit.ensures c.start-fits.result c.start-fits.new.room c.start-fits.ensures c.in_default-unfit.is (rw c.if-not-went.true at k.1))
+
+pub returns : goal.returns
+returns c =
+    let k = rw c.in-Some.is at c.run_statements.ensures in
+    node-went c.args.s.now (reading_of c.args.node) c.args.place c.args.types.now c.args.values.now c.args.condition.now c.requires k.0 c.first_unfit-unfit.ensures c.start-fits.result c.start-fits.new.room c.start-fits.ensures c.in_default-unfit.is (rw c.if-not-went.false at k.1) c.condition.ensures c.outcome.ensures

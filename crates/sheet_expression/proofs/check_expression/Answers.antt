@@ -1,81 +1,44 @@
+use Rattle.sheet_expression.proofs.Typing.{typing-none, first-place, next-refused, next_place, tagged, depth_small, typing-more, count-refused, count-few, expression-refused, expression-checked}
 use Rattle.sheet_expression.proofs.Tables.{record-in}
-use Rattle.sheet_expression.proofs.Typing.{typing-none, first-place, next_place, tagged, depth_small, typing-more, expression-refused, expression-checked}
-use Rattle.sheet_expression.proofs.Lists.{taken-depth}
-use Rattle.sheet_field.proofs.Fields.{count_most}
-use lib.ListN.{length, get_or}
-use mathlib.Core.Path.{sym, ◌∙◌}
-use Prim.Native.Nat.{◌+◌, ◌-◌, ◌≤◌}
+use Rattle.std.proofs.lemmas.Result.{err_from_is_err_and}
 use native.Mathlib.Omega.{arith}
+use mathlib.Core.Path.{sym, ◌∙◌}
+use Prim.Native.Nat.{◌+◌}
 use Rattle.sheet_expression.proofs.check_expression.Goals as goal
 
-pub returns-in_default : goal.returns-in_default
-returns-in_default c =
-    let n = c.count-n in let a = c.args in expression-refused a.types.now a.s.now _ n.ensures 0 (omega arith) (first-place a.types.now a.s.now n.result.next n.result.value) c.in_default.is
+pub returns-in_err-n : goal.returns-in_err-n
+returns-in_err-n c =
+    let e = err_from_is_err_and c.from_residual.result c.from_residual.ensures.1 in
+    rw (e.1, e.2) (count-refused _ _ _ (sym c.count.ensures ∙ c.in_err-n.was))
 
 pub loop-i-init : goal.loop-i-init
 loop-i-init c =
-    let n = c.count-n in let a = c.args in (omega arith, sym c.in-At.is ∙ (first-place a.types.now a.s.now n.result.next n.result.value), typing-none _ _ _ _)
+    (first-place _ _ _ _, typing-none _ _ _ _ _ c.new-stack.ensures.types c.new-stack.ensures.depth)
 
-pub overflow_sub-top : goal.overflow_sub-top
-overflow_sub-top c =
-    omega (arith, c.loop-i.invariant.2.height)
+pub returns-in_err-r : goal.returns-in_err-r
+returns-in_err-r c =
+    let l = c.loop-i in let e = err_from_is_err_and c.from_residual-in_err-r.result c.from_residual-in_err-r.ensures.1 in
+    rw (e.1, e.2) (expression-refused _ _ _ (sym c.count.ensures ∙ c.in_ok-n.was) (l.i + 1) (omega arith) (next-refused _ _ _ _ _ c.loop-i.invariant.0 c.loop-i.invariant.1 (sym (rw c.depth.ensures at c.check_record.ensures) ∙ c.in_err-r.was)))
 
-pub check_record-r-requires : goal.check_record-r-requires
-check_record-r-requires c =
-    let l = c.loop-i in let n = c.count-n in let a = c.args in let few : n.result.value ≤ 128 = rw n.ensures (count_most _ _ _ _) in (c.requires.0, omega (arith, l.invariant.2.height, taken-depth (length a.types.now) n.result.value a.s.now n.result.next l.i))
+pub checked_type-requires : goal.checked_type-requires
+checked_type-requires c =
+    let s = c.loop-i.stack in
+    (tagged _ _ _ _ _ c.loop-i.invariant.0 c.loop-i.invariant.1 (sym (rw c.depth.ensures at c.check_record.ensures) ∙ c.in_ok-r.was), rw c.last_two-a.ensures.before (s.in_table s.depth), rw c.last_two-a.ensures.last (s.in_table (s.depth + 1)))
 
-pub returns-in_default-next : goal.returns-in_default-next
-returns-in_default-next c =
-    let l = c.loop-i in let n = c.count-n in let a = c.args in expression-refused _ _ _ n.ensures (l.i + 1) (omega arith) (next_place _ _ _ _ _ c.requires.1 l.invariant.1 l.invariant.2 c.check_record-r.ensures) c.in_default-next.is
-
-pub overflow_sub-top-in-loop-i : goal.overflow_sub-top-in-loop-i
-overflow_sub-top-in-loop-i c =
-    omega (arith, c.loop-i.invariant.2.height)
-
-pub bounds-stack-top : goal.bounds-stack-top
-bounds-stack-top c =
-    let l = c.loop-i in let n = c.count-n in let a = c.args in let few : n.result.value ≤ 128 = rw n.ensures (count_most _ _ _ _) in omega (arith, l.invariant.2.height, taken-depth (length a.types.now) n.result.value a.s.now n.result.next l.i)
-
-pub overflow_cast-stack : goal.overflow_cast-stack
-overflow_cast-stack c =
-    let l = c.loop-i in let n = c.count-n in let a = c.args in omega (arith, l.invariant.2.below (l.top - 2))
-
-pub overflow_sub-top-in-loop-i-2 : goal.overflow_sub-top-in-loop-i-2
-overflow_sub-top-in-loop-i-2 c =
-    omega (arith, c.loop-i.invariant.2.height)
-
-pub bounds-stack-top-in-loop-i : goal.bounds-stack-top-in-loop-i
-bounds-stack-top-in-loop-i c =
-    let l = c.loop-i in let n = c.count-n in let a = c.args in let few : n.result.value ≤ 128 = rw n.ensures (count_most _ _ _ _) in omega (arith, l.invariant.2.height, taken-depth (length a.types.now) n.result.value a.s.now n.result.next l.i)
-
-pub overflow_cast-stack-in-loop-i : goal.overflow_cast-stack-in-loop-i
-overflow_cast-stack-in-loop-i c =
-    let l = c.loop-i in let n = c.count-n in let a = c.args in omega (arith, l.invariant.2.below (l.top - 1))
-
-pub checked_type-t-requires : goal.checked_type-t-requires
-checked_type-t-requires c =
-    let l = c.loop-i in let n = c.count-n in let a = c.args in (tagged _ _ _ _ _ c.requires.1 l.invariant.1 l.invariant.2 c.check_record-r.ensures c.in-At-next.is, l.invariant.2.below (l.top - 2), l.invariant.2.below (l.top - 1))
-
-pub overflow_add-top : goal.overflow_add-top
-overflow_add-top c =
-    let l = c.loop-i in let n = c.count-n in let a = c.args in let few : n.result.value ≤ 128 = rw n.ensures (count_most _ _ _ _) in omega (arith, depth_small a.types.now a.s.now n.result.next n.result.value l.i c.requires.1 l.invariant.1 l.invariant.2 c.check_record-r.ensures c.in-At-next.is (omega arith))
-
-pub overflow_cast-stack-in-loop-i-2 : goal.overflow_cast-stack-in-loop-i-2
-overflow_cast-stack-in-loop-i-2 c =
-    let l = c.loop-i in let n = c.count-n in let a = c.args in omega (arith, record-in a.types.now c.check_record-r.result.tag (get_or l.stack (l.top - 2) 0) (get_or l.stack (l.top - 1) 0) c.requires.1 (tagged a.types.now a.s.now n.result.next n.result.value l.i c.requires.1 l.invariant.1 l.invariant.2 c.check_record-r.ensures c.in-At-next.is) (l.invariant.2.below (l.top - 2)) (l.invariant.2.below (l.top - 1)), c.checked_type-t.ensures)
-
-pub bounds-stack-top-in-loop-i-2 : goal.bounds-stack-top-in-loop-i-2
-bounds-stack-top-in-loop-i-2 c =
-    let l = c.loop-i in let n = c.count-n in let a = c.args in let few : n.result.value ≤ 128 = rw n.ensures (count_most _ _ _ _) in omega (arith, depth_small a.types.now a.s.now n.result.next n.result.value l.i c.requires.1 l.invariant.1 l.invariant.2 c.check_record-r.ensures c.in-At-next.is (omega arith))
+pub put-requires : goal.put-requires
+put-requires c =
+    let n = c.in_ok-n.n in let few = count-few c.args.types.now c.args.s.now c.args.from (sym c.count.ensures ∙ c.in_ok-n.was) in let s = c.loop-i.stack in (
+      depth_small c.args.types.now c.args.s.now _ n.value c.loop-i.i c.loop-i.invariant.0 c.loop-i.invariant.1 (sym (rw c.depth.ensures at c.check_record.ensures) ∙ c.in_ok-r.was) (omega arith),
+      rw (c.checked_type.ensures, c.last_two-a.ensures.before, c.last_two-a.ensures.last) (record-in _ _ _ _ c.requires.1 (tagged _ _ _ _ _ c.loop-i.invariant.0 c.loop-i.invariant.1 (sym (rw c.depth.ensures at c.check_record.ensures) ∙ c.in_ok-r.was)) (s.in_table s.depth) (s.in_table (s.depth + 1))),
+    )
 
 pub loop-i-preserved : goal.loop-i-preserved
 loop-i-preserved c =
-    let l = c.loop-i in let n = c.count-n in let a = c.args in let few : n.result.value ≤ 128 = rw n.ensures (count_most _ _ _ _) in (omega arith, sym c.in-At-next.is ∙ next_place _ _ _ _ _ c.requires.1 l.invariant.1 l.invariant.2 c.check_record-r.ensures, typing-more a.types.now a.s.now n.result.next n.result.value l.i c.requires.1 l.invariant.1 l.invariant.2 c.check_record-r.ensures c.in-At-next.is (omega arith) c.checked_type-t.ensures)
-
-pub overflow_cast-result : goal.overflow_cast-result
-overflow_cast-result c =
-    omega (arith, c.loop-i.invariant.2.below 2)
+    let n = c.in_ok-n.n in let few = count-few c.args.types.now c.args.s.now c.args.from (sym c.count.ensures ∙ c.in_ok-n.was) in (
+      next_place c.args.types.now c.args.s.now _ n.value c.loop-i.i c.loop-i.invariant.0 c.loop-i.invariant.1 (sym (rw c.depth.ensures at c.check_record.ensures) ∙ c.in_ok-r.was),
+      typing-more c.args.types.now c.args.s.now _ n.value c.loop-i.i c.loop-i.invariant.0 c.loop-i.invariant.1 (sym (rw c.depth.ensures at c.check_record.ensures) ∙ c.in_ok-r.was) (omega arith) (rw (← c.last_two-a.ensures.before, ← c.last_two-a.ensures.last) c.checked_type.ensures) c.put.ensures.types c.put.ensures.depth,
+    )
 
 pub returns : goal.returns
 returns c =
-    let l = c.loop-i in let n = c.count-n in let a = c.args in expression-checked _ _ _ n.ensures l.i (omega arith) l.invariant.1 l.invariant.2
+    rw c.first.ensures (expression-checked _ _ _ (sym c.count.ensures ∙ c.in_ok-n.was) c.loop-i.i (omega arith) c.loop-i.invariant.0 c.loop-i.invariant.1)

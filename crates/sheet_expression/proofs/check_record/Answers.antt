@@ -1,45 +1,45 @@
 use Rattle.sheet_expression.proofs.OneRecord.{argument-small, kind-small}
 use Rattle.sheet_expression.proofs.Checks.{kind-refused, argument-refused, constant-refused, child-lacking, trees-left, constant_wide, record-checked}
+use Rattle.std.proofs.lemmas.Result.{err_from_is_err_and}
 use native.Mathlib.Omega.{arith}
-use Prim.Native.Nat.{◌≤◌}
+use mathlib.Core.Path.{sym, ◌∙◌}
 use Rattle.sheet_expression.proofs.check_record.Goals as goal
 
-pub returns-in_default : goal.returns-in_default
-returns-in_default c =
-    kind-refused _ _ _ _ _ c.code-kind.ensures c.in_default.is c.refused.ensures
+pub returns-in_err-kind : goal.returns-in_err-kind
+returns-in_err-kind c =
+    let e = err_from_is_err_and c.from_residual.result c.from_residual.ensures.1 in
+    rw (e.1, e.2) (kind-refused _ _ _ _ _ (sym c.code.ensures ∙ c.in_err-kind.was))
 
-pub take_argument-argument-requires : goal.take_argument-argument-requires
-take_argument-argument-requires c =
-    (c.requires.0, rw c.code-kind.ensures (kind-small _ _))
+pub returns-in_err-argument : goal.returns-in_err-argument
+returns-in_err-argument c =
+    let e = err_from_is_err_and c.from_residual-in_err-argument.result c.from_residual-in_err-argument.ensures.1 in
+    rw (e.1, e.2) (argument-refused _ _ _ _ _ (sym c.code.ensures ∙ c.in_ok-kind.was) (sym c.take_argument.ensures ∙ c.in_err-argument.was))
 
-pub returns-in_default-after_argument : goal.returns-in_default-after_argument
-returns-in_default-after_argument c =
-    argument-refused _ _ _ _ _ c.code-kind.ensures c.in-At.is c.take_argument-argument.ensures c.in_default-after_argument.is c.refused-in_default-after_argument.ensures
-
-pub returns-in_default-after_value : goal.returns-in_default-after_value
-returns-in_default-after_value c =
-    constant-refused _ _ _ _ _ c.code-kind.ensures c.in-At.is c.take_argument-argument.ensures c.in-At-after_argument.is c.take_constant-value.ensures c.in_default-after_value.is c.refused-in_default-after_value.ensures
+pub returns-in_err-value : goal.returns-in_err-value
+returns-in_err-value c =
+    let e = err_from_is_err_and c.from_residual-in_err-value.result c.from_residual-in_err-value.ensures.1 in
+    rw (e.1, e.2) (constant-refused _ _ _ _ _ (sym c.code.ensures ∙ c.in_ok-kind.was) (sym c.take_argument.ensures ∙ c.in_ok-argument.was) (sym c.take_constant.ensures ∙ c.in_err-value.was))
 
 pub overflow_mul-tag : goal.overflow_mul-tag
 overflow_mul-tag c =
-    let h : c.take_argument-argument.result.value ≤ 32 = rw c.take_argument-argument.ensures (argument-small _ _ _ _ c.requires.0) in omega arith
+    omega (arith, argument-small _ _ _ _ c.requires.0 (sym c.take_argument.ensures ∙ c.in_ok-argument.was))
 
 pub overflow_add-tag : goal.overflow_add-tag
 overflow_add-tag c =
-    let h : c.take_argument-argument.result.value ≤ 32 = rw c.take_argument-argument.ensures (argument-small _ _ _ _ c.requires.0) in let k : c.code-kind.result.value ≤ 8 = rw c.code-kind.ensures (kind-small _ _) in omega arith
+    omega (arith, argument-small _ _ _ _ c.requires.0 (sym c.take_argument.ensures ∙ c.in_ok-argument.was), kind-small _ _ (sym c.code.ensures ∙ c.in_ok-kind.was))
 
 pub returns-then-depth-arity : goal.returns-then-depth-arity
 returns-then-depth-arity c =
-    child-lacking _ _ _ _ _ c.code-kind.ensures c.in-At.is c.take_argument-argument.ensures c.in-At-after_argument.is c.take_constant-value.ensures c.in-At-after_value.is c.arity-arity.ensures c.if-depth-arity.true c.refused-then-depth-arity.ensures
+    rw c.at.ensures (child-lacking _ _ _ _ _ (sym c.code.ensures ∙ c.in_ok-kind.was) (sym c.take_argument.ensures ∙ c.in_ok-argument.was) (sym c.take_constant.ensures ∙ c.in_ok-value.was) c.arity-arity.ensures c.if-depth-arity.true)
 
-pub returns-then-not-left-after : goal.returns-then-not-left-after
-returns-then-not-left-after c =
-    trees-left _ _ _ _ _ c.code-kind.ensures c.in-At.is c.take_argument-argument.ensures c.in-At-after_argument.is c.take_constant-value.ensures c.in-At-after_value.is c.arity-arity.ensures c.if-depth-arity.false c.if-not-left-after.true-raw c.refused-then-not-left-after.ensures
+pub returns-then-left-after : goal.returns-then-left-after
+returns-then-left-after c =
+    rw c.at-then-left-after.ensures (trees-left _ _ _ _ _ (sym c.code.ensures ∙ c.in_ok-kind.was) (sym c.take_argument.ensures ∙ c.in_ok-argument.was) (sym c.take_constant.ensures ∙ c.in_ok-value.was) c.arity-arity.ensures c.if-depth-arity.false c.if-left-after.true)
 
 pub returns-then-not-fits_width : goal.returns-then-not-fits_width
 returns-then-not-fits_width c =
-    constant_wide _ _ _ _ _ c.code-kind.ensures c.in-At.is c.take_argument-argument.ensures c.in-At-after_argument.is c.take_constant-value.ensures c.in-At-after_value.is c.arity-arity.ensures c.if-depth-arity.false c.if-not-left-after.false-raw c.fits_width.ensures c.if-not-fits_width.true-raw c.refused-then-not-fits_width.ensures
+    rw c.at-then-not-fits_width.ensures (constant_wide _ _ _ _ _ (sym c.code.ensures ∙ c.in_ok-kind.was) (sym c.take_argument.ensures ∙ c.in_ok-argument.was) (sym c.take_constant.ensures ∙ c.in_ok-value.was) c.arity-arity.ensures c.if-depth-arity.false c.if-left-after.false c.fits_width.ensures c.if-not-fits_width.true)
 
 pub returns : goal.returns
 returns c =
-    record-checked _ _ _ _ _ c.code-kind.ensures c.in-At.is c.take_argument-argument.ensures c.in-At-after_argument.is c.take_constant-value.ensures c.in-At-after_value.is c.arity-arity.ensures c.if-depth-arity.false c.if-not-left-after.false-raw c.fits_width.ensures c.if-not-fits_width.false-raw
+    record-checked _ _ _ _ _ (sym c.code.ensures ∙ c.in_ok-kind.was) (sym c.take_argument.ensures ∙ c.in_ok-argument.was) (sym c.take_constant.ensures ∙ c.in_ok-value.was) c.arity-arity.ensures c.if-depth-arity.false c.if-left-after.false c.fits_width.ensures c.if-not-fits_width.false

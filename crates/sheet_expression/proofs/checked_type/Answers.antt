@@ -9,10 +9,6 @@ pub bounds-types-n : goal.bounds-types-n
 bounds-types-n c =
     rw c.argument-n.ensures (variable-below _ _ c.requires.0 (sym c.kind.ensures ∙ c.in-0.is))
 
-pub overflow_cast-result : goal.overflow_cast-result
-overflow_cast-result c =
-    omega (arith, c.shared_slice_known-in-0-1.given c.argument-n.result)
-
 pub operator_type-requires : goal.operator_type-requires
 operator_type-requires c =
     (rw c.argument-n.ensures (operator-below _ _ c.requires.0 (sym c.kind.ensures ∙ c.in-7.is)), c.requires.1, c.requires.2)
@@ -20,7 +16,7 @@ operator_type-requires c =
 pub returns-in-0 : goal.returns-in-0
 unfolding record_type
 returns-in-0 c =
-    rw (← c.kind.ensures, c.in-0.is, ← c.argument-n.ensures)
+    rw (← c.kind.ensures, c.in-0.is, ← c.argument-n.ensures) c.from.ensures
 
 pub returns-in-1 : goal.returns-in-1
 unfolding record_type

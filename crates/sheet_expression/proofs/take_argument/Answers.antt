@@ -1,15 +1,13 @@
-use mathlib.Core.Path.{sym, ◌∙◌}
-use Rattle.sheet_expression.proofs.OneRecord.{argument-there, argument-none}
+use Rattle.sheet_expression.specs.Expression.{argument_ok, argument_at}
+use Rattle.std.proofs.Common.{rules}
 use Rattle.sheet_expression.proofs.take_argument.Goals as goal
 
-pub argument_ok-ok-requires : goal.argument_ok-ok-requires
-argument_ok-ok-requires c =
-    (c.requires.0, c.requires.1, sym c.has_argument.ensures ∙ c.if-has_argument.true)
-
 pub returns-then-has_argument : goal.returns-then-has_argument
+unfolding argument_at
 returns-then-has_argument c =
-    argument-there _ _ _ _ c.has_argument.ensures c.if-has_argument.true c.take_field-f.ensures c.argument_ok-ok.ensures c.start.ensures c.checked.ensures
+    rw (← c.has_argument.ensures, c.if-has_argument.true) (c.take_checked.ensures (argument_ok c.args.variables c.args.kind) (λ x b lt answers. search rules))
 
 pub returns-else-has_argument : goal.returns-else-has_argument
+unfolding argument_at
 returns-else-has_argument c =
-    argument-none _ _ _ _ c.has_argument.ensures c.if-has_argument.false
+    rw (← c.has_argument.ensures, c.if-has_argument.false)

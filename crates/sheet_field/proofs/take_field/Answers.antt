@@ -1,19 +1,16 @@
-use Rattle.sheet_field.proofs.Fields.{field-whole, field_cut, field-refused}
-use native.Mathlib.Omega.{arith}
+use Rattle.std.proofs.Common.{◌+◌, refl, arith, length}
+use Rattle.std.proofs.lemmas.Bool.{le-leb, lt-leb}
+use Rattle.sheet_field.specs.Field.{field_at}
 use Rattle.sheet_field.proofs.take_field.Goals as goal
+use Rattle.sheet_field.proofs.take_field.Goals.{else-at-s-via-then-at-s+else-s-at, else-at-s-via-else-at-s}
 
-pub returns-then-n-s : goal.returns-then-n-s
-returns-then-n-s c =
-    field-whole _ _ c.in-At.is (omega arith) c.number.ensures c.bytes-n.ensures
-
-pub returns-in-Refused : goal.returns-in-Refused
-returns-in-Refused c =
-    field-refused _ _ c.in-Refused.is
-
-pub returns-else-n-s : goal.returns-else-n-s
-returns-else-n-s c =
-    field_cut _ _ c.in-At.is (omega arith)
+pub returns-then-s-at : goal.returns-then-s-at
+unfolding field_at
+returns-then-s-at c c' = rw (le-leb (c'.args.at + c.row.N) (length c'.args.s.now) (omega arith), c'.number.ensures) refl
 
 pub returns-else-at-s : goal.returns-else-at-s
-returns-else-at-s c =
-    field_cut _ _ c.in-At.is (omega arith)
+unfolding field_at
+returns-else-at-s c c' = elim c'.else-at-s.branch [
+  | else-at-s-via-then-at-s+else-s-at w ↦ rw (lt-leb (c'.args.at + c.row.N) (length c'.args.s.now) (omega arith)) cc
+  | else-at-s-via-else-at-s w ↦ rw (lt-leb (c'.args.at + c.row.N) (length c'.args.s.now) (omega arith)) cc
+]

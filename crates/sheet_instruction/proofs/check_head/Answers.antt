@@ -1,27 +1,10 @@
-use Rattle.sheet_instruction.proofs.Composed.{map-refused, map-inside, address-refused, number-refused, head-are}
-use Rattle.sheet_instruction.proofs.Checks.{refused-on, code_inside}
+use Rattle.std.proofs.Common.{◌∙◌, sym, rules}
+use Rattle.sheet_instruction.proofs.Composed.{field_there, target_refused}
 use Rattle.sheet_instruction.proofs.check_head.Goals as goal
 
-pub returns-in_default : goal.returns-in_default
-returns-in_default c =
-    (map-refused c.args.opens c.args.last _ _ c.check_map-map.ensures c.in_default.is, λ on. refused-on c.in_default.is on)
-
-pub check_address-after_address-requires : goal.check_address-after_address-requires
-check_address-after_address-requires c =
-    map-inside c.args.opens c.args.last _ _ c.check_map-map.ensures c.in-At.is
-
-pub returns-in_default-after_address : goal.returns-in_default-after_address
-returns-in_default-after_address c =
-    (address-refused c.args.opens c.args.last _ _ c.check_map-map.ensures c.in-At.is c.check_address-after_address.ensures c.in_default-after_address.is, λ on. refused-on c.in_default-after_address.is on)
-
-pub returns-in_default-after_number : goal.returns-in_default-after_number
-returns-in_default-after_number c =
-    (number-refused c.args.opens c.args.last _ _ c.check_map-map.ensures c.in-At.is c.check_address-after_address.ensures c.in-At-after_address.is c.check_code-number.ensures c.in_default-after_number.is, λ on. refused-on c.in_default-after_number.is on)
-
-pub target_if-requires : goal.target_if-requires
-target_if-requires c =
-    code_inside 35 _ _ (rw c.check_code-number.ensures at c.in-At-after_number.is)
-
-pub returns : goal.returns
-returns c =
-    head-are c.args.opens c.args.last _ _ c.check_map-map.ensures c.in-At.is c.check_address-after_address.ensures c.in-At-after_address.is c.check_code-number.ensures c.in-At-after_number.is c.bit.ensures c.target_if.ensures
+pub returns-in_err-target : goal.returns-in_err-target
+returns-in_err-target c =
+    let t = field_there c.bit.result c.args.s.now c.in_ok-number.number.end (λ e. let p = c.optional.ensures.present e in search rules) c.optional.ensures.missing in
+    let e = rw c.bit.ensures at t ∙ c.in_err-target.was in
+    let r = target_refused c.args.opens c.args.last c.args.s.now c.args.at (sym c.check_map.ensures ∙ c.in_ok-map.was) (sym c.check_address.ensures ∙ c.in_ok-address.was) (sym c.code.ensures ∙ c.in_ok-number.was) e in
+    search rules

@@ -1,23 +1,26 @@
 use Rattle.sheet_node.proofs.Checks.{addresses-count-ends, addresses-room, addresses-end, addresses-stop}
+use Rattle.std.proofs.lemmas.Result.{err_from_is_err_and}
 use native.Mathlib.Omega.{arith}
+use mathlib.Core.Path.{sym, ◌∙◌}
 use Rattle.sheet_node.proofs.check_addresses.Goals as goal
 
-pub returns-in_default : goal.returns-in_default
-returns-in_default c =
-    addresses-count-ends _ _ c.count-n.ensures c.in_default.is
+pub returns-in_err-n : goal.returns-in_err-n
+returns-in_err-n c =
+    let e = err_from_is_err_and c.from_residual.result c.from_residual.ensures.1 in
+    rw (e.1, e.2) (addresses-count-ends _ _ (sym c.count.ensures ∙ c.in_err-n.was))
 
 pub overflow_sub-room : goal.overflow_sub-room
 overflow_sub-room c =
-    let a = c.args in (addresses-room a.s.now _ c.count-n.ensures c.in-At.is).0
+    (addresses-room _ _ (sym c.count.ensures ∙ c.in_ok-n.was)).0
 
 pub overflow_mul-size : goal.overflow_mul-size
 overflow_mul-size c =
-    let a = c.args in omega (arith, (addresses-room a.s.now _ c.count-n.ensures c.in-At.is).1)
+    omega (arith, (addresses-room _ _ (sym c.count.ensures ∙ c.in_ok-n.was)).1)
 
 pub returns-then-size-room : goal.returns-then-size-room
 returns-then-size-room c =
-    let a = c.args in addresses-end a.s.now _ c.count-n.ensures c.in-At.is (omega (arith, (addresses-room a.s.now _ c.count-n.ensures c.in-At.is).0))
+    addresses-end _ _ (sym c.count.ensures ∙ c.in_ok-n.was) (omega (arith, (addresses-room _ _ (sym c.count.ensures ∙ c.in_ok-n.was)).0))
 
-pub returns : goal.returns
-returns c =
-    let a = c.args in addresses-stop a.s.now _ c.count-n.ensures c.in-At.is (omega (arith, (addresses-room a.s.now _ c.count-n.ensures c.in-At.is).0))
+pub returns-else-size-room : goal.returns-else-size-room
+returns-else-size-room c =
+    rw c.at.ensures (addresses-stop _ _ (sym c.count.ensures ∙ c.in_ok-n.was) (omega (arith, (addresses-room _ _ (sym c.count.ensures ∙ c.in_ok-n.was)).0)))

@@ -1,36 +1,35 @@
 use Rattle.sheet_node.proofs.Checks.{map-ends, other-ends, variable-ends, value-ends, value-declared, types-differ, types_same}
+use Rattle.std.proofs.lemmas.Result.{err_from_is_err_and}
 use mathlib.Core.Path.{sym, ◌∙◌}
-use native.Mathlib.Omega.{arith}
 use Rattle.sheet_node.proofs.check_statement.Goals as goal
 
-pub returns-in_default : goal.returns-in_default
-returns-in_default c =
-    map-ends _ _ _ c.take_map-map.ensures c.in_default.is
+pub returns-in_err-map : goal.returns-in_err-map
+returns-in_err-map c =
+    let e = err_from_is_err_and c.from_residual.result c.from_residual.ensures.1 in
+    rw (e.1, e.2) (map-ends _ _ _ (sym c.take_map.ensures ∙ c.in_err-map.was))
 
 pub returns-then-map-ne3 : goal.returns-then-map-ne3
 returns-then-map-ne3 c =
-    sym c.in-At.is ∙ other-ends _ _ _ c.take_map-map.ensures c.if-map-ne3.true
+    other-ends _ _ _ (sym c.take_map.ensures ∙ c.in_ok-map.was) c.if-map-ne3.true
 
-pub returns-in_default-behind : goal.returns-in_default-behind
-returns-in_default-behind c =
-    variable-ends _ _ _ c.take_map-map.ensures c.if-map-ne3.false c.in-At.is c.code-v.ensures c.in_default-behind.is
+pub returns-in_err-v : goal.returns-in_err-v
+returns-in_err-v c =
+    let e = err_from_is_err_and c.from_residual-in_err-v.result c.from_residual-in_err-v.ensures.1 in
+    rw (e.1, e.2) (variable-ends _ _ _ (sym c.take_map.ensures ∙ c.in_ok-map.was) c.if-map-ne3.false (sym c.code.ensures ∙ c.in_err-v.was))
 
-pub returns-in_default-end : goal.returns-in_default-end
-returns-in_default-end c =
-    value-ends _ _ _ c.take_map-map.ensures c.if-map-ne3.false c.in-At.is c.code-v.ensures c.in-At-behind.is c.check_expression-e.ensures c.in_default-end.is
+pub returns-in_err-e : goal.returns-in_err-e
+returns-in_err-e c =
+    let e = err_from_is_err_and c.from_residual-in_err-e.result c.from_residual-in_err-e.ensures.1 in
+    rw (e.1, e.2) (value-ends _ _ _ (sym c.take_map.ensures ∙ c.in_ok-map.was) c.if-map-ne3.false (sym c.code.ensures ∙ c.in_ok-v.was) (sym c.check_expression.ensures ∙ c.in_err-e.was))
 
 pub bounds-types-v : goal.bounds-types-v
 bounds-types-v c =
-    let a = c.args in value-declared a.types.now a.s.now _ c.code-v.ensures c.in-At-behind.is
-
-pub overflow_cast-own : goal.overflow_cast-own
-overflow_cast-own c =
-    omega (arith, c.shared_slice_known-3-1.given c.code-v.result.value)
+    value-declared _ _ _ (sym c.take_map.ensures ∙ c.in_ok-map.was) c.if-map-ne3.false (sym c.code.ensures ∙ c.in_ok-v.was)
 
 pub returns-then-same_type : goal.returns-then-same_type
 returns-then-same_type c =
-    types_same _ _ _ c.take_map-map.ensures c.if-map-ne3.false c.in-At.is c.code-v.ensures c.in-At-behind.is c.check_expression-e.ensures c.in-At-end.is c.same_type.ensures c.if-same_type.true
+    types_same _ _ _ (sym c.take_map.ensures ∙ c.in_ok-map.was) c.if-map-ne3.false (sym c.code.ensures ∙ c.in_ok-v.was) (sym c.check_expression.ensures ∙ c.in_ok-e.was) (rw c.from.ensures at c.same_type.ensures) c.if-same_type.true
 
-pub returns : goal.returns
-returns c =
-    types-differ _ _ _ c.take_map-map.ensures c.if-map-ne3.false c.in-At.is c.code-v.ensures c.in-At-behind.is c.check_expression-e.ensures c.in-At-end.is c.same_type.ensures c.if-same_type.false
+pub returns-else-same_type : goal.returns-else-same_type
+returns-else-same_type c =
+    rw c.at.ensures (types-differ _ _ _ (sym c.take_map.ensures ∙ c.in_ok-map.was) c.if-map-ne3.false (sym c.code.ensures ∙ c.in_ok-v.was) (sym c.check_expression.ensures ∙ c.in_ok-e.was) (rw c.from.ensures at c.same_type.ensures) c.if-same_type.false)

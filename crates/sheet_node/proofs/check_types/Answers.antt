@@ -1,24 +1,24 @@
-use Rattle.sheet_node.proofs.Nodes.{types_more, types-stopped}
+use Rattle.sheet_node.proofs.Nodes.{type-read, type-refused}
 use Rattle.sheet_node.specs.Node.{types_from}
 use mathlib.Core.Path.{◌≡◌, refl, sym, ◌∙◌}
-use Prim.Native.Nat.{◌+◌}
+use Rattle.std.proofs.lemmas.Result.{err_from_is_err_and}
 use native.Mathlib.Omega.{arith}
-use Rattle.std.proofs.Common.{rules}
 use Rattle.sheet_node.proofs.check_types.Goals as goal
 
-pub loop-i-init : goal.loop-i-init
+pub loop-init : goal.loop-init
 unfolding types_from
-loop-i-init c =
-    (search rules, refl)
+loop-init c =
+    refl
 
-pub returns-in_default : goal.returns-in_default
-returns-in_default c =
-    let l = c.loop-i in types-stopped _ _ _ (l.i + 1) _ (rw (c.code-f.ensures, l.invariant.1) (types_more _ _ _)) (rw c.in_default.is) (omega arith)
+pub returns-in_err-at : goal.returns-in_err-at
+returns-in_err-at c =
+    let e = err_from_is_err_and c.from_residual.result c.from_residual.ensures.1 in
+    rw (e.1, e.2) (type-refused _ _ _ c.loop.invariant (sym c.code.ensures ∙ c.in_err-at.was) (omega arith))
 
-pub loop-i-preserved : goal.loop-i-preserved
-loop-i-preserved c =
-    (search rules, sym c.in-At.is ∙ rw (c.code-f.ensures, c.loop-i.invariant.1) (types_more _ _ _))
+pub loop-preserved : goal.loop-preserved
+loop-preserved c =
+    type-read _ _ _ c.loop.invariant (sym c.code.ensures ∙ c.in_ok-at.was)
 
 pub returns : goal.returns
 returns c =
-    let e : c.args.n ≡ c.loop-i.i = omega arith in rw e c.loop-i.invariant.1
+    let e : c.args.n ≡ c.loop.counter = omega arith in rw e c.loop.invariant

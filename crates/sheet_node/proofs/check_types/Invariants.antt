@@ -1,11 +1,7 @@
 use Rattle.sheet_node.specs.Node.{types_from}
-use Rattle.sheet_field.specs.declared.Place.TheVariants.{At}
+use Rattle.std.specs.Prelude.{Ok}
 use mathlib.Core.Path.{◌≡◌}
-use Prim.Native.Nat.{◌-◌, ◌≤◌}
 use Rattle.sheet_node.proofs.check_types.Given as goal
 
-abbrev pub invariant-loop-i : goal.invariant-loop-i
-invariant-loop-i l = (l.i ≤ l.n) × (At l.at ≡ types_from l.s (At l.from) l.i)
-
-abbrev pub decreases-loop-i : goal.decreases-loop-i
-decreases-loop-i l = l.n - l.i
+abbrev pub invariant-loop : goal.invariant-loop
+invariant-loop l = Ok l.at ≡ types_from l.s (Ok l.from) l.counter

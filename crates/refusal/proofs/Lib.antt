@@ -1,0 +1,2 @@
+-- laws of the definitions, which other proofs cite
+pub mod Apart

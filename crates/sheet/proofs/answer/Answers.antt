@@ -1,9 +1,0 @@
-use Rattle.sheet.proofs.answer.Goals as goal
-
-pub returns-in-At : goal.returns-in-At
-returns-in-At c =
-    rw c.in-At.is
-
-pub returns-in-Refused : goal.returns-in-Refused
-returns-in-Refused c =
-    rw c.in-Refused.is

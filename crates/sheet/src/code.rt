@@ -1,0 +1,118 @@
+// An accepted sheet with its index: its blocks and its instructions by their numbers.
+#![tactic(auto)]
+
+ghost use Rattle.std.specs.Prelude.{◌≡◌, false, ◌<◌, length, get_or, Ok, Err, IfOk, IfErr};
+ghost use Rattle.isa.specs.declared.Instruction.{Instruction};
+ghost use Rattle.sheet.specs.Sheet.{no_block, sheet_at, reading_of};
+ghost use Rattle.sheet.specs.Index.{addresses_of, targets_of, branches_of, InFront};
+ghost use Rattle.sheet.specs.Promises.{having_block};
+
+use crate::{Block, Sheet};
+use isa::{Instruction, Mnemonic};
+use refusal::{Fault, Refusal};
+use sheet_accepted::Record;
+
+// The bytes of an accepted sheet, what reading gives of them, and the address and the offset of each instruction.
+#[derive(Clone, Copy)]
+pub struct Code<'a> {
+    pub bytes: &'a [u8],
+    pub sheet: Sheet,
+    pub addresses: &'a [u64],
+    pub places: &'a [u64],
+    pub ghost accepted: { reading_of bytes.now ≡ Ok sheet },
+    pub ghost addressed: { addresses.now ≡ addresses_of (sheet_at bytes.now).instructions.list },
+    pub ghost placed: { places.now ≡ (sheet_at bytes.now).instructions.places },
+}
+
+impl<'a> Code<'a> {
+    // An accepted sheet whose index stands at the start of the lists.
+    pub fn new(bytes: &'a [u8], sheet: Sheet, addresses: &'a [u64], places: &'a [u64]) -> Self
+        requires accepted { reading_of bytes.now ≡ Ok sheet }
+        requires addressed { InFront sheet.instructions.count addresses.now (addresses_of (sheet_at bytes.now).instructions.list) }
+        requires placed { InFront sheet.instructions.count places.now (sheet_at bytes.now).instructions.places }
+        ensures same_bytes { result.bytes.now ≡ bytes.entry.now }
+        ensures same_sheet { result.sheet ≡ sheet }
+    {
+        let n = sheet.instructions.count as usize;
+        Code {
+            bytes,
+            sheet,
+            addresses: &addresses[..n],
+            places: &places[..n],
+        }
+    }
+
+    // The code of any bytes, to ask for the block of that number; or the refusal, reading's first. The lists hold the index.
+    pub fn with_block(
+        bytes: &'a [u8],
+        number: u64,
+        addresses: &'a mut [u64; 2048],
+        places: &'a mut [u64; 2048],
+    ) -> Result<Code<'a>, Refusal>
+        ensures code { IfOk result (λ code. (code.bytes.now ≡ bytes.entry.now) × (number < code.sheet.blocks.count)) }
+        ensures refused { IfErr result (λ r. Err r ≡ having_block (reading_of bytes.entry.now) number) }
+    {
+        let sheet = crate::read_index(bytes, addresses, places, &mut [])?;
+        if number < sheet.blocks.count {
+            Ok(Code::new(bytes, sheet, addresses, places))
+        } else {
+            Err(Fault::Number.at(0))
+        }
+    }
+
+    // The block of that number.
+    pub fn nth_block(&self, number: u64) -> Block
+        requires { number < self.now.sheet.blocks.count }
+        ensures { result ≡ get_or (sheet_at self.now.bytes.now).blocks.list number no_block }
+    {
+        let at = self.sheet.blocks.at + 16 * number as usize;
+        Block {
+            from: sheet_field::number::<8>(self.bytes, at),
+            to: sheet_field::number::<8>(self.bytes, at + 8),
+        }
+    }
+
+    // The record of the instruction of that number.
+    fn record(&self, number: usize) -> Record<'_>
+        requires { number < length self.now.places.now }
+        ensures bytes { result.bytes.now ≡ self.now.bytes.now }
+        ensures at { result.at ≡ get_or self.now.places.now number 0 }
+    {
+        Record {
+            bytes: self.bytes,
+            at: self.places[number] as usize,
+        }
+    }
+
+    // The instruction of that number.
+    pub fn nth_instruction(&self, number: usize) -> Instruction
+        requires { number < length self.now.places.now }
+        ensures { (d : Instruction) → result ≡ get_or (sheet_at self.now.bytes.now).instructions.list number d }
+    {
+        self.record(number).instruction()
+    }
+
+    // The mnemonic of the instruction of that number.
+    pub fn nth_mnemonic(&self, number: usize) -> Mnemonic
+        requires { number < length self.now.places.now }
+        ensures { (d : Instruction) → result ≡ (get_or (sheet_at self.now.bytes.now).instructions.list number d).mnemonic }
+    {
+        self.record(number).mnemonic()
+    }
+
+    // Whether the instruction of that number is a conditional branch.
+    pub fn is_branch(&self, number: usize) -> bool
+        requires { number < length self.now.places.now }
+        ensures { result ≡ get_or (branches_of (sheet_at self.now.bytes.now).instructions.list) number false }
+    {
+        self.record(number).is_branch()
+    }
+
+    // The target of the instruction of that number, 0 where it is no conditional branch.
+    pub fn nth_target(&self, number: usize) -> u64
+        requires { number < length self.now.places.now }
+        ensures { result ≡ get_or (targets_of (sheet_at self.now.bytes.now).instructions.list) number 0 }
+    {
+        self.record(number).target()
+    }
+}

@@ -1,6 +1,0 @@
-use Rattle.sheet_field.proofs.Fields.{little-add}
-use Rattle.sheet_field.proofs.four.Goals as goal
-
-pub returns : goal.returns
-returns c =
-    rw (little-add c.args.s.now c.args.at 2 2) (cc)
