@@ -7,12 +7,11 @@ use native.Mathlib.Omega.{arith}
 use lib.Dec.{leb}
 use lib.ListN.{length, length-append}
 use borrow.Author.Tests.{leb-false, lt-ltb, le-ltb}
+use Rattle.std.specs.Prelude.{Result, Ok, Err}
 use Rattle.isa.specs.declared.Instruction.{Instruction}
 use Rattle.verdict.specs.declared.Verdict.{Verdict}
 use Rattle.verdict.specs.declared.Verdict.TheVariants.{Always, Never, Undecided, NoBranch}
-use Rattle.sheet.specs.declared.Reading.{Reading}
-use Rattle.sheet.specs.declared.Reading.TheVariants as reading
-use Rattle.sheet.specs.Sheet.{sheet_at, reading_of}
+use Rattle.sheet.specs.Sheet.{sheet_at, reading_of, Reading}
 use Rattle.sheet.proofs.Accepted.{accepted}
 use Rattle.sheet.proofs.ByNumber.{instructions-count}
 use Rattle.sheet_bytes.specs.Write.{records}
@@ -20,9 +19,8 @@ use Rattle.verdict_lines.proofs.Over.{over-spans}
 use Rattle.verdict_lines.specs.Lines.{Line, line_of, line_bytes}
 use Rattle.verdict_lines.proofs.Written.{lines-length}
 use Rattle.verdict_sheet.specs.Said.{Judged, Said, judged_up_to, first_decided, lines_of}
-use Rattle.verdict_sheet.specs.Said.Judged.{all, refused as node_refused}
-use Rattle.answer_listing.specs.declared.Listed.{Listed}
-use Rattle.answer_listing.specs.declared.Listed.TheVariants as listed
+use Rattle.refusal.specs.declared.Refusal.{Refusal}
+use Rattle.refusal.specs.Numbers.{number_of}
 use Rattle.answer_listing.specs.Listing.{Listing, listed_numbers, written, on_judged, listing_on, listing_of}
 use Rattle.answer_listing.specs.Listing.ListedNumbers.{lines, refused}
 use Rattle.listing_text.specs.Text.{branches_text, refusal_text, entries_text}
@@ -68,15 +66,15 @@ written-says s list due true e room = rw e record {
 }
 
 judged-says : (s list : List ℕ) (j : Judged) → 18 * length (sheet_at s).instructions.list ≤ length list → Says (judged_text j s) (length list) (on_judged j s list)
-judged-says s list (node_refused k p) room = refusal-says k p (length list) list
-judged-says s list (all said) room =
+judged-says s list (Err r) room = refusal-says (number_of r.fault) r.at (length list) list
+judged-says s list (Ok said) room =
     let code = (sheet_at s).instructions.list in
     let due = lines_of code said in
     written-says s list due (leb (18 * length due) (length list)) refl (omega (arith, lines-few code said))
 
 reading-says : (s list : List ℕ) (r : Reading) → reading_of s ≡ r → 36864 ≤ length list → Says (read_text r s) (length list) (listing_on r s list)
-reading-says s list (reading.Refused k p) e room = refusal-says k p (length list) list
-reading-says s list (reading.Accepted sheet) e room =
+reading-says s list (Err r) e room = refusal-says (number_of r.fault) r.at (length list) list
+reading-says s list (Ok sheet) e room =
     judged-says s list (judged_up_to s sheet.blocks.count sheet.nodes.count)
     (omega (arith, instructions-count s sheet e, (accepted s sheet e).few))
 
@@ -99,18 +97,18 @@ module _ (s list : List ℕ) (room : length list ≡ 36864) where
   says = listing-says s list (omega arith)
 
   -- the listing's answer in code
-  pub count-few : {r : Listed} {n : ℕ} → listed_numbers r ≡ (listing_of s list).answer → r ≡ listed.Lines n → 18 * n ≤ 36864
+  pub count-few : {r : Result ℕ Refusal} {n : ℕ} → listed_numbers r ≡ (listing_of s list).answer → r ≡ Ok n → 18 * n ≤ 36864
   count-few {r} {n} is lines_are =
       let fits : 18 * n ≤ length list = (says.of-lines n (sym is ∙ rw lines_are)).1 in
       omega arith
 
-  pub lines-text : {old new after : List ℕ} {r : Listed} {n count : ℕ} → length s ≤ 65536
-      → listed_numbers r ≡ (listing_of s list).answer → r ≡ listed.Lines n → after ≡ (listing_of s list).list
+  pub lines-text : {old new after : List ℕ} {r : Result ℕ Refusal} {n count : ℕ} → length s ≤ 65536
+      → listed_numbers r ≡ (listing_of s list).answer → r ≡ Ok n → after ≡ (listing_of s list).list
       → Written old new count (branches_text n (entries_text after 0 n)) → Written old new count (printed s)
   lines-text {n = n} short is lines_are after_is w =
       rw (within s short, (says.of-lines n (sym is ∙ rw lines_are)).0, ← after_is) w
 
-  pub refusal-text : {old new : List ℕ} {r : Listed} {k p count : ℕ} → length s ≤ 65536
-      → listed_numbers r ≡ (listing_of s list).answer → r ≡ listed.Refused k p
-      → Written old new count (refusal_text k p) → Written old new count (printed s)
-  refusal-text {k = k} {p} short is refusal w = rw (within s short, says.of-refusal k p (sym is ∙ rw refusal)) w
+  pub refusal-text : {old new : List ℕ} {r : Result ℕ Refusal} {e : Refusal} {k count : ℕ} → length s ≤ 65536
+      → listed_numbers r ≡ (listing_of s list).answer → r ≡ Err e → k ≡ number_of e.fault
+      → Written old new count (refusal_text k e.at) → Written old new count (printed s)
+  refusal-text {e = e} short is refusal k-is w = rw (within s short, says.of-refusal (number_of e.fault) e.at (sym is ∙ rw refusal), ← k-is) w

@@ -7,7 +7,6 @@ ghost use Rattle.text.specs.Digits.{digits, decimal};
 ghost use Rattle.text.specs.Promises.{Puts, Written};
 ghost use Rattle.listing_text.specs.Text.{space, line_feed, verdict_word, entry_text, entries_text, branches_text, refusal_text};
 
-use sheet_field::{Place, Width};
 use text::Writer;
 
 // Puts the word for a verdict. A number that stands for none has no word.
@@ -27,8 +26,7 @@ fn address(list: &[u8], from: usize) -> u64
     requires { from + 8 ≤ length list.now }
     ensures { result ≡ little list.now from 8 }
 {
-    let field = sheet_field::take_field(list, Place::At(from), Width::Eight);
-    field.value
+    sheet_field::number::<8>(list, from)
 }
 
 // Puts site and target, with a space after each.

@@ -6,9 +6,8 @@
 // sheet, and the sets: a value is its number of bytes (0 to 8) and those bytes.
 #![tactic(auto)]
 
-use answer_sentence::Told;
-use evaluate_node::Evaluation;
-use sheet::{Reading, Sheet};
+use refusal::{Fault, Refusal};
+use sheet::Sheet;
 use std::io::Read;
 use test_io::Early;
 use verdict::{Answer, Reason, Verdict};
@@ -18,11 +17,11 @@ const LONGEST_FRAME: usize = 1048576;
 
 const LONGEST_SENTENCE: usize = 49182;
 
-fn refused(output: &impl Print, k: u64, at: usize) -> bool {
+fn refused(output: &impl Print, r: Refusal) -> bool {
     test_io::word(output, b"refused")
-        & test_io::number(output, k)
+        & test_io::number(output, r.fault.number())
         & test_io::word(output, b" at")
-        & test_io::number(output, at as u64)
+        & test_io::number(output, r.at as u64)
 }
 
 // The three counts, and where the records start.
@@ -41,15 +40,14 @@ fn accepted(output: &impl Print, sheet: Sheet) -> bool {
 }
 
 fn say_reading(output: &impl Print, s: &[u8]) -> bool {
-    let reading = sheet::read(s);
-    match reading {
-        Reading::Accepted(sheet) => accepted(output, sheet),
-        Reading::Refused(k, at) => refused(output, k, at),
+    match sheet::read(s) {
+        Ok(sheet) => accepted(output, sheet),
+        Err(r) => refused(output, r),
     }
 }
 
 fn say_decided(output: &impl Print, way: &[u8], r: Reason) -> bool {
-    test_io::word(output, way) & test_io::digits(output, verdict::reason_number(r) as u64)
+    test_io::word(output, way) & test_io::digits(output, r.number() as u64)
 }
 
 // a always and v never, each with the reason's number; u undecided, n no branch.
@@ -64,17 +62,17 @@ fn say_verdict(output: &impl Print, v: Verdict) -> bool {
 
 // r with its number for a refusal. That of the number past the last record is due and is not said; any other answer for that
 // number is one too many on the line.
-fn say_refused(output: &impl Print, k: u64, at: usize, past: bool) -> bool {
-    if past & (k == 13) & (at == 0) {
+fn say_refused(output: &impl Print, r: Refusal, past: bool) -> bool {
+    if past & (r == Fault::Number.at(0)) {
         return true;
     }
-    test_io::word(output, b" r") & test_io::digits(output, k)
+    test_io::word(output, b" r") & test_io::digits(output, r.fault.number())
 }
 
 fn say_answer(output: &impl Print, a: Answer, past: bool) -> bool {
     match a {
-        Answer::Given(v) => say_verdict(output, v),
-        Answer::Refused(k, at) => say_refused(output, k, at, past),
+        Ok(v) => say_verdict(output, v),
+        Err(r) => say_refused(output, r, past),
     }
 }
 
@@ -83,8 +81,8 @@ fn say_sentence(output: &impl Print, s: &[u8], number: u64, past: bool) -> bool 
     let mut text = [0u8; LONGEST_SENTENCE];
     let told = answer_sentence::block_sentence(s, number, &mut text);
     match told {
-        Told::Length(n) => test_io::word(output, b"|") & test_io::start(output, &text, n),
-        Told::Refused(k, at) => say_refused(output, k, at, past),
+        Ok(n) => test_io::word(output, b"|") & test_io::start(output, &text, n),
+        Err(r) => say_refused(output, r, past),
     }
 }
 
@@ -122,19 +120,16 @@ fn say_all(output: &impl Print, s: &[u8], said: Said, n: u64) -> bool {
 }
 
 fn count_of(sheet: Sheet, said: Said) -> u64 {
-    let blocks = sheet.blocks;
-    let nodes = sheet.nodes;
     match said {
-        Said::Nodes => nodes.count,
-        Said::Blocks | Said::Sentences => blocks.count,
+        Said::Nodes => sheet.nodes.count,
+        Said::Blocks | Said::Sentences => sheet.blocks.count,
     }
 }
 
 fn say_records(output: &impl Print, s: &[u8], said: Said) -> bool {
-    let reading = sheet::read(s);
-    match reading {
-        Reading::Accepted(sheet) => say_all(output, s, said, count_of(sheet, said)),
-        Reading::Refused(k, at) => refused(output, k, at),
+    match sheet::read(s) {
+        Ok(sheet) => say_all(output, s, said, count_of(sheet, said)),
+        Err(r) => refused(output, r),
     }
 }
 
@@ -146,11 +141,11 @@ fn comma(output: &impl Print, number: u32) -> bool {
     true
 }
 
-fn say_evaluation(output: &impl Print, e: Evaluation) -> bool {
+fn say_evaluation(output: &impl Print, e: Result<bool, Refusal>) -> bool {
     match e {
-        Evaluation::Holds => test_io::word(output, b"holds"),
-        Evaluation::Fails => test_io::word(output, b"fails"),
-        Evaluation::Refused(k, at) => refused(output, k, at),
+        Ok(true) => test_io::word(output, b"holds"),
+        Ok(false) => test_io::word(output, b"fails"),
+        Err(r) => refused(output, r),
     }
 }
 
