@@ -1,4 +1,5 @@
 -- Laws of stepping over a range of instructions.
+use Rattle.std.proofs.Common.{Option, Some, None}
 use Prim.Native.Nat.{ℕ, ◌+◌, ◌≤◌, ◌<◌}
 use mathlib.Core.Path.{◌≡◌, refl, ap, sym, ◌∙◌}
 use mathlib.Core.Bool.{Bool, true, false}
@@ -13,8 +14,6 @@ use Rattle.machine.specs.declared.State.{State}
 use Rattle.machine.specs.Rules.{stepped, stepped_all}
 use Rattle.sheet.specs.Index.{branches_of}
 use Rattle.sheet.proofs.Fronts.{one, map_at}
-use Rattle.verdict_block.specs.declared.Jump.{Jump}
-use Rattle.verdict_block.specs.declared.Jump.TheVariants.{Conditional, Nothing}
 use Rattle.verdict_block.specs.Verdict.{preceded, apart, jump_of, end_from}
 use Rattle.verdict_block.specs.Verdict.Parts.{none, ending}
 
@@ -47,7 +46,7 @@ module _ (l : List Instruction) where
   unfolding apart
   apart_none i end out = rw (none_left i end out)
 
-  pub end_none : (i end : ℕ) (start : State) → end ≤ i → record { known = start; jump = Nothing } ≡ end_from start (slice i end l)
+  pub end_none : (i end : ℕ) (start : State) → end ≤ i → record { known = start; jump = None } ≡ end_from start (slice i end l)
   unfolding end_from
   end_none i end start out = rw (apart_none i end out)
 
@@ -62,7 +61,7 @@ module _ (l : List Instruction) where
       rw (← last-is, snoc-at first last d (omega arith) (omega arith)) (apart-last (slice first last l) (get_or l last d))
 
   -- the last one
-  pub end-last : (first last end : ℕ) (start : State) {state : State} {jump : Jump} → first < end → last + 1 ≡ end
+  pub end-last : (first last end : ℕ) (start : State) {state : State} {jump : Option Mnemonic} → first < end → last + 1 ≡ end
       → end ≤ length l → state ≡ stepped_all start (slice first last l) → ((d : Instruction) → jump ≡ jump_of (get_or l last d))
       → record { known = state; jump = jump } ≡ end_from start (slice first end l)
   unfolding end_from
@@ -77,8 +76,8 @@ module _ (l : List Instruction) where
     marked d = sym (map_at (λ (i : Instruction). i.branch) l number d false there) ∙ sym mark-is
 
     pub jump-there : {m : Mnemonic} → mark ≡ true → ((d : Instruction) → m ≡ (get_or l number d).mnemonic) → (d : Instruction)
-        → Conditional m ≡ jump_of (get_or l number d)
+        → Some m ≡ jump_of (get_or l number d)
     jump-there taken m-is d = rw (marked d, taken, m-is d)
 
-    pub no_jump : mark ≡ false → (d : Instruction) → Nothing ≡ jump_of (get_or l number d)
+    pub no_jump : mark ≡ false → (d : Instruction) → None ≡ jump_of (get_or l number d)
     no_jump left d = rw (marked d, left)

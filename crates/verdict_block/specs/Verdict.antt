@@ -1,9 +1,8 @@
 -- A block's end and the verdict there, by the rules of the machine.
-use Rattle.std.specs.Prelude.{ℕ, List, [], ◌∷◌, cond, ◌&&◌, leb, ltb, get_or}
+use Rattle.std.specs.Prelude.{ℕ, List, [], ◌∷◌, cond, ◌&&◌, leb, ltb, get_or, Bool, true, false, Option, Some, None}
+use Rattle.isa.specs.declared.Mnemonic.{Mnemonic}
 use Rattle.isa.specs.declared.Instruction.{Instruction}
 use Rattle.machine.specs.declared.State.{State}
-use Rattle.alu.specs.declared.Flag.{Flag}
-use Rattle.alu.specs.declared.Flag.TheVariants.{Known, Unknown}
 use Rattle.machine.specs.Registers.{nothing_known}
 use Rattle.machine.specs.Rules.{stepped_all}
 use Rattle.machine.specs.Conditions.{condition_of}
@@ -11,8 +10,6 @@ use Rattle.verdict.specs.declared.Reason.TheVariants.{Flags}
 use Rattle.verdict.specs.declared.Verdict.{Verdict}
 use Rattle.verdict.specs.declared.Verdict.TheVariants.{Always, Never, Undecided, NoBranch}
 use Rattle.sheet.specs.Sheet.{no_block, sheet_at}
-use Rattle.verdict_block.specs.declared.Jump.{Jump}
-use Rattle.verdict_block.specs.declared.Jump.TheVariants.{Conditional, Nothing}
 
 -- Of all instructions, those of a block: at or above its first address and below its second, in the sheet's order (S26).
 unfoldable pub within : ℕ → ℕ → List Instruction → List Instruction
@@ -39,18 +36,18 @@ apart [] = none
 apart (i ∷ l) = preceded i (apart l)
 
 -- Only a conditional branch is judged (M22).
-abbrev pub jump_of : Instruction → Jump
-jump_of i = cond i.branch (Conditional i.mnemonic) Nothing
+abbrev pub jump_of : Instruction → Option Mnemonic
+jump_of i = cond i.branch (Some i.mnemonic) None
 
 -- A block's end: what is known at its last instruction, and that instruction.
 pub record End : Type 0 where
   pub known : State
-  pub jump : Jump
+  pub jump : Option Mnemonic
 
 -- What is known at the last instruction is what the rules yield from those before it; a block with no instruction has
 -- nothing to judge (M22, M23).
 abbrev pub end_at : State → Parts → End
-end_at start none = record { known = start; jump = Nothing }
+end_at start none = record { known = start; jump = None }
 end_at start (ending before last) = record { known = stepped_all start before; jump = jump_of last }
 
 -- the end of instructions, from what is known at their start
@@ -58,14 +55,15 @@ unfoldable pub end_from : State → List Instruction → End
 end_from start code = end_at start (apart code)
 
 -- A condition known to hold is always, one known to fail never, each by flags.
-abbrev pub flag_verdict : Flag → Verdict
-flag_verdict (Known b) = cond b (Always Flags) (Never Flags)
-flag_verdict Unknown = Undecided
+abbrev pub flag_verdict : Option Bool → Verdict
+flag_verdict (Some true) = Always Flags
+flag_verdict (Some false) = Never Flags
+flag_verdict None = Undecided
 
 -- The verdict on a jump, by what is known at it.
-abbrev pub judged : State → Jump → Verdict
-judged known (Conditional mnemonic) = flag_verdict (condition_of known mnemonic)
-judged known Nothing = NoBranch
+abbrev pub judged : State → Option Mnemonic → Verdict
+judged known (Some mnemonic) = flag_verdict (condition_of known mnemonic)
+judged known None = NoBranch
 
 -- the verdict at a block's end
 abbrev pub verdict_at : End → Verdict

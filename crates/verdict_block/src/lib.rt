@@ -5,111 +5,69 @@
 ghost use Rattle.std.specs.Prelude.{◌≡◌, ◌≤◌, ◌<◌, length, get_or};
 ghost use Rattle.isa.specs.declared.Instruction.{Instruction};
 ghost use Rattle.std.proofs.Math.Seq.{slice};
-ghost use Rattle.machine.specs.States.{state_of};
 ghost use Rattle.machine.specs.Registers.{nothing_known};
 ghost use Rattle.machine.specs.Rules.{stepped_all};
 ghost use Rattle.sheet.specs.Sheet.{sheet_at};
 ghost use Rattle.verdict_block.specs.Verdict.{jump_of, flag_verdict, judged, verdict_at, end_from, verdict_on};
 ghost use Rattle.verdict_block.specs.Promises.{RangeOf};
 
-use alu::{Flag, Flags};
 use isa::Mnemonic;
-use machine::{Registers, State};
+use machine::State;
 use sheet::code::Code;
 use verdict::{Reason, Verdict};
 
-// A block's last instruction, as far as a verdict asks for it: a conditional branch of a mnemonic, or nothing to judge.
-#[derive(Clone, Copy)]
-pub enum Jump {
-    Conditional(Mnemonic),
-    Nothing,
-}
-
-// The instructions of a sheet from number `first` up to `end`.
+// The instructions of a sheet from number `first` up to `end`. Not std's range, which cannot be copied.
 #[derive(Clone, Copy)]
 pub struct Range {
     pub first: usize,
     pub end: usize,
 }
 
-// What a verdict asks for of the instruction of that number, of an accepted sheet.
-pub fn jump_at(code: &Code, number: usize) -> Jump
+// What a verdict asks for of the instruction of that number, of an accepted sheet: the mnemonic of a conditional branch.
+pub fn jump_at(code: &Code, number: usize) -> Option<Mnemonic>
     requires { number < length code.now.places.now }
     ensures { (d : Instruction) → result ≡ jump_of (get_or (sheet_at code.now.bytes.now).instructions.list number d) }
 {
     if code.is_branch(number) {
-        let mnemonic = code.nth_mnemonic(number);
-        Jump::Conditional(mnemonic)
+        Some(code.nth_mnemonic(number))
     } else {
-        Jump::Nothing
+        None
     }
 }
 
-// Step over the instructions of an accepted sheet from number `first` up to `end`: what is then known is left in the registers,
-// the flags come back.
+// Step over the instructions of an accepted sheet from number `first` up to `end`.
 pub fn step_over(
     code: &Code,
     first: usize,
     end: usize,
-    registers: &mut Registers,
-    start: Flags,
-) -> Flags
+    state: &mut State,
+)
     requires { end ≤ length code.now.places.now }
-    ensures { state_of registers.new result ≡ stepped_all (state_of registers.old start) (slice first end (sheet_at code.now.bytes.now).instructions.list) }
+    ensures { state.new ≡ stepped_all state.old (slice first end (sheet_at code.now.bytes.now).instructions.list) }
 {
-    let mut flags = start;
-    let mut i = first;
-    while i < end {
-        let it = code.nth_instruction(i);
-        flags = machine::step(registers, flags, it);
-        i += 1;
+    for i in first..end {
+        state.step(code.nth_instruction(i));
     }
-    flags
 }
 
-fn flag_verdict(f: Flag) -> Verdict
+fn flag_verdict(f: Option<bool>) -> Verdict
     ensures { result ≡ flag_verdict f }
 {
     match f {
-        Flag::Known(b) => {
-            if b {
-                Verdict::Always(Reason::Flags)
-            } else {
-                Verdict::Never(Reason::Flags)
-            }
-        }
-        Flag::Unknown => Verdict::Undecided,
+        Some(true) => Verdict::Always(Reason::Flags),
+        Some(false) => Verdict::Never(Reason::Flags),
+        None => Verdict::Undecided,
     }
 }
 
 // The verdict on a jump, by what is known at it.
-fn verdict_at(registers: &Registers, flags: Flags, jump: Jump) -> Verdict
-    ensures { result ≡ judged (state_of registers.now flags) jump }
+fn verdict_at(state: &State, jump: Option<Mnemonic>) -> Verdict
+    ensures { result ≡ judged state.now jump }
 {
     match jump {
-        Jump::Conditional(mnemonic) => flag_verdict(machine::condition(registers, flags, mnemonic)),
-        Jump::Nothing => Verdict::NoBranch,
+        Some(mnemonic) => flag_verdict(state.condition(mnemonic)),
+        None => Verdict::NoBranch,
     }
-}
-
-// The verdict at the end of the instructions of an accepted sheet from number `first` up to `end`, where the registers and
-// `start` are what is known at their start.
-fn verdict_between(
-    code: &Code,
-    first: usize,
-    end: usize,
-    registers: &mut Registers,
-    start: Flags,
-) -> Verdict
-    requires { end ≤ length code.now.places.now }
-    ensures { result ≡ verdict_at (end_from (state_of registers.old start) (slice first end (sheet_at code.now.bytes.now).instructions.list)) }
-{
-    if end <= first {
-        return Verdict::NoBranch;
-    }
-    let last = end - 1;
-    let flags = step_over(code, first, last, registers, start);
-    verdict_at(registers, flags, jump_at(code, last))
 }
 
 // The instructions of the block of that number, of an accepted sheet with its index: quickly found where they start at or shortly
@@ -129,10 +87,13 @@ pub fn verdict_in(code: &Code, range: Range) -> Verdict
     requires { range.end ≤ length code.now.places.now }
     ensures { result ≡ verdict_at (end_from nothing_known (slice range.first range.end (sheet_at code.now.bytes.now).instructions.list)) }
 {
-    let start = State::unknown();
-    let mut registers = start.registers;
-    let flags = start.flags;
-    verdict_between(code, range.first, range.end, &mut registers, flags)
+    if range.end <= range.first {
+        return Verdict::NoBranch;
+    }
+    let last = range.end - 1;
+    let mut state = State::unknown();
+    step_over(code, range.first, last, &mut state);
+    verdict_at(&state, jump_at(code, last))
 }
 
 // The verdict on the block of that number, of an accepted sheet with its index.
