@@ -1,4 +1,3 @@
-pub mod Ascii
 pub mod Digits
 pub mod Numbers
 pub mod Promises

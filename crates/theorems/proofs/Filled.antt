@@ -19,7 +19,7 @@ use Rattle.machine.specs.declared.State.{State}
 use Rattle.machine.specs.Registers.{nothing_known, read_of}
 use Rattle.machine.specs.Conditions.{count_register, condition_of}
 use Rattle.machine.specs.Rules.{stepped, stepped_all}
-use Rattle.text.specs.Ascii.{ascii}
+use Rattle.std.specs.Prelude.{codes}
 use Rattle.sentence_text.specs.Sentence.{turned}
 use Rattle.sentence.specs.Why.{Why, why_stepped, why_stepped_all, no_why}
 use Rattle.sentence.specs.Told.{Told, flag_told, opposite, differ, either, both, flags_told, condition_told, count_told, told_of, sentence_of}
@@ -55,7 +55,6 @@ filled_none w = record { cf = no-need; pf = no-need; zf = no-need; sf = no-need;
 
 -- what an instruction makes of a flag and its text
 has-still : {way : Way} {own : List ℕ} {lacks : Bool} {f g : Option Bool} {old new : List ℕ} → Change way own lacks f old g new → HasText f old → HasText g new
-unfolding ascii
 has-still becomes-unknown h = no-need
 has-still (set some) h = has_some _ some
 has-still stays h = h

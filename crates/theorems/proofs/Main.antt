@@ -44,7 +44,7 @@ use Rattle.listing.specs.Program.{printed}
 use Rattle.theorems.specs.Runs.{Source, answer_for, Ends, ForcedEnd, node_run, SaysOf, AnswerFromRun}
 use Rattle.theorems.specs.Lines.{line_at, Listed, Refuses, TrueOf}
 use Rattle.theorems.specs.Sentences.{Holds, RefusesSentence, SentenceRow, answer_to, said_by, sentence_rows}
-use Rattle.text.specs.Ascii.{ascii}
+use Rattle.std.specs.Prelude.{codes}
 use Rattle.theorems.specs.Text.{text_of, Sample, samples}
 use Rattle.theorems.specs.Rows.{Yields, rows, probe, marked}
 use Rattle.worked_sheets.specs.Sheets.{Worked}
@@ -137,11 +137,11 @@ pub program-text : (s list : List ℕ) → length s ≤ 65536 → 36864 ≤ leng
 program-text = text-is
 
 -- For longer input it is a refusal, whatever the bytes.
-pub program-limit : (s : List ℕ) → 65536 < length s → printed s ≡ ascii "refused 1 at 65536\n"
+pub program-limit : (s : List ℕ) → 65536 < length s → printed s ≡ codes "refused 1 at 65536\n"
 program-limit = limit_is
 
 -- For short inputs it is the text worked out by hand, the scope document's two lines first.
-pub program-samples : All (λ (x : Sample). printed x.bytes ≡ ascii x.text) samples
+pub program-samples : All (λ (x : Sample). printed x.bytes ≡ codes x.text) samples
 program-samples = as-sampled
 
 -- For a block of an accepted sheet the answer is always (never) exactly where the block ends in a flag branch that what is known there forces to jump

@@ -254,9 +254,9 @@ unfolding places_within
 five-places more = refl
 
 few-said : ◌≡◌ {A = List Answered} (map answer_to few_digits) (map said_by few_digits)
-unfolding few_digits Rattle.sheet_field.specs.Field.little Rattle.sheet_field.specs.Field.field_at Rattle.sheet_field.specs.Field.check_field Rattle.sheet_field.specs.Field.code_at Rattle.sheet_field.specs.Field.count_at Rattle.sheet_instruction.specs.Instruction.register_at Rattle.sheet_instruction.specs.Instruction.operand_at Rattle.sheet_instruction.specs.Instruction.with_register Rattle.sheet_instruction.specs.Instruction.registers_from Rattle.sheet_instruction.specs.Instruction.registers_at Rattle.sheet_instruction.specs.Instruction.map_at Rattle.sheet_instruction.specs.Instruction.address_at Rattle.sheet_instruction.specs.Instruction.head_at Rattle.sheet_instruction.specs.Instruction.tail_at Rattle.sheet_instruction.specs.Instruction.instruction_at Rattle.sheet.specs.Sheet.instructions_from Rattle.sheet.specs.Sheet.block_at Rattle.sheet.specs.Sheet.blocks_from Rattle.sheet.specs.Sheet.nodes_from Rattle.sheet.specs.Sheet.sheet_at Rattle.sheet.specs.Sheet.reading_of Rattle.isa.specs.Mnemonics.named Rattle.isa.specs.Mnemonics.table Rattle.verdict_block.specs.Verdict.within Rattle.verdict_block.specs.Verdict.code_of Rattle.verdict_block.specs.Verdict.apart Rattle.machine.specs.Rules.stepped_all Rattle.machine.specs.Finish.finished Rattle.machine.specs.Rules.arith_step Rattle.machine.specs.Rules.unary_unknown Rattle.machine.specs.Rules.unary_step Rattle.machine.specs.Rules.register_step Rattle.machine.specs.Rules.modelled_step Rattle.machine.specs.Rules.stepped Rattle.machine.specs.Registers.nothing_known Rattle.machine.specs.Registers.slot_at Rattle.machine.specs.Registers.forget_register Rattle.machine.specs.Rules.carry_step Rattle.known.specs.Registers.part_of Rattle.known.specs.Registers.with_part Rattle.machine.specs.States.replaced Rattle.machine.specs.Registers.read_of Rattle.machine.specs.Registers.written Rattle.machine.specs.Registers.operand_of Rattle.machine.specs.Registers.forget_registers Rattle.machine.specs.Registers.forgotten Rattle.known.specs.Operations.of_itself Rattle.known.specs.Operations.of_known Rattle.known.specs.Operations.arith_effect Rattle.known.specs.Operations.unary_effect Rattle.known.specs.Operations.forget_flags Rattle.known.specs.Values.extracted Rattle.known.specs.Values.inserted Rattle.known.specs.Values.merged Rattle.alu.specs.Arithmetic.result_of Rattle.alu.specs.Arithmetic.carry Rattle.alu.specs.Arithmetic.overflow Rattle.alu.specs.Arithmetic.result_flags Rattle.alu.specs.Arithmetic.performed lib.Count.ones Rattle.worked_sheets.specs.Sheets.placed Rattle.sentence_block.specs.Sentence.sentence_on Rattle.answer_sentence.specs.Sentence.sentence_answer Rattle.sentence.specs.Why.arith_why Rattle.sentence.specs.Why.unary_why Rattle.sentence.specs.Why.modelled_why Rattle.sentence.specs.Why.why_stepped Rattle.sentence.specs.Why.why_stepped_all Rattle.sentence.specs.Told.flags_told Rattle.sentence.specs.Told.condition_told Rattle.sentence.specs.Told.told_of Rattle.sentence_text.specs.Sentence.joined Rattle.laws.specs.Words.same_words Rattle.phrase.specs.Causes.value_text Rattle.phrase.specs.Causes.values_text Rattle.phrase.specs.Causes.itself_text Rattle.phrase.specs.Causes.carry_text Rattle.phrase.specs.Causes.overflow_text Rattle.wording.specs.Names.words Rattle.wording.specs.Names.low_bytes Rattle.wording.specs.Names.high_bytes Rattle.wording.specs.Names.low_name Rattle.wording.specs.Names.register_name Rattle.wording.specs.Values.signed_below Rattle.wording.specs.Values.signed_text Rattle.wording.specs.Values.is_text Rattle.text.specs.Digits.digits Rattle.text.specs.Digits.places_within Rattle.text.specs.Ascii.ascii
+unfolding few_digits Rattle.sheet_field.specs.Field.little Rattle.sheet_field.specs.Field.field_at Rattle.sheet_field.specs.Field.check_field Rattle.sheet_field.specs.Field.code_at Rattle.sheet_field.specs.Field.count_at Rattle.sheet_instruction.specs.Instruction.register_at Rattle.sheet_instruction.specs.Instruction.operand_at Rattle.sheet_instruction.specs.Instruction.with_register Rattle.sheet_instruction.specs.Instruction.registers_from Rattle.sheet_instruction.specs.Instruction.registers_at Rattle.sheet_instruction.specs.Instruction.map_at Rattle.sheet_instruction.specs.Instruction.address_at Rattle.sheet_instruction.specs.Instruction.head_at Rattle.sheet_instruction.specs.Instruction.tail_at Rattle.sheet_instruction.specs.Instruction.instruction_at Rattle.sheet.specs.Sheet.instructions_from Rattle.sheet.specs.Sheet.block_at Rattle.sheet.specs.Sheet.blocks_from Rattle.sheet.specs.Sheet.nodes_from Rattle.sheet.specs.Sheet.sheet_at Rattle.sheet.specs.Sheet.reading_of Rattle.isa.specs.Mnemonics.named Rattle.isa.specs.Mnemonics.table Rattle.verdict_block.specs.Verdict.within Rattle.verdict_block.specs.Verdict.code_of Rattle.verdict_block.specs.Verdict.apart Rattle.machine.specs.Rules.stepped_all Rattle.machine.specs.Finish.finished Rattle.machine.specs.Rules.arith_step Rattle.machine.specs.Rules.unary_unknown Rattle.machine.specs.Rules.unary_step Rattle.machine.specs.Rules.register_step Rattle.machine.specs.Rules.modelled_step Rattle.machine.specs.Rules.stepped Rattle.machine.specs.Registers.nothing_known Rattle.machine.specs.Registers.slot_at Rattle.machine.specs.Registers.forget_register Rattle.machine.specs.Rules.carry_step Rattle.known.specs.Registers.part_of Rattle.known.specs.Registers.with_part Rattle.machine.specs.States.replaced Rattle.machine.specs.Registers.read_of Rattle.machine.specs.Registers.written Rattle.machine.specs.Registers.operand_of Rattle.machine.specs.Registers.forget_registers Rattle.machine.specs.Registers.forgotten Rattle.known.specs.Operations.of_itself Rattle.known.specs.Operations.of_known Rattle.known.specs.Operations.arith_effect Rattle.known.specs.Operations.unary_effect Rattle.known.specs.Operations.forget_flags Rattle.known.specs.Values.extracted Rattle.known.specs.Values.inserted Rattle.known.specs.Values.merged Rattle.alu.specs.Arithmetic.result_of Rattle.alu.specs.Arithmetic.carry Rattle.alu.specs.Arithmetic.overflow Rattle.alu.specs.Arithmetic.result_flags Rattle.alu.specs.Arithmetic.performed lib.Count.ones Rattle.worked_sheets.specs.Sheets.placed Rattle.sentence_block.specs.Sentence.sentence_on Rattle.answer_sentence.specs.Sentence.sentence_answer Rattle.sentence.specs.Why.arith_why Rattle.sentence.specs.Why.unary_why Rattle.sentence.specs.Why.modelled_why Rattle.sentence.specs.Why.why_stepped Rattle.sentence.specs.Why.why_stepped_all Rattle.sentence.specs.Told.flags_told Rattle.sentence.specs.Told.condition_told Rattle.sentence.specs.Told.told_of Rattle.sentence_text.specs.Sentence.joined Rattle.laws.specs.Words.same_words Rattle.phrase.specs.Causes.value_text Rattle.phrase.specs.Causes.values_text Rattle.phrase.specs.Causes.itself_text Rattle.phrase.specs.Causes.carry_text Rattle.phrase.specs.Causes.overflow_text Rattle.wording.specs.Names.words Rattle.wording.specs.Names.low_bytes Rattle.wording.specs.Names.high_bytes Rattle.wording.specs.Names.low_name Rattle.wording.specs.Names.register_name Rattle.wording.specs.Values.signed_below Rattle.wording.specs.Values.signed_text Rattle.wording.specs.Values.is_text Rattle.text.specs.Digits.digits Rattle.text.specs.Digits.places_within
 few-said = refl
 
 pub as_said : All (λ (r : SentenceRow). answer_to r ≡ said_by r) sentence_rows
-unfolding All sentence_rows Rattle.sheet_field.specs.Field.little Rattle.sheet_field.specs.Field.field_at Rattle.sheet_field.specs.Field.check_field Rattle.sheet_field.specs.Field.code_at Rattle.sheet_field.specs.Field.count_at Rattle.sheet_instruction.specs.Instruction.register_at Rattle.sheet_instruction.specs.Instruction.operand_at Rattle.sheet_instruction.specs.Instruction.with_register Rattle.sheet_instruction.specs.Instruction.registers_from Rattle.sheet_instruction.specs.Instruction.registers_at Rattle.sheet_instruction.specs.Instruction.map_at Rattle.sheet_instruction.specs.Instruction.address_at Rattle.sheet_instruction.specs.Instruction.head_at Rattle.sheet_instruction.specs.Instruction.tail_at Rattle.sheet_instruction.specs.Instruction.instruction_at Rattle.sheet.specs.Sheet.instructions_from Rattle.sheet.specs.Sheet.block_at Rattle.sheet.specs.Sheet.blocks_from Rattle.sheet.specs.Sheet.nodes_from Rattle.sheet.specs.Sheet.sheet_at Rattle.sheet.specs.Sheet.reading_of Rattle.isa.specs.Mnemonics.named Rattle.isa.specs.Mnemonics.table Rattle.verdict_block.specs.Verdict.within Rattle.verdict_block.specs.Verdict.code_of Rattle.verdict_block.specs.Verdict.apart Rattle.machine.specs.Rules.stepped_all Rattle.machine.specs.Finish.finished Rattle.machine.specs.Rules.arith_step Rattle.machine.specs.Rules.unary_unknown Rattle.machine.specs.Rules.unary_step Rattle.machine.specs.Rules.register_step Rattle.machine.specs.Rules.modelled_step Rattle.machine.specs.Rules.stepped Rattle.machine.specs.Registers.nothing_known Rattle.machine.specs.Registers.slot_at Rattle.machine.specs.Registers.forget_register Rattle.machine.specs.Rules.carry_step Rattle.known.specs.Registers.part_of Rattle.known.specs.Registers.with_part Rattle.machine.specs.States.replaced Rattle.machine.specs.Registers.read_of Rattle.machine.specs.Registers.written Rattle.machine.specs.Registers.operand_of Rattle.machine.specs.Registers.forget_registers Rattle.machine.specs.Registers.forgotten Rattle.known.specs.Operations.of_itself Rattle.known.specs.Operations.of_known Rattle.known.specs.Operations.arith_effect Rattle.known.specs.Operations.unary_effect Rattle.known.specs.Operations.forget_flags Rattle.known.specs.Values.extracted Rattle.known.specs.Values.inserted Rattle.known.specs.Values.merged Rattle.alu.specs.Arithmetic.result_of Rattle.alu.specs.Arithmetic.carry Rattle.alu.specs.Arithmetic.overflow Rattle.alu.specs.Arithmetic.result_flags Rattle.alu.specs.Arithmetic.performed lib.Count.ones Rattle.worked_sheets.specs.Sheets.placed Rattle.sentence_block.specs.Sentence.sentence_on Rattle.answer_sentence.specs.Sentence.sentence_answer Rattle.sentence.specs.Why.arith_why Rattle.sentence.specs.Why.unary_why Rattle.sentence.specs.Why.modelled_why Rattle.sentence.specs.Why.why_stepped Rattle.sentence.specs.Why.why_stepped_all Rattle.sentence.specs.Told.flags_told Rattle.sentence.specs.Told.condition_told Rattle.sentence.specs.Told.told_of Rattle.sentence_text.specs.Sentence.joined Rattle.laws.specs.Words.same_words Rattle.phrase.specs.Causes.value_text Rattle.phrase.specs.Causes.values_text Rattle.phrase.specs.Causes.itself_text Rattle.phrase.specs.Causes.carry_text Rattle.phrase.specs.Causes.overflow_text Rattle.wording.specs.Names.words Rattle.wording.specs.Names.low_bytes Rattle.wording.specs.Names.high_bytes Rattle.wording.specs.Names.low_name Rattle.wording.specs.Names.register_name Rattle.wording.specs.Values.signed_below Rattle.wording.specs.Values.signed_text Rattle.wording.specs.Values.is_text Rattle.text.specs.Digits.digits Rattle.text.specs.Ascii.ascii
+unfolding All sentence_rows Rattle.sheet_field.specs.Field.little Rattle.sheet_field.specs.Field.field_at Rattle.sheet_field.specs.Field.check_field Rattle.sheet_field.specs.Field.code_at Rattle.sheet_field.specs.Field.count_at Rattle.sheet_instruction.specs.Instruction.register_at Rattle.sheet_instruction.specs.Instruction.operand_at Rattle.sheet_instruction.specs.Instruction.with_register Rattle.sheet_instruction.specs.Instruction.registers_from Rattle.sheet_instruction.specs.Instruction.registers_at Rattle.sheet_instruction.specs.Instruction.map_at Rattle.sheet_instruction.specs.Instruction.address_at Rattle.sheet_instruction.specs.Instruction.head_at Rattle.sheet_instruction.specs.Instruction.tail_at Rattle.sheet_instruction.specs.Instruction.instruction_at Rattle.sheet.specs.Sheet.instructions_from Rattle.sheet.specs.Sheet.block_at Rattle.sheet.specs.Sheet.blocks_from Rattle.sheet.specs.Sheet.nodes_from Rattle.sheet.specs.Sheet.sheet_at Rattle.sheet.specs.Sheet.reading_of Rattle.isa.specs.Mnemonics.named Rattle.isa.specs.Mnemonics.table Rattle.verdict_block.specs.Verdict.within Rattle.verdict_block.specs.Verdict.code_of Rattle.verdict_block.specs.Verdict.apart Rattle.machine.specs.Rules.stepped_all Rattle.machine.specs.Finish.finished Rattle.machine.specs.Rules.arith_step Rattle.machine.specs.Rules.unary_unknown Rattle.machine.specs.Rules.unary_step Rattle.machine.specs.Rules.register_step Rattle.machine.specs.Rules.modelled_step Rattle.machine.specs.Rules.stepped Rattle.machine.specs.Registers.nothing_known Rattle.machine.specs.Registers.slot_at Rattle.machine.specs.Registers.forget_register Rattle.machine.specs.Rules.carry_step Rattle.known.specs.Registers.part_of Rattle.known.specs.Registers.with_part Rattle.machine.specs.States.replaced Rattle.machine.specs.Registers.read_of Rattle.machine.specs.Registers.written Rattle.machine.specs.Registers.operand_of Rattle.machine.specs.Registers.forget_registers Rattle.machine.specs.Registers.forgotten Rattle.known.specs.Operations.of_itself Rattle.known.specs.Operations.of_known Rattle.known.specs.Operations.arith_effect Rattle.known.specs.Operations.unary_effect Rattle.known.specs.Operations.forget_flags Rattle.known.specs.Values.extracted Rattle.known.specs.Values.inserted Rattle.known.specs.Values.merged Rattle.alu.specs.Arithmetic.result_of Rattle.alu.specs.Arithmetic.carry Rattle.alu.specs.Arithmetic.overflow Rattle.alu.specs.Arithmetic.result_flags Rattle.alu.specs.Arithmetic.performed lib.Count.ones Rattle.worked_sheets.specs.Sheets.placed Rattle.sentence_block.specs.Sentence.sentence_on Rattle.answer_sentence.specs.Sentence.sentence_answer Rattle.sentence.specs.Why.arith_why Rattle.sentence.specs.Why.unary_why Rattle.sentence.specs.Why.modelled_why Rattle.sentence.specs.Why.why_stepped Rattle.sentence.specs.Why.why_stepped_all Rattle.sentence.specs.Told.flags_told Rattle.sentence.specs.Told.condition_told Rattle.sentence.specs.Told.told_of Rattle.sentence_text.specs.Sentence.joined Rattle.laws.specs.Words.same_words Rattle.phrase.specs.Causes.value_text Rattle.phrase.specs.Causes.values_text Rattle.phrase.specs.Causes.itself_text Rattle.phrase.specs.Causes.carry_text Rattle.phrase.specs.Causes.overflow_text Rattle.wording.specs.Names.words Rattle.wording.specs.Names.low_bytes Rattle.wording.specs.Names.high_bytes Rattle.wording.specs.Names.low_name Rattle.wording.specs.Names.register_name Rattle.wording.specs.Values.signed_below Rattle.wording.specs.Values.signed_text Rattle.wording.specs.Values.is_text Rattle.text.specs.Digits.digits
 as_said = (rw (eight-places 0xffff_ffee, two-places), (rw (five-places 0xfffb), each answer_to said_by few_digits few-said))

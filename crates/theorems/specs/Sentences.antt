@@ -5,7 +5,7 @@ use Prim.Native.String.{String}
 use Rattle.sheet.specs.declared.Sheet.{Sheet}
 use Rattle.sheet.specs.declared.Reading.TheVariants as reading
 use Rattle.sheet.specs.Sheet.{reading_of}
-use Rattle.text.specs.Ascii.{ascii}
+use Rattle.std.specs.Prelude.{codes}
 use Rattle.sentence_block.specs.Sentence.{sentence_on}
 use Rattle.answer_sentence.specs.Sentence.{Answered, sentence_answer}
 use Rattle.answer_sentence.specs.Sentence.ToldNumbers.{long}
@@ -73,11 +73,11 @@ says code sentence = record { code = code; sentence = sentence }
 
 -- the answer for a row's block, into a text that has just the length of the row's sentence, all of it 0
 abbrev pub answer_to : SentenceRow → Answered
-answer_to r = sentence_answer (sheet r.code) 0 (replicate (length (ascii r.sentence)) 0)
+answer_to r = sentence_answer (sheet r.code) 0 (replicate (length (codes r.sentence)) 0)
 
 -- that length, and the sentence
 abbrev pub said_by : SentenceRow → Answered
-said_by r = record { answer = long (length (ascii r.sentence)); text = ascii r.sentence }
+said_by r = record { answer = long (length (codes r.sentence)); text = codes r.sentence }
 
 -- rows with values of few digits
 unfoldable pub few_digits : List SentenceRow

@@ -6,13 +6,13 @@ use Rattle.verdict_lines.specs.Lines.{Line}
 use Rattle.answer_listing.specs.Listing.{ListedNumbers}
 use Rattle.answer_listing.specs.Listing.ListedNumbers.{lines, refused}
 use Rattle.text.specs.Digits.{places_of}
-use Rattle.text.specs.Ascii.{ascii}
+use Rattle.std.specs.Prelude.{codes}
 use Rattle.theorems.specs.Lines.{line_at}
 
 -- the last k digits of n in a base up to 16, the highest first
 unfoldable pub numeral : (base k n : ℕ) → List ℕ
 numeral base zero n = []
-numeral base (suc k) n = numeral base k (n / base) ++ (get_or (ascii "0123456789abcdef") (n % base) 0 ∷ [])
+numeral base (suc k) n = numeral base k (n / base) ++ (get_or (codes "0123456789abcdef") (n % base) 0 ∷ [])
 
 -- n in base ten, without leading zeros
 abbrev pub in_ten : ℕ → List ℕ
@@ -20,14 +20,14 @@ in_ten n = numeral 10 (places_of 10 n) n
 
 -- the word of a verdict, 1 or 0; no other number has one
 abbrev pub word : ℕ → List ℕ
-word zero = ascii "never"
-word (suc zero) = ascii "always"
+word zero = codes "never"
+word (suc zero) = codes "always"
 word (suc (suc n)) = []
 
 -- A line: site and target in sixteen hexadecimal digits, the verdict's word, the reason's number (L10).
 abbrev pub line_text : Line → List ℕ
 line_text l =
-    numeral 16 16 l.site ++ ascii " " ++ numeral 16 16 l.target ++ ascii " " ++ word l.value ++ ascii " " ++ in_ten l.reason ++ ascii "\n"
+    numeral 16 16 l.site ++ codes " " ++ numeral 16 16 l.target ++ codes " " ++ word l.value ++ codes " " ++ in_ten l.reason ++ codes "\n"
 
 -- so many lines of a list, from the line of number k on
 unfoldable pub lines_from : List ℕ → (k count : ℕ) → List ℕ
@@ -36,8 +36,8 @@ lines_from list k (suc count) = line_text (line_at list k) ++ lines_from list (s
 
 -- The number of lines and the lines of the list; or the refusal with its number and its offset (L10, L11).
 abbrev pub text_of : ListedNumbers → List ℕ → List ℕ
-text_of (lines count) list = ascii "branches " ++ in_ten count ++ ascii "\n" ++ lines_from list 0 count
-text_of (refused number place) list = ascii "refused " ++ in_ten number ++ ascii " at " ++ in_ten place ++ ascii "\n"
+text_of (lines count) list = codes "branches " ++ in_ten count ++ codes "\n" ++ lines_from list 0 count
+text_of (refused number place) list = codes "refused " ++ in_ten number ++ codes " at " ++ in_ten place ++ codes "\n"
 
 -- ---- whole inputs
 
