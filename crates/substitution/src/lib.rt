@@ -13,6 +13,7 @@ use expr::Tree;
 use slot::Slot;
 
 // How many trees under a load are still to come before this record, if there were `left` of them up to it.
+#[tactic(auto, unfolding(crate::specs::Held::pending_after))]
 fn pending(left: u64, tag: u64) -> u64
     requires { pending_after left tag ≤ 256 }
     ensures { result ≡ pending_after left tag }

@@ -20,7 +20,7 @@ impl Words {
 
 // The words of a tree, the first `length` of 256, or nothing where `length` is 0.
 #[derive(Clone, Copy)]
-pub struct Slot {
+pub(crate) struct Slot {
     words: Words,
     length: usize,
     ghost few: { length ≤ 256 },
@@ -31,13 +31,13 @@ impl Slot {
     ghost use Rattle.substitution.specs.Substitution.{free, held, entry_reads};
     ghost use Rattle.substitution.specs.Held.{entry_in, Holds};
 
-    pub const EMPTY: Slot = Slot {
+    pub(crate) const EMPTY: Slot = Slot {
         words: Words([0; 256]),
         length: 0,
     };
 
     // The tree that is held.
-    pub fn tree(&self) -> Option<Tree<'_>>
+    pub(crate) fn tree(&self) -> Option<Tree<'_>>
         ensures { Holds result (entry_in self.now) }
     {
         if self.length == 0 {
@@ -47,7 +47,7 @@ impl Slot {
     }
 
     // Whether what is held reads variable v.
-    pub fn reads(&self, v: u64) -> bool
+    pub(crate) fn reads(&self, v: u64) -> bool
         ensures { result ≡ entry_reads v (entry_in self.now) }
     {
         match self.tree() {
@@ -57,14 +57,14 @@ impl Slot {
     }
 
     // Ends what is held.
-    pub fn clear(&mut self)
+    pub(crate) fn clear(&mut self)
         ensures { entry_in self.new ≡ free }
     {
         self.length = 0;
     }
 
     // Ends what is held, if it is held for v itself, or reads v.
-    pub fn end(&mut self, own: bool, v: u64)
+    pub(crate) fn end(&mut self, own: bool, v: u64)
         ensures { entry_in self.new ≡ cond (own || entry_reads v (entry_in self.old)) free (entry_in self.old) }
     {
         if own || self.reads(v) {
@@ -74,7 +74,7 @@ impl Slot {
 
     // Holds a tree.
     #[tactic(auto, using(crate::proofs::Entries::entry_held))]
-    pub fn hold(&mut self, tree: Tree)
+    pub(crate) fn hold(&mut self, tree: Tree)
         requires { length tree.words.now ≤ 256 }
         ensures { entry_in self.new ≡ held (tree_of tree.entry.words.now) }
     {

@@ -64,7 +64,7 @@ fn verdict_among<const N: usize>(s: &[u8], at: usize, front: NodeFront) -> Judge
 {
     let from = sheet_field::start(front.types);
     let types = sheet_node::types_of(s, front.body, from, front.variables as usize);
-    let mut room = Room::<N>::new();
+    let mut room: Room<N> = Room::new();
     match room.substitute(s, types, front.body, front.statements) {
         Some(made) => judge(s, made.condition, made.end, at),
         None => JudgedNode {
