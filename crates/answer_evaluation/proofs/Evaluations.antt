@@ -14,20 +14,21 @@ use Rattle.evaluate_node.specs.Evaluate.{Evaluation, evaluation_of}
 use Rattle.answer_evaluation.specs.Evaluation.{Evaluated, in_numbers, evaluated_node, node_on, evaluation_answer}
 use Rattle.answer_evaluation.specs.Evaluation.Evaluated.{refused}
 
-turned_back : Refusal → Evaluated
-turned_back r = refused (number_of r.fault) r.at
+-- a refusal in numbers
+abbrev in_refused : Refusal → Evaluated
+in_refused r = refused (number_of r.fault) r.at
 
 module _ (s : List ℕ) (number : ℕ) (values : List ℕ) {p : Place} (found : p ≡ found_on (reading_of s) s number) where
-  evaluated-by : evaluation_answer s number values ≡ by_place (λ place. in_numbers (evaluation_of (node_numbered s number) place values)) turned_back p
-  unfolding evaluation_answer evaluated_node by_place turned_back
+  evaluated-by : evaluation_answer s number values ≡ by_place (λ place. in_numbers (evaluation_of (node_numbered s number) place values)) in_refused p
+  unfolding evaluation_answer evaluated_node by_place
   evaluated-by = rw found (by (reading_of s))
     where
-      by : (r : Reading) → node_on r s number values ≡ by_place (λ place. in_numbers (evaluation_of (node_numbered s number) place values)) turned_back (found_on r s number)
+      by : (r : Reading) → node_on r s number values ≡ by_place (λ place. in_numbers (evaluation_of (node_numbered s number) place values)) in_refused (found_on r s number)
       by (Err r) = refl
-      by (Ok sheet) = sym (found-on (λ place. in_numbers (evaluation_of (node_numbered s number) place values)) turned_back s number sheet)
+      by (Ok sheet) = sym (found-on (λ place. in_numbers (evaluation_of (node_numbered s number) place values)) in_refused s number sheet)
 
-  pub evaluation-refused : {r : Refusal} → p ≡ Err r → in_numbers (Err r) ≡ evaluation_answer s number values
-  unfolding by_place turned_back
+  pub evaluation-refused : {r : Refusal} → p ≡ Err r → refused (number_of r.fault) r.at ≡ evaluation_answer s number values
+  unfolding by_place
   evaluation-refused is = sym (rw is at evaluated-by)
 
   pub evaluation-is : {at : ℕ} {node : NodeReading} {e : Evaluation} → p ≡ Ok at → node ≡ node_at s (Ok at)

@@ -11,7 +11,7 @@ pub fn evaluation(s: &[u8], number: u64, values: &[u64]) -> Evaluation
     ensures { in_numbers result ≡ evaluation_answer s.now number values.now }
 {
     let at = sheet::find_node(s, number)?;
-    let mut words = [0; 256];
+    let mut words = [0u64; 256];
     let node = sheet_node::node_at(s, at, &mut words);
     evaluate_node::evaluate_node(s, node, at, values)
 }

@@ -4,12 +4,12 @@ use mathlib.Core.Path.{◌≡◌, refl}
 use mathlib.Core.Bool.{Bool, true, false, cond}
 use mathlib.Core.List.{List}
 use lib.Dec.{ltb}
-use Rattle.std.specs.Prelude.{Ok, Err}
-use Rattle.refusal.specs.declared.Refusal.{Refusal}
 use Rattle.substitution.specs.Substitution.{Substituted, too_long, into, with_assignments}
 use Rattle.verdict.specs.declared.Verdict.{Verdict}
 use Rattle.verdict.specs.declared.Verdict.TheVariants.{Always, Never, Undecided, NoBranch}
-use Rattle.verdict.specs.Numbers.{Answer, Numbers, answer_numbers}
+use Rattle.std.specs.Prelude.{Ok, Err}
+use Rattle.refusal.specs.declared.Refusal.{Refusal}
+use Rattle.verdict.specs.Numbers.{Numbers, Answer, answer_numbers}
 use Rattle.verdict.specs.Numbers.Numbers.{decision, undecided, no_branch, refused}
 use Rattle.decide.specs.Decide.{decide, fits}
 use Rattle.decide.proofs.Reasons.{has-branch}

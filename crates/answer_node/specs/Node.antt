@@ -2,7 +2,7 @@
 use Rattle.std.specs.Prelude.{ℕ, List, cond, ltb, Ok, Err}
 use Rattle.refusal.specs.declared.Fault.TheVariants.{Number}
 use Rattle.refusal.specs.Numbers.{refused}
-use Rattle.verdict.specs.Numbers.{Answer, Numbers, answer_numbers}
+use Rattle.verdict.specs.Numbers.{Numbers, Answer, answer_numbers}
 use Rattle.sheet.specs.Sheet.{Reading, reading_of, node_numbered, node_place}
 use Rattle.verdict_node.specs.NodeVerdict.{node_verdict}
 
