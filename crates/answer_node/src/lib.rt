@@ -5,19 +5,13 @@ ghost use Rattle.std.specs.Prelude.{◌≡◌};
 ghost use Rattle.verdict.specs.Numbers.{answer_numbers};
 ghost use Rattle.answer_node.specs.Node.{node_answer};
 
-use sheet_field::Place;
 use verdict::Answer;
 
 // The verdict on the node of that number, from 0.
 pub fn node_verdict(s: &[u8], number: u64) -> Answer
     ensures { answer_numbers result ≡ node_answer s.now number }
 {
-    let found = sheet::find_node(s, number);
-    match found {
-        Place::At(at) => {
-            let judged = verdict_node::verdict_at(s, at);
-            judged.answer
-        }
-        Place::Refused(k, at) => Answer::Refused(k, at),
-    }
+    let at = sheet::find_node(s, number)?;
+    let judged = verdict_node::verdict_at(s, at)?;
+    Ok(judged.verdict)
 }

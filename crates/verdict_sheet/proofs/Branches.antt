@@ -1,5 +1,5 @@
 -- A record's branch, found by the index.
-use Prim.Native.Nat.{ℕ, ◌+◌, ◌-◌, ◌≤◌, ◌<◌}
+use Prim.Native.Nat.{ℕ, zero, suc, ◌+◌, ◌-◌, ◌*◌, ◌≤◌, ◌<◌}
 use mathlib.Core.Path.{◌≡◌, refl, sym, ap, ◌∙◌}
 use mathlib.Core.List.{List, [], ◌∷◌, ◌++◌}
 use mathlib.Core.Bool.{Bool, true, false, cond}
@@ -16,8 +16,12 @@ use Rattle.search.specs.declared.Found.{Found}
 use Rattle.search.specs.declared.Found.TheVariants.{At, Nothing}
 use Rattle.search.specs.Ascending.{later, place_of}
 use Rattle.search.proofs.Laws.{place_found}
-use Rattle.sheet_field.specs.Field.{Place, FieldReading, field_at}
-use Rattle.sheet_node.specs.Node.{NodeReading, node_of, addresses_from}
+use Rattle.std.specs.Prelude.{Ok}
+use Rattle.sheet_field.specs.Field.{Place, WentOn, little, field_at}
+use Rattle.sheet_field.proofs.Fields.{field-at, field-whole}
+use Rattle.sheet_field.proofs.Counted.{back}
+use Rattle.sheet_node.proofs.Nodes.{addresses-keep}
+use Rattle.sheet_node.specs.Node.{NodeReading, node_at, node_of, addresses_from}
 use Rattle.sheet.specs.Sheet.{sheet_at}
 use Rattle.sheet.specs.Index.{addresses_of, branches_of}
 use Rattle.sheet.proofs.Fronts.{one, map_at}
@@ -92,26 +96,48 @@ module _ (addresses : List ℕ) (code : List Instruction) (address : ℕ) (other
   pub nothing-here : p ≡ Nothing → otherwise ≡ if_branch code (place_of addresses address) otherwise
   nothing-here nowhere = rw (← p-is, nowhere)
 
--- the loop over a node's addresses
-pub jump-none : (s : List ℕ) (sites : Place) (code : List Instruction)
-    → (sites ≡ (addresses_from s sites 0).next) × SiteIs code Nothing (last_branch code (addresses_from s sites 0).list)
-unfolding addresses_from last_branch
-jump-none s sites code = (refl, refl)
+-- the loop over a node's addresses, which were read whole
+module _ (s : List ℕ) (sites n : ℕ) (on : WentOn (addresses_from s (Ok sites) n).next) where
+  -- where an address stands
+  site-is : (i : ℕ) → i ≤ n → (addresses_from s (Ok sites) i).next ≡ Ok (sites + 8 * i)
+  unfolding addresses_from
+  site-is zero le = ap (λ (x : ℕ). Ok x) (omega arith)
+  site-is (suc i) le =
+      let w = back (λ j. (addresses_from s (Ok sites) j).next) (addresses-keep s (Ok sites)) n (suc i) on.1 le in
+      let f = field-at 8 s (addresses_from s (Ok sites) i).next w.1 in
+      let before = site-is i (omega arith) in
+      let from : f.from ≡ sites + 8 * i = cc (f.there, before) in
+      let end : w.0 ≡ sites + 8 * suc i = omega (arith, f.after, from) in
+      w.1 ∙ ap (λ (x : ℕ). Ok x) end
 
-pub jump-again : (s : List ℕ) (sites : Place) (k : ℕ) (code : List Instruction) {addresses : List ℕ} {next : Place} {f : FieldReading} (jump : Found) {r : Found}
-    → addresses ≡ addresses_of code
-    → (next ≡ (addresses_from s sites k).next) × SiteIs code jump (last_branch code (addresses_from s sites k).list)
-    → f ≡ field_at 8 s next → r ≡ if_branch code (place_of addresses f.value) jump
-    → (f.next ≡ (addresses_from s sites (k + 1)).next) × SiteIs code r (last_branch code (addresses_from s sites (k + 1)).list)
-unfolding addresses_from
-jump-again s sites k code {f = f} jump {r} addresses-are before f-is r-is =
-    let now : f ≡ field_at 8 s (addresses_from s sites k).next = rw (← before.0) f-is in
-    rw (add-one k, ← now)
-    (refl, jump-more code (addresses_from s sites k).list f.value jump before.1 {r = r} (rw (← addresses-are) r-is))
+  pub site-inside : (i : ℕ) → i < n → sites + 8 * i + 8 ≤ length s
+  unfolding addresses_from
+  site-inside i lt =
+      let w = back (λ j. (addresses_from s (Ok sites) j).next) (addresses-keep s (Ok sites)) n (suc i) on.1 lt in
+      let f = field-at 8 s (addresses_from s (Ok sites) i).next w.1 in
+      let before = site-is i (omega arith) in
+      let from : f.from ≡ sites + 8 * i = cc (f.there, before) in
+      omega (arith, f.inside, from)
 
-pub jump-done : (s : List ℕ) (sites : Place) (code : List Instruction) (jump : Found) {k n : ℕ} → k ≡ n
-    → SiteIs code jump (last_branch code (addresses_from s sites k).list) → SiteIs code jump (last_branch code (addresses_from s sites n).list)
-jump-done s sites code jump all is = rw (← all) is
+  pub jump-none : (code : List Instruction) → SiteIs code Nothing (last_branch code (addresses_from s (Ok sites) 0).list)
+  unfolding addresses_from last_branch
+  jump-none code = refl
+
+  pub jump-again : (i : ℕ) → i < n → (code : List Instruction) {addresses : List ℕ} {address : ℕ} (jump : Found) {r : Found} → addresses ≡ addresses_of code
+      → SiteIs code jump (last_branch code (addresses_from s (Ok sites) i).list)
+      → address ≡ little s (sites + 8 * i) 8 → r ≡ if_branch code (place_of addresses address) jump
+      → SiteIs code r (last_branch code (addresses_from s (Ok sites) (i + 1)).list)
+  unfolding addresses_from
+  jump-again i lt code {address = address} jump {r} addresses-are before address-is r-is =
+      let whole = field-whole 8 s {p = Ok (sites + 8 * i)} {at = sites + 8 * i} refl (site-inside i lt) refl refl in
+      rw (add-one i, site-is i (omega arith), ← whole, ← address-is)
+      (jump-more code (addresses_from s (Ok sites) i).list address jump before {r = r} (rw (← addresses-are) r-is))
+
+-- a node's addresses are its last part
+pub addresses-last : (s : List ℕ) (p : Place) {sites : Place} {n : ℕ} → sites ≡ (node_at s p).sites → n ≡ (node_at s p).addresses → WentOn (node_at s p).next
+    → WentOn (addresses_from s sites n).next
+unfolding node_at
+addresses-last s p sites-are n-is on = rw (sites-are, n-is) on
 
 -- a node's jump, from its addresses
 pub jump-of : (s : List ℕ) (node : NodeReading) (code : List Instruction) (jump : Found) {sites : Place} {n : ℕ} → sites ≡ node.sites → n ≡ node.addresses

@@ -11,18 +11,22 @@ use Rattle.search.specs.Ascending.{Ascending}
 use Rattle.sheet.specs.Index.{addresses_of}
 use Rattle.sheet_field.specs.Field.{WentOn}
 use Rattle.sheet.specs.declared.Sheet.{Sheet}
-use Rattle.sheet.proofs.ByNumber.{nth-node-read, nth-node-is}
+use Rattle.sheet.specs.declared.code.Code.{Code}
+use Rattle.sheet.proofs.ByNumber.{addresses-rise, nth-node-read, nth-node-is}
 use Rattle.isa.specs.declared.Instruction.{Instruction}
 use Rattle.verdict.specs.declared.Verdict.{Verdict}
 use Rattle.verdict.specs.Numbers.{Answer}
 use Rattle.search.specs.declared.Found.{Found}
-use Rattle.sheet_node.specs.Node.{NodeReading, node_at, node_of}
+use Rattle.sheet_node.specs.Node.{NodeReading, node_at, node_of, addresses_from}
 use Rattle.sheet.specs.Sheet.{sheet_at, reading_of, no_node, node_numbered, node_place}
 use Rattle.verdict_block.specs.Verdict.{verdict_on}
 use Rattle.verdict_node.specs.NodeVerdict.{node_verdict}
+use Rattle.verdict_node.specs.declared.JudgedNode.{JudgedNode}
+use Rattle.verdict_node.specs.Promises.{JudgedIs}
 use Rattle.verdict_sheet.specs.Sites.{last_branch, node_site, block_site}
 use Rattle.verdict_sheet.specs.Said.{Said, saying, blocks_say, Judged, node_too, judged_up_to}
 use Rattle.verdict_sheet.specs.Kept.{SiteIs, kept_at, slots_of, Reached}
+use Rattle.verdict_sheet.proofs.Branches.{jump-of}
 use Rattle.verdict_sheet.proofs.Keeping.{keep-saying}
 
 -- the loop over blocks
@@ -117,20 +121,30 @@ module _ (s : List ℕ) (blocks : ℕ) where
       go (Ok said) j-is here = absurd here
       go (Err q) j-is here = rw (stays k n q order j-is) here
 
-  module _ (k : ℕ) (r : Result (Unit {0}) Refusal) (slots after : List ℕ) (before : Reached (sheet_at s).instructions.list (Ok tt) slots (judged_up_to s blocks k))
-      (step : (said : List Said) → slots ≡ slots_of (sheet_at s).instructions.list said
-      → Reached (sheet_at s).instructions.list r after
-      (node_too (Ok said) (node_site s k) (node_verdict (node_numbered s k) (node_place s k)))) where
-    -- the node was not refused
-    pub nodes-on : r ≡ (Ok tt) → Reached (sheet_at s).instructions.list (Ok tt) after (judged_up_to s blocks (k + 1))
-    nodes-on is = rw is at (nodes-more k r slots after before step)
-
-    -- the node was refused
-    pub nodes-ended : (n : ℕ) (q : Refusal) → r ≡ Err q → k < n
-        → Reached (sheet_at s).instructions.list (Err q) after (judged_up_to s blocks n)
-    nodes-ended n q is below =
-        nodes-refused (k + 1) n q after (omega arith) (rw is at (nodes-more k r slots after before step))
-
   pub nodes-whole : (k n : ℕ) (slots : List ℕ) → k ≡ n → Reached (sheet_at s).instructions.list (Ok tt) slots (judged_up_to s blocks k)
       → Reached (sheet_at s).instructions.list (Ok tt) slots (judged_up_to s blocks n)
   nodes-whole k n slots all_of is = rw (← all_of) is
+
+-- one node more of an accepted sheet, by what is given for it
+module _ (c : Code) (number : ℕ) {nodes : List ℕ} (places : nodes ≡ (sheet_at c.bytes.now).nodes.places) (there : number < length nodes) (blocks : ℕ) (slots : List ℕ)
+    (before : Reached (sheet_at c.bytes.now).instructions.list (Ok tt) slots (judged_up_to c.bytes.now blocks number)) where
+  pub node-kept : (j : JudgedNode) → JudgedIs (Ok j) c.bytes.now (node_at c.bytes.now (Ok (get_or nodes number 0))) (get_or nodes number 0) → (jump : Found) {after : List ℕ}
+      → SiteIs (sheet_at c.bytes.now).instructions.list jump (last_branch (sheet_at c.bytes.now).instructions.list (addresses_from c.bytes.now (Ok j.sites) j.addresses).list)
+      → after ≡ kept_at slots jump j.verdict → Reached (sheet_at c.bytes.now).instructions.list (Ok tt) after (judged_up_to c.bytes.now blocks (number + 1))
+  node-kept j is jump {after} site after_is =
+      let s = c.bytes.now in
+      let node = node_at s (Ok (get_or nodes number 0)) in
+      let list = (sheet_at s).instructions.list in
+      nodes-more s blocks number (Ok tt) slots after before
+      (λ said here. node-numbered s c.sheet c.accepted number places there (Ok tt) after said
+      (node_through s (addresses-rise s c.sheet c.accepted) node (get_or nodes number 0) is.answer said jump (jump-of s node list jump is.sites is.addresses site) refl after_is here))
+
+  pub node-ended : (r : Refusal) → JudgedIs (Err r) c.bytes.now (node_at c.bytes.now (Ok (get_or nodes number 0))) (get_or nodes number 0) → (n : ℕ) → number < n
+      → Reached (sheet_at c.bytes.now).instructions.list (Err r) slots (judged_up_to c.bytes.now blocks n)
+  node-ended r is n below =
+      let s = c.bytes.now in
+      let node = node_at s (Ok (get_or nodes number 0)) in
+      nodes-refused s blocks (number + 1) n r slots (omega arith)
+      (nodes-more s blocks number (Err r) slots slots before
+      (λ said here. node-numbered s c.sheet c.accepted number places there (Err r) slots said
+      (node-refused s (addresses-rise s c.sheet c.accepted) node (get_or nodes number 0) is.answer said slots refl)))

@@ -2,36 +2,24 @@
 // and in the slot of each branch the first decided verdict is kept. A node that is refused ends it.
 #![tactic(auto)]
 
-ghost use Rattle.std.specs.Prelude.{◌≡◌, List, [], ◌++◌, ℕ, ◌≤◌, ◌<◌, length};
+ghost use Rattle.std.specs.Prelude.{◌≡◌, List, [], ◌++◌,  ◌≤◌, ◌<◌, length, Ok};
 ghost use Rattle.std.proofs.Math.Seq.{slice};
 ghost use Rattle.machine.specs.Registers.{nothing_known};
 ghost use Rattle.search.specs.Ascending.{place_of};
-ghost use Rattle.sheet.specs.declared.Reading.TheVariants.{Accepted};
-ghost use Rattle.sheet.specs.Sheet.{sheet_at, reading_of};
-ghost use Rattle.sheet_node.specs.declared.NodeReading.{NodeReading};
-ghost use Rattle.sheet_node.specs.Node.{node_of, addresses_from};
+ghost use Rattle.sheet.specs.Sheet.{sheet_at};
+ghost use Rattle.sheet_field.specs.Field.{WentOn};
+ghost use Rattle.sheet_node.specs.Node.{addresses_from};
 ghost use Rattle.verdict_block.specs.Verdict.{verdict_at, end_from, verdict_on};
 ghost use Rattle.verdict_lines.specs.Slots.{kept};
-ghost use Rattle.verdict_node.specs.NodeVerdict.{node_verdict};
-ghost use Rattle.verdict_node.specs.Promises.{JudgedIs};
 ghost use Rattle.verdict_sheet.specs.Sites.{last_branch, block_site};
-ghost use Rattle.verdict_sheet.specs.Said.{Said, saying, blocks_say, node_too, judged_up_to};
-ghost use Rattle.verdict_sheet.specs.Said.Judged.{all};
-ghost use Rattle.verdict_sheet.specs.Kept.{CodeIndex, if_branch, branch_ending, SiteIs, kept_at, HasSlot, slots_of, Reached};
+ghost use Rattle.verdict_sheet.specs.Said.{Said, saying, blocks_say, judged_up_to};
+ghost use Rattle.verdict_sheet.specs.Kept.{if_branch, branch_ending, SiteIs, kept_at, HasSlot, slots_of, Reached};
 
+use refusal::Refusal;
 use search::Found;
-use sheet::Sheet;
-use sheet_field::{Place, Width};
-use verdict::{Answer, Verdict};
+use sheet::code::Code;
+use verdict::Verdict;
 use verdict_block::Range;
-use verdict_node::JudgedNode;
-
-// How far judging came: through all records, or to a node that is refused, with a number and an offset.
-#[derive(Clone, Copy)]
-pub enum Progress {
-    Through,
-    Refused(u64, usize),
-}
 
 // The number of the conditional branch at an address, or else another.
 fn branch_or(
@@ -41,7 +29,7 @@ fn branch_or(
 ) -> Found
     ensures { result ≡ if_branch (sheet_at code.now.bytes.now).instructions.list (place_of code.now.addresses.now address) otherwise }
 {
-    let found = search::find(addresses, address);
+    let found = search::find(code.addresses, address);
     match found {
         Found::At(k) => {
             if code.is_branch(k) {
@@ -54,24 +42,15 @@ fn branch_or(
     }
 }
 
-// The number of a node's jump, from its n addresses, which start at an offset.
-fn node_jump(
-    code: &Code,
-    sites: Place,
-    n: u64,
-    addresses: &[u64],
-    places: &[u64],
-) -> Found
-    ensures { SiteIs (sheet_at code.now.bytes.now).instructions.list result (last_branch (sheet_at code.now.bytes.now).instructions.list (addresses_from code.now.bytes.now sites n).list) }
+// The number of a node's jump, from its n addresses, which were read whole from an offset on.
+fn node_jump(code: &Code, sites: usize, n: u64) -> Found
+    requires { WentOn (addresses_from code.now.bytes.now (Ok sites) n).next }
+    ensures { SiteIs (sheet_at code.now.bytes.now).instructions.list result (last_branch (sheet_at code.now.bytes.now).instructions.list (addresses_from code.now.bytes.now (Ok sites) n).list) }
 {
-    let mut next = sites;
     let mut jump = Found::Nothing;
-    let mut i: u64 = 0;
-    while i < n {
-        let f = sheet_field::take_field(s, next, Width::Eight);
-        jump = branch_or(code, f.value, jump);
-        next = f.next;
-        i += 1;
+    for i in 0..n {
+        let address = sheet_field::number::<8>(code.bytes, sites + 8 * i as usize);
+        jump = branch_or(code, address, jump);
     }
     jump
 }
@@ -139,70 +118,28 @@ fn judge_blocks(code: &Code, slots: &mut [u8])
     requires { slots.old ≡ slots_of (sheet_at code.now.bytes.now).instructions.list [] }
     ensures { slots.new ≡ slots_of (sheet_at code.now.bytes.now).instructions.list (blocks_say code.now.bytes.now code.now.sheet.blocks.count) }
 {
-    let section = sheet.blocks;
-    let n = section.count;
     let mut guess: usize = 0;
-    let mut i: u64 = 0;
-    while i < n {
+    for i in 0..code.sheet.blocks.count {
         guess = judge_block(code, i, guess, slots);
-        i += 1;
-    }
-}
-
-// Keeps a node's verdict at its jump, if it has one; or the refusal.
-fn keep_node(
-    code: &Code,
-    judged: JudgedNode,
-    addresses: &[u64],
-    places: &[u64],
-    slots: &mut [u8],
-) -> Progress
-    requires { length slots.old ≡ length code.now.addresses.now }
-    ensures { (node : NodeReading) (place : ℕ) (said : List Said) → JudgedIs judged code.now.bytes.now node place → slots.old ≡ slots_of (sheet_at code.now.bytes.now).instructions.list said → Reached (sheet_at code.now.bytes.now).instructions.list result slots.new (node_too (all said) (last_branch (sheet_at code.now.bytes.now).instructions.list (node_of code.now.bytes.now node).addresses) (node_verdict (node_of code.now.bytes.now node) place)) }
-{
-    let answer = judged.answer;
-    let sites = judged.sites;
-    match answer {
-        Answer::Given(v) => {
-            keep_at(
-                slots,
-                node_jump(s, sheet, sites, judged.addresses, addresses, places),
-                v,
-            );
-            Progress::Through
-        }
-        Answer::Refused(k, at) => Progress::Refused(k, at),
     }
 }
 
 // All nodes, in order, up to the first that is refused.
-fn judge_nodes(
-    code: &Code,
-    nodes: &[u64],
-    slots: &mut [u8],
-) -> Progress
+fn judge_nodes(code: &Code, nodes: &[u64], slots: &mut [u8]) -> Result<(), Refusal>
     requires nodes_value { nodes.now ≡ (sheet_at code.now.bytes.now).nodes.places }
     requires slots_value { slots.old ≡ slots_of (sheet_at code.now.bytes.now).instructions.list (blocks_say code.now.bytes.now code.now.sheet.blocks.count) }
     ensures { Reached (sheet_at code.now.bytes.now).instructions.list result slots.new (judged_up_to code.now.bytes.now code.now.sheet.blocks.count code.now.sheet.nodes.count) }
 {
-    let mut i = 0;
-    while i < nodes.len() {
-        let judged = verdict_node::verdict_at(s, nodes[i] as usize);
-        let r = keep_node(s, sheet, judged, addresses, places, slots);
-        if let Progress::Refused(k, at) = r {
-            return Progress::Refused(k, at);
-        }
-        i += 1;
+    for i in 0..nodes.len() {
+        let judged = verdict_node::verdict_at(code.bytes, nodes[i] as usize)?;
+        let jump = node_jump(code, judged.sites, judged.addresses);
+        keep_at(slots, jump, judged.verdict);
     }
-    Progress::Through
+    Ok(())
 }
 
 // All records of an accepted sheet with its index, on slots that hold nothing.
-pub fn judge(
-    code: &Code,
-    nodes: &[u64],
-    slots: &mut [u8],
-) -> Progress
+pub fn judge(code: &Code, nodes: &[u64], slots: &mut [u8]) -> Result<(), Refusal>
     requires nodes_value { nodes.now ≡ (sheet_at code.now.bytes.now).nodes.places }
     requires slots_value { slots.old ≡ slots_of (sheet_at code.now.bytes.now).instructions.list [] }
     ensures { Reached (sheet_at code.now.bytes.now).instructions.list result slots.new (judged_up_to code.now.bytes.now code.now.sheet.blocks.count code.now.sheet.nodes.count) }

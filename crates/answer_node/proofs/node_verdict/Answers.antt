@@ -1,15 +1,22 @@
 use Rattle.sheet.proofs.Found.{found-whole}
 use Rattle.answer_node.proofs.Nodes.{node-refused, node-judged}
+use Rattle.std.proofs.lemmas.Result.{err_from_is_err_and}
 use Rattle.answer_node.proofs.node_verdict.Goals as goal
 
-pub verdict_at-judged-requires : goal.verdict_at-judged-requires
-verdict_at-judged-requires c =
-    (found-whole _ _ c.find_node-found.ensures c.in-At.is).on
+pub returns-in_err-at : goal.returns-in_err-at
+returns-in_err-at c =
+    let e = err_from_is_err_and c.from_residual.result c.from_residual.ensures.1 in
+    rw (e.1, e.2) (node-refused _ _ c.find_node.ensures c.in_err-at.was)
 
-pub returns-in-At : goal.returns-in-At
-returns-in-At c =
-    node-judged _ _ c.find_node-found.ensures c.in-At.is c.verdict_at-judged.ensures.answer
+pub verdict_at-requires : goal.verdict_at-requires
+verdict_at-requires c =
+    (found-whole _ _ c.find_node.ensures c.in_ok-at.was).on
 
-pub returns-in-Refused : goal.returns-in-Refused
-returns-in-Refused c =
-    node-refused _ _ c.find_node-found.ensures c.in-Refused.is
+pub returns-in_err-judged : goal.returns-in_err-judged
+returns-in_err-judged c =
+    let e = err_from_is_err_and c.from_residual-in_err-judged.result c.from_residual-in_err-judged.ensures.1 in
+    rw (e.1, e.2) (node-judged _ _ c.find_node.ensures c.in_ok-at.was (rw c.in_err-judged.was at c.verdict_at.ensures.answer))
+
+pub returns : goal.returns
+returns c =
+    node-judged _ _ c.find_node.ensures c.in_ok-at.was (rw c.in_ok-judged.was at c.verdict_at.ensures.answer)

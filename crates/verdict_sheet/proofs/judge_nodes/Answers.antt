@@ -1,48 +1,55 @@
-use Rattle.std.specs.Prelude.{Ok}
-use Rattle.verdict_sheet.proofs.Order.{stands-whole, node-numbered, nodes-none, nodes-on, nodes-ended, nodes-whole}
-use Rattle.verdict_sheet.proofs.Keeping.{slots_length}
-use Rattle.verdict_sheet.proofs.Branches.{index-addresses}
-use Rattle.verdict_sheet.specs.Said.{blocks_say}
-use Rattle.sheet.proofs.ByNumber.{node-places-count}
-use Rattle.sheet.specs.Sheet.{sheet_at}
-use Rattle.sheet_node.specs.Node.{node_at}
-use native.Mathlib.Omega.{arith}
 use lib.ListN.{length, get_or}
 use mathlib.Core.Path.{refl, sym, ap, ◌∙◌}
+use native.Mathlib.Omega.{arith}
+use Rattle.std.specs.Prelude.{Ok}
+use Rattle.std.proofs.lemmas.Result.{err_from_is_err_and}
+use Rattle.sheet.specs.Sheet.{sheet_at}
+use Rattle.sheet.proofs.ByNumber.{node-places-count}
+use Rattle.sheet.proofs.InCode.{code-addresses}
+use Rattle.sheet_node.specs.Node.{addresses_from}
+use Rattle.verdict_sheet.specs.Said.{blocks_say}
+use Rattle.verdict_sheet.specs.Sites.{last_branch}
+use Rattle.verdict_sheet.proofs.Branches.{addresses-last}
+use Rattle.verdict_sheet.proofs.Keeping.{slots_length, has-slot}
+use Rattle.verdict_sheet.proofs.Order.{stands-whole, nodes-none, nodes-whole, node-kept, node-ended}
 use Rattle.verdict_sheet.proofs.judge_nodes.Goals as goal
 
 pub loop-i-init : goal.loop-i-init
 loop-i-init c =
-    (omega arith, (refl, λ blocks is. nodes-none c.args.s.now blocks is))
+    (refl, λ blocks is. nodes-none c.args.code.now.bytes.now blocks is)
 
-pub verdict_at-judged-requires : goal.verdict_at-judged-requires
-verdict_at-judged-requires c =
-    stands-whole _ _ c.requires.s_value _ c.requires.nodes_value c.loop-i-test.true
+pub verdict_at-requires : goal.verdict_at-requires
+verdict_at-requires c =
+    stands-whole _ _ c.args.code.now.accepted _ c.requires.nodes_value c.loop-i-test.true
 
-pub keep_node-r-requires : goal.keep_node-r-requires
-keep_node-r-requires c =
-    record { s_value = c.requires.s_value; code_index = c.requires.code_index; slots_len = c.loop-i.invariant.1.0 ∙ ap length c.requires.slots_value ∙ slots_length (sheet_at c.args.s.now).instructions.list (blocks_say c.args.s.now c.args.sheet.blocks.count) ∙ sym (index-addresses c.requires.code_index) }
+pub node_jump-jump-requires : goal.node_jump-jump-requires
+node_jump-jump-requires c =
+    addresses-last c.args.code.now.bytes.now (Ok (get_or c.args.nodes.now c.loop-i.i 0)) c.in_ok-judged.ensures.sites c.in_ok-judged.ensures.addresses
+    (stands-whole _ _ c.args.code.now.accepted _ c.requires.nodes_value c.loop-i-test.true)
 
-pub shape_of-slots-in-Refused : goal.shape_of-slots-in-Refused
-shape_of-slots-in-Refused c =
-    c.keep_node-r.auto.slots ∙ c.loop-i.invariant.1.0
+pub keep_at-requires : goal.keep_at-requires
+keep_at-requires c =
+    let code = c.args.code.now in
+    let s = code.bytes.now in
+    let list = (sheet_at s).instructions.list in
+    has-slot list c.node_jump-jump.result (last_branch list (addresses_from s (Ok c.in_ok-judged.judged.sites) c.in_ok-judged.judged.addresses).list) c.loop-i.slots c.node_jump-jump.ensures
+    (c.loop-i.invariant.0 ∙ ap length c.requires.slots_value ∙ slots_length list (blocks_say s code.sheet.blocks.count))
 
-pub returns-in-Refused : goal.returns-in-Refused
-returns-in-Refused c =
-    let k = c.keep_node-r in let v = c.verdict_at-judged in nodes-ended c.args.s.now c.args.sheet.blocks.count c.loop-i.i k.result c.loop-i.slots k.new.slots (c.loop-i.invariant.1.1 c.args.sheet.blocks.count c.requires.slots_value) (λ said is. node-numbered c.args.s.now c.args.sheet c.requires.s_value c.loop-i.i c.requires.nodes_value c.loop-i-test.true k.result k.new.slots said (k.ensures (node_at c.args.s.now (Ok (get_or c.args.nodes.now c.loop-i.i 0))) (get_or c.args.nodes.now c.loop-i.i 0) said v.ensures is)) c.args.sheet.nodes.count c.in-Refused.k c.in-Refused.at c.in-Refused.is (omega (arith, c.loop-i-test.true, (ap length c.requires.nodes_value ∙ node-places-count c.args.s.now c.args.sheet c.requires.s_value)))
-
-pub loop-i-smaller : goal.loop-i-smaller
-loop-i-smaller c =
-    omega (arith, c.loop-i-test.true)
+pub returns-in_err-judged : goal.returns-in_err-judged
+returns-in_err-judged c =
+    let code = c.args.code.now in
+    let blocks = code.sheet.blocks.count in
+    let p = err_from_is_err_and c.from_residual.result c.from_residual.ensures.1 in
+    let all = ap length c.requires.nodes_value ∙ node-places-count code.bytes.now code.sheet code.accepted in
+    rw (p.1, p.2) (node-ended code c.loop-i.i c.requires.nodes_value c.loop-i-test.true blocks c.loop-i.slots (c.loop-i.invariant.1 blocks c.requires.slots_value) _ c.in_err-judged.ensures code.sheet.nodes.count (omega (arith, c.loop-i-test.true, all)))
 
 pub loop-i-preserved : goal.loop-i-preserved
 loop-i-preserved c =
-    let k = c.keep_node-r in let v = c.verdict_at-judged in (omega (arith, c.loop-i-test.true), (k.auto.slots ∙ c.loop-i.invariant.1.0, λ blocks given. nodes-on c.args.s.now blocks c.loop-i.i k.result c.loop-i.slots k.new.slots (c.loop-i.invariant.1.1 blocks given) (λ said is. node-numbered c.args.s.now c.args.sheet c.requires.s_value c.loop-i.i c.requires.nodes_value c.loop-i-test.true k.result k.new.slots said (k.ensures (node_at c.args.s.now (Ok (get_or c.args.nodes.now c.loop-i.i 0))) (get_or c.args.nodes.now c.loop-i.i 0) said v.ensures is)) c.in_default.is))
-
-pub shape_of-slots : goal.shape_of-slots
-shape_of-slots c =
-    c.loop-i.invariant.1.0
+    (c.keep_at.auto.slots ∙ c.loop-i.invariant.0, λ blocks given. node-kept c.args.code.now c.loop-i.i c.requires.nodes_value c.loop-i-test.true blocks c.loop-i.slots (c.loop-i.invariant.1 blocks given) _ c.in_ok-judged.ensures c.node_jump-jump.result c.node_jump-jump.ensures c.keep_at.ensures)
 
 pub returns : goal.returns
 returns c =
-    let l = c.loop-i in nodes-whole c.args.s.now c.args.sheet.blocks.count l.i c.args.sheet.nodes.count l.slots (omega (arith, c.loop-i-test.false, l.invariant.0, (ap length c.requires.nodes_value ∙ node-places-count c.args.s.now c.args.sheet c.requires.s_value))) (l.invariant.1.1 c.args.sheet.blocks.count c.requires.slots_value)
+    let code = c.args.code.now in
+    let blocks = code.sheet.blocks.count in
+    let all = ap length c.requires.nodes_value ∙ node-places-count code.bytes.now code.sheet code.accepted in
+    nodes-whole code.bytes.now blocks c.loop-i.i code.sheet.nodes.count c.loop-i.slots (omega (arith, c.loop-i-test.false, c.loop-i.auto.i-end, all)) (c.loop-i.invariant.1 blocks c.requires.slots_value)

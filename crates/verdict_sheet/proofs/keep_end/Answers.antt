@@ -11,4 +11,4 @@ returns-then-slots-number-eq0 c =
 
 pub returns-else-slots-number-eq0 : goal.returns-else-slots-number-eq0
 returns-else-slots-number-eq0 c =
-    kept-already c.args.slots.now c.args.number (verdict_at (end_from nothing_known (slice c.args.range.first c.args.range.end (sheet_at c.args.s.now).instructions.list))) c.if-slots-number-eq0.false
+    kept-already c.args.slots.now c.args.number (verdict_at (end_from nothing_known (slice c.args.range.first c.args.range.end (sheet_at c.args.code.now.bytes.now).instructions.list))) c.if-slots-number-eq0.false

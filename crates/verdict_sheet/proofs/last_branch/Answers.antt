@@ -9,7 +9,7 @@ returns-then-end-range c =
 
 pub is_branch-requires : goal.is_branch-requires
 is_branch-requires c =
-    record { s_value = c.requires.s_value; places_value = c.requires.places_value; number_in_bounds = omega (arith, c.requires.end_in_bounds, c.if-end-range.false) }
+    omega (arith, c.requires, c.if-end-range.false)
 
 pub returns-then-is_branch : goal.returns-then-is_branch
 returns-then-is_branch c =

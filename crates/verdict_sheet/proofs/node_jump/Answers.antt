@@ -1,16 +1,25 @@
-use Rattle.verdict_sheet.proofs.Branches.{jump-done, jump-none, jump-again}
 use native.Mathlib.Omega.{arith}
 use Rattle.sheet.specs.Sheet.{sheet_at}
+use Rattle.verdict_sheet.proofs.Branches.{site-inside, jump-none, jump-again}
 use Rattle.verdict_sheet.proofs.node_jump.Goals as goal
 
 pub loop-i-init : goal.loop-i-init
 loop-i-init c =
-    (omega arith, jump-none c.args.s.now c.args.sites (sheet_at c.args.s.now).instructions.list)
+    jump-none c.args.code.now.bytes.now c.args.sites c.args.n c.requires (sheet_at c.args.code.now.bytes.now).instructions.list
 
 pub loop-i-preserved : goal.loop-i-preserved
 loop-i-preserved c =
-    (omega arith, jump-again c.args.s.now c.args.sites c.loop-i.i (sheet_at c.args.s.now).instructions.list c.loop-i.jump c.requires.code_index.addresses c.loop-i.invariant.1 c.take_field-f.ensures c.branch_or-jump.ensures)
+    let code = c.args.code.now in
+    jump-again code.bytes.now c.args.sites c.args.n c.requires c.loop-i.i c.loop-i-test.true (sheet_at code.bytes.now).instructions.list c.loop-i.jump code.addressed c.loop-i.invariant c.number-address.ensures c.branch_or-jump.ensures
 
-pub returns : goal.returns
-returns c =
-    jump-done c.args.s.now c.args.sites (sheet_at c.args.s.now).instructions.list c.loop-i.jump (omega (arith, c.loop-i-test.false, c.loop-i.invariant.0)) c.loop-i.invariant.1.1
+pub overflow_mul-i : goal.overflow_mul-i
+overflow_mul-i c =
+    omega (arith, site-inside c.args.code.now.bytes.now c.args.sites c.args.n c.requires c.loop-i.i c.loop-i-test.true, c.well_formed)
+
+pub overflow_add-sites : goal.overflow_add-sites
+overflow_add-sites c =
+    omega (arith, site-inside c.args.code.now.bytes.now c.args.sites c.args.n c.requires c.loop-i.i c.loop-i-test.true, c.well_formed)
+
+pub number-address-requires-clause-inside : goal.number-address-requires-clause-inside
+number-address-requires-clause-inside c =
+    site-inside c.args.code.now.bytes.now c.args.sites c.args.n c.requires c.loop-i.i c.loop-i-test.true

@@ -1,0 +1,1 @@
+use Rattle.answer_listing.proofs.list_within.Goals as goal
