@@ -7,12 +7,11 @@ use Prim.Native.Nat.{ℕ, ◌+◌, ◌-◌, ◌*◌, ◌/◌, ◌%◌, ◌^◌, 
 use mathlib.Core.Path.{◌≡◌, refl, sym, ap, subst, ◌∙◌}
 use mathlib.Core.Logic.{◌≢◌}
 use mathlib.Core.Bool.{Bool, true, false, cond, ◌&&◌, ◌||◌}
-use mathlib.Core.List.{List}
 use native.Mathlib.Nat.{mod-eq_of_lt, mod-lt}
 use native.Mathlib.Omega.{arith}
 use borrow.Author.Tests.{ltb-true, ltb-false, eqb-true, eqb-false, eq-eqb}
 use lib.Dec.{leb, ltb, eqb}
-use lib.ListN.{set, get_or, length, get_or-eq_default, length-set}
+use lib.ListN.{set, length, get_or-eq_default, length-set}
 use lib.Pow.{pow_pos}
 use lib.Seq.{get_or-set_same, get_or-set_other}
 use Rattle.isa.specs.declared.Register.{Register}
@@ -23,7 +22,7 @@ use Rattle.alu.specs.Width.{bits, width_of}
 use Rattle.machine.specs.declared.State.{State}
 use Rattle.known.specs.Values.{extracted, inserted, merged}
 use Rattle.known.specs.declared.Slot.{Slot}
-use Rattle.known.specs.Registers.{contents, slot_of, part_of, with_part}
+use Rattle.known.specs.Registers.{unmarked, contents, slot_of, part_of, with_part}
 use Rattle.machine.specs.States.{replaced}
 use Rattle.machine.specs.Registers.{slot_at, whole_of, read_of, written}
 use Rattle.concrete.specs.Concrete.{Processor, value, part, stored, assign}
@@ -184,40 +183,23 @@ merge-law quad old (Some y) was x h o w = omega (arith, w.0, w.1)
 contents-slot : (v : Option ℕ) → contents (slot_of v) ≡ v
 contents-slot v = grind (arith, nat_tests)
 
--- the words of the registers after one is replaced
-module _ (words : List ℕ) (index value marks : ℕ) where
-  abbrev put : List ℕ
-  put = set (set words index value) (16 + index) marks
-
-  value_there : index < length words → get_or put index 0 ≡ value
-  value_there h =
-      rw (get_or-set_other (set words index value) (16 + index) index marks 0 (λ e. omega arith)) (get_or-set_same words index value 0 h)
-
-  marks-there : 16 + index < length words → get_or put (16 + index) 0 ≡ marks
-  marks-there h = get_or-set_same (set words index value) (16 + index) marks 0 (rw length-set h)
-
-  no-marks : length words ≤ 16 + index → get_or put (16 + index) 0 ≡ 0
-  no-marks h = get_or-eq_default put 0 (rw (length-set, length-set) h)
-
-  elsewhere : (k : ℕ) → k ≢ index → k ≢ 16 + index → get_or put k 0 ≡ get_or words k 0
-  elsewhere k one two = get_or-set_other (set words index value) (16 + index) k marks 0 two ∙ get_or-set_other words index k value 0 one
-
 -- a register that was set is what was put there, or does not exist and is unknown
 pub replaced-same : (s : State) (index : ℕ) (slot : Slot) (y : ℕ) → Allows (contents slot) y → Allows (whole_of (replaced s index slot) index) y
 unfolding slot_at replaced
 replaced-same s index slot y h =
-    let words = s.registers in
     by_test (ltb index 16)
-    (λ t. by_test (ltb (16 + index) (length words))
+    (λ t. by_test (ltb index (length s.registers))
+    (λ u. rw (t, get_or-set_same s.registers index slot unmarked (ltb-true index (length s.registers) u)) h)
     (λ u.
-    let inside : 16 + index < length words = ltb-true (16 + index) (length words) u in
-    rw (t, marks-there words index slot.value slot.known inside, value_there words index slot.value slot.known (omega arith)) h)
-    (λ u. rw (t, no-marks words index slot.value slot.known (ltb-false (16 + index) (length words) u)) tt))
+    let out : length (set s.registers index slot) ≤ index = rw length-set (ltb-false index (length s.registers) u) in
+    rw (t, get_or-eq_default (set s.registers index slot) unmarked out) tt))
     (λ t. rw t tt)
 
 pub replaced-other : (s : State) (index k : ℕ) (slot : Slot) → k ≢ index → slot_at (replaced s index slot) k ≡ slot_at s k
 unfolding slot_at replaced
-replaced-other s index k slot other = grind (arith, nat_tests, elsewhere)
+replaced-other s index k slot other =
+    let kept = get_or-set_other s.registers index k slot unmarked other in
+    grind (arith, nat_tests, kept)
 
 assign-status : (p : Processor) (r : Register) (x : ℕ) → (assign p r x).status ≡ p.status
 unfolding assign

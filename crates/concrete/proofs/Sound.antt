@@ -4,7 +4,7 @@ use Rattle.std.proofs.lemmas.Bool.Decides.{nat_tests}
 use Rattle.std.proofs.Common.{None, Option, Some}
 use Rattle.std.specs.Option.{option_map}
 use Prim.{Unit, tt}
-use Prim.Native.Nat.{ℕ, zero, suc, min, ◌+◌, ◌-◌, ◌%◌, ◌^◌, ◌<◌}
+use Prim.Native.Nat.{ℕ, zero, suc, min, ◌-◌, ◌%◌, ◌^◌, ◌<◌}
 use mathlib.Core.Path.{◌≡◌, refl, sym, ap, subst}
 use mathlib.Core.Logic.{inr}
 use mathlib.Core.Bool.{Bool, true, false, cond, not, ◌&&◌, ◌||◌}
@@ -37,7 +37,7 @@ use Rattle.alu.specs.Flags.{opposite}
 use Rattle.machine.specs.declared.State.{State}
 use Rattle.known.specs.declared.Effect.{Effect}
 use Rattle.known.specs.Operations.{with_carry, forget_flag, forget_flags, unknown_carry, carry_rule, complement, arith_effect, unary_effect, alone as perform_alone}
-use Rattle.known.specs.Registers.{part_of}
+use Rattle.known.specs.Registers.{unmarked, part_of}
 use Rattle.machine.specs.Registers.{nothing_known, slot_at, whole_of, read_of, written, operand_of, forget_registers, forgotten}
 use Rattle.machine.specs.Finish.{finished}
 use Rattle.machine.specs.Rules.{writes as writes_result, same_register, carry_step, arith_step, unary_unknown, unary_on, unary_step, register_step, on_first, modelled_step, stepped, stepped_all}
@@ -326,7 +326,7 @@ module _ (s : State) (p : Processor) (free : Choice) (agrees : Agrees s p) (i : 
         declared = or_right (differ || other) lacking none;
       })
 
-replicated : (n k : ℕ) → get_or {A = ℕ} (replicate n 0) k 0 ≡ 0
+replicated : (n k : ℕ) → get_or (replicate n unmarked) k unmarked ≡ unmarked
 replicated zero k = refl
 replicated (suc n) zero = refl
 replicated (suc n) (suc k) = replicated n k
@@ -336,7 +336,7 @@ pub nothing_known_lem : (p : Processor) → Agrees nothing_known p
 unfolding nothing_known slot_at
 nothing_known_lem p =
     record {
-      registers = λ k. by_test (ltb k 16) (λ t. rw (t, replicated 32 (16 + k)) tt) (λ t. rw t tt);
+      registers = λ k. by_test (ltb k 16) (λ t. rw (t, replicated 16 k) tt) (λ t. rw t tt);
       flags = record { cf = tt; pf = tt; zf = tt; sf = tt; of = tt };
     }
 

@@ -100,14 +100,14 @@ pub enum Mnemonic {
 pub struct Instruction {
     pub address: u64,
     pub mnemonic: Mnemonic,
-    // a conditional branch, to target
+    // a conditional branch, to target: not one option, as a sheet has a bit for the one and a field for the other
     pub branch: bool,
     pub target: u64,
     // a call, an indirect call, a syscall or an interrupt
     pub call: bool,
     pub first: Operand,
     pub second: Operand,
-    // the registers that it declares as written: the first count of these
+    // the registers that it declares as written: the first count of these, in fixed memory
     pub written: [Register; 8],
     pub count: u64,
     // the flags that it declares as written

@@ -1,5 +1,5 @@
 -- What is known of registers, each as a whole, and of flags, each by itself; reads, writes and forgetting.
-use Rattle.std.specs.Prelude.{ℕ, zero, suc, min, ◌+◌, ◌*◌, cond, List, get_or, replicate, ltb, eqb, Option, None}
+use Rattle.std.specs.Prelude.{ℕ, zero, suc, min, cond, List, get_or, replicate, ltb, eqb, Option, None}
 use Rattle.isa.specs.declared.Register.{Register}
 use Rattle.isa.specs.declared.Operand.{Operand}
 use Rattle.isa.specs.declared.Operand.TheVariants.{Absent, Reg, Imm, Mem}
@@ -13,15 +13,13 @@ use Rattle.machine.specs.States.{register_count, replaced, with_flags, no_regist
 
 -- At the start nothing is known: of sixteen registers, nor of the five flags, each of which is known by itself (M3, M4).
 unfoldable pub nothing_known : State
-nothing_known = record { registers = replicate (2 * register_count) 0; flags = no_flags }
+nothing_known = record { registers = replicate register_count unmarked; flags = no_flags }
 
--- What is known of the register of that index: its value and, sixteen words on, its marks. There are sixteen registers; an
--- index from 16 on, which no well-formed register has, names none (M2).
+-- What is known of the register of that index: there are sixteen registers; an index from 16 on,
+-- which no well-formed register has, names none (M2).
 unfoldable pub slot_at : State → ℕ → Slot
 slot_at s index =
-    cond (ltb index register_count)
-    (record { known = get_or s.registers (register_count + index) 0; value = get_or s.registers index 0 })
-    unmarked
+    cond (ltb index register_count) (get_or s.registers index unmarked) unmarked
 
 -- its value, whole (M2)
 abbrev pub whole_of : State → ℕ → Option ℕ

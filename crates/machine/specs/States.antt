@@ -1,5 +1,5 @@
 -- States with a part replaced: shorthands of the rules, which say nothing by themselves.
-use Rattle.std.specs.Prelude.{ℕ, ◌+◌, cond, set, ltb}
+use Rattle.std.specs.Prelude.{ℕ, cond, set, ltb}
 use Rattle.isa.specs.declared.Register.{Register}
 use Rattle.alu.specs.declared.Flags.{Flags}
 use Rattle.known.specs.declared.Slot.{Slot}
@@ -9,11 +9,11 @@ use Rattle.machine.specs.declared.State.{State}
 abbrev pub register_count : ℕ
 register_count = 16
 
--- the state with something else known of a register: its value and its marks
+-- the state with something else known of a register
 unfoldable pub replaced : State → ℕ → Slot → State
 replaced s index slot =
     cond (ltb index register_count)
-    (record s { registers = set (set s.registers index slot.value) (register_count + index) slot.known })
+    (record s { registers = set s.registers index slot })
     s
 
 -- the state with other flags

@@ -13,10 +13,10 @@ use alu::Flags;
 use isa::{Binary, CarryChange, Counter, Instruction, Mnemonic, Operand, Register, Unary};
 use known::{Effect, Slot};
 
-// The values of the registers, then the marks of each; the flags.
+// What is known of each register, and of the flags.
 #[derive(Clone, Copy)]
 pub struct State {
-    pub registers: [u64; 2 * State::REGISTERS],
+    pub registers: [Slot; State::REGISTERS],
     pub flags: Flags,
 }
 
@@ -29,7 +29,7 @@ impl State {
         ensures { result ≡ nothing_known }
     {
         State {
-            registers: [0; 2 * Self::REGISTERS],
+            registers: [Slot::unknown(); Self::REGISTERS],
             flags: known::no_flags(),
         }
     }
@@ -41,10 +41,7 @@ impl State {
     {
         let k = index as usize;
         if k < Self::REGISTERS {
-            Slot {
-                known: self.registers[Self::REGISTERS + k],
-                value: self.registers[k],
-            }
+            self.registers[k]
         } else {
             Slot::unknown()
         }
@@ -57,8 +54,7 @@ impl State {
     {
         let k = index as usize;
         if k < Self::REGISTERS {
-            self.registers[k] = slot.value;
-            self.registers[Self::REGISTERS + k] = slot.known;
+            self.registers[k] = slot;
         }
     }
 
