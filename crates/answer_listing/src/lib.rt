@@ -39,7 +39,10 @@ fn list_within<const N: usize, const M: usize>(
     let mut places = [0; N];
     let mut nodes = [0; M];
     let sheet = sheet::read_index(s, &mut addresses, &mut places, &mut nodes)?;
-    if (N as u64) < sheet.instructions.count || (M as u64) < sheet.nodes.count {
+    if (N as u64) < sheet.instructions.count {
+        return Ok(None);
+    }
+    if (M as u64) < sheet.nodes.count {
         return Ok(None);
     }
     let code = Code::new(s, sheet, &addresses, &places);

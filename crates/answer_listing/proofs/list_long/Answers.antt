@@ -1,1 +1,0 @@
-use Rattle.answer_listing.proofs.list_long.Goals as goal
