@@ -8,9 +8,8 @@ use native.Mathlib.Omega.{arith}
 use native.Mathlib.Numerals.{add-one}
 use lib.ListN.{length, get_or, take, drop, drop_of_length-le}
 use lib.Seq.{drop-cons}
-use Rattle.sheet_field.specs.Field.{start_of, WentOn}
-use Rattle.sheet_field.specs.declared.Place.{Place}
-use Rattle.sheet_field.specs.declared.Place.TheVariants.{At}
+use Rattle.std.specs.Prelude.{Ok}
+use Rattle.sheet_field.specs.Field.{Place, WentOn}
 use Rattle.expr.specs.Tree.{Expr, Wf, tree_of}
 use Rattle.expr.specs.Statement.{Statement}
 use Rattle.expr.specs.Statement.Statement.{other}
@@ -43,71 +42,65 @@ module _ (h : Table) (r : StatementRead) (is : r.assigned ≡ true) {v : ℕ} {w
   stepped_long much rest c = rw (is, ← number, ← words, much)
 
 -- the first i statements are passed
-pub record Passing (types s : List ℕ) (p : Place) (n : ℕ) (h : Table) (idle : Bool) (next : Place) (i : ℕ) : Type 0 where
-  pub place : next ≡ (statements_from types s p i).next
+pub record Passing (types s : List ℕ) (from n : ℕ) (h : Table) (idle : Bool) (at i : ℕ) : Type 0 where
+  pub place : Ok at ≡ (statements_from types s (Ok from) i).next
   pub quiet : Idle idle h
-  pub due : (c : Expr) → with_assignments (statements_from types s p n).list c ≡ substituted h (drop i (statements_from types s p n).list) c
+  pub due : (c : Expr) → with_assignments (statements_from types s (Ok from) n).list c ≡ substituted h (drop i (statements_from types s (Ok from) n).list) c
 
-pub passing_start : (types s : List ℕ) (p : Place) (n : ℕ) {h : Table} → h ≡ nothing_held → Passing types s p n h true p 0
+pub passing_start : (types s : List ℕ) (from n : ℕ) {h : Table} → h ≡ nothing_held → Passing types s from n h true from 0
 unfolding statements_from
-passing_start types s p n {h} none = record { place = refl; quiet = λ _. none; due = λ c. rw none }
+passing_start types s from n {h} none = record { place = refl; quiet = λ _. none; due = λ c. rw none }
 
-module _ {types s : List ℕ} {p : Place} {n : ℕ} {h : Table} {idle : Bool} {next : Place} {i : ℕ} (g : Passing types s p n h idle next i) where
-  pub passing_whole : WentOn (statements_from types s p n).next → i < n → WentOn (statement_at types s next).next
-  passing_whole on below = statement-whole types s p n i on below g.place
+module _ {types s : List ℕ} {from n : ℕ} {h : Table} {idle : Bool} {at i : ℕ} (g : Passing types s from n h idle at i) where
+  pub passing_whole : WentOn (statements_from types s (Ok from) n).next → i < n → WentOn (statement_at types s (Ok at)).next
+  passing_whole on below = statement-whole types s from n i on below g.place
 
   -- what is due starts with the statement at this offset
-  due-here : i < n → (c : Expr) → with_assignments (statements_from types s p n).list c
-      ≡ substituted h (statement_of (statement_at types s next) ∷ drop (suc i) (statements_from types s p n).list) c
+  due-here : i < n → (c : Expr) → with_assignments (statements_from types s (Ok from) n).list c
+      ≡ substituted h (statement_of (statement_at types s (Ok at)) ∷ drop (suc i) (statements_from types s (Ok from) n).list) c
   due-here below c =
-      let size : i < length (statements_from types s p n).list = omega (arith, statements-length types s p n) in
-      let this : get_or (statements_from types s p n).list i other ≡ statement_of (statement_at types s next) =
-      statements-nth types s p n i other below ∙ ap (λ (q : Place). statement_of (statement_at types s q)) (sym g.place) in
+      let size : i < length (statements_from types s (Ok from) n).list = omega (arith, statements-length types s (Ok from) n) in
+      let this : get_or (statements_from types s (Ok from) n).list i other ≡ statement_of (statement_at types s (Ok at)) =
+      statements-nth types s (Ok from) n i other below ∙ ap (λ (q : Place). statement_of (statement_at types s q)) (sym g.place) in
       g.due c
-      ∙ ap (λ (l : List Statement). substituted h l c) (drop-cons (statements_from types s p n).list i other size)
-      ∙ ap (λ (x : Statement). substituted h (x ∷ drop (suc i) (statements_from types s p n).list) c) this
+      ∙ ap (λ (l : List Statement). substituted h l c) (drop-cons (statements_from types s (Ok from) n).list i other size)
+      ∙ ap (λ (x : Statement). substituted h (x ∷ drop (suc i) (statements_from types s (Ok from) n).list) c) this
 
-  pub passing_stop : i < n → ((rest : List Statement) (c : Expr) → substituted h (statement_of (statement_at types s next) ∷ rest) c ≡ too_long)
-      → (c : Expr) → with_assignments (statements_from types s p n).list c ≡ too_long
-  passing_stop below much c = due-here below c ∙ much (drop (suc i) (statements_from types s p n).list) c
+  pub passing_stop : i < n → ((rest : List Statement) (c : Expr) → substituted h (statement_of (statement_at types s (Ok at)) ∷ rest) c ≡ too_long)
+      → (c : Expr) → with_assignments (statements_from types s (Ok from) n).list c ≡ too_long
+  passing_stop below much c = due-here below c ∙ much (drop (suc i) (statements_from types s (Ok from) n).list) c
 
-  pub passing_more : i < n → {after : Table} {next' : Place} {idle' : Bool} → next' ≡ (statement_at types s next).next → Idle idle' after
-      → ((rest : List Statement) (c : Expr) → substituted h (statement_of (statement_at types s next) ∷ rest) c ≡ substituted after rest c)
-      → Passing types s p n after idle' next' (i + 1)
+  pub passing_more : i < n → {after : Table} {at' : ℕ} {idle' : Bool} → Ok at' ≡ (statement_at types s (Ok at)).next → Idle idle' after
+      → ((rest : List Statement) (c : Expr) → substituted h (statement_of (statement_at types s (Ok at)) ∷ rest) c ≡ substituted after rest c)
+      → Passing types s from n after idle' at' (i + 1)
   passing_more below place still same = record {
-    place = place ∙ ap (λ (q : Place). (statement_at types s q).next) g.place ∙ statements-more types s p i;
+    place = place ∙ ap (λ (q : Place). (statement_at types s q).next) g.place ∙ statements-more types s (Ok from) i;
     quiet = still;
-    due = λ c. rw (add-one i) (due-here below c ∙ same (drop (suc i) (statements_from types s p n).list) c);
+    due = λ c. rw (add-one i) (due-here below c ∙ same (drop (suc i) (statements_from types s (Ok from) n).list) c);
   }
 
-  pub passing_end : n ≡ i → (next ≡ (statements_from types s p n).next) × ((c : Expr) → with_assignments (statements_from types s p n).list c ≡ substituted h [] c)
+  pub passing_end : n ≡ i → (Ok at ≡ (statements_from types s (Ok from) n).next) × ((c : Expr) → with_assignments (statements_from types s (Ok from) n).list c ≡ substituted h [] c)
   passing_end end =
-      let past : length (statements_from types s p n).list ≤ i = omega (arith, statements-length types s p n) in
-      let all : drop i (statements_from types s p n).list ≡ [] = drop_of_length-le (statements_from types s p n).list past in
-      (g.place ∙ ap (λ (k : ℕ). (statements_from types s p k).next) (sym end), λ c. g.due c ∙ ap (λ (l : List Statement). substituted h l c) all)
+      let past : length (statements_from types s (Ok from) n).list ≤ i = omega (arith, statements-length types s (Ok from) n) in
+      let all : drop i (statements_from types s (Ok from) n).list ≡ [] = drop_of_length-le (statements_from types s (Ok from) n).list past in
+      (g.place ∙ ap (λ (k : ℕ). (statements_from types s (Ok from) k).next) (sym end), λ c. g.due c ∙ ap (λ (l : List Statement). substituted h l c) all)
 
 -- ---- the condition, after all statements
 
--- it is read at the offset after the statements
-pub passed_start : {next place : Place} → next ≡ place → WentOn place → {start : ℕ} → start ≡ start_of next → At start ≡ place
-passed_start {next} {place} is on start_is =
-    let here : next ≡ At on.0 = is ∙ on.1 in
-    ap At (start_is ∙ ap start_of here) ∙ sym on.1
-
--- the condition at that offset, in the words that its reader left
+-- the condition, in the words that its reader left
 pub record ConditionRead (n : ℕ) (s : List ℕ) (p : Place) (records last : ℕ) (words : List ℕ) : Type 0 where
   pub whole : WentOn (expression_at n s p).next
   pub tree : Wf (take (2 * records) words)
   pub short : length (take (2 * records) words) ≤ 256
   pub same : tree_of (take (2 * records) words) ≡ tree_of (expression_at n s p).words
-  pub place : At last ≡ (expression_at n s p).next
+  pub place : Ok last ≡ (expression_at n s p).next
 
-pub condition_read : (n : ℕ) (s : List ℕ) (p : Place) {start records last : ℕ} {before after : List ℕ} → At start ≡ p → WentOn (expression_at n s p).next
-    → ((variables : ℕ) → WentOn (expression_at variables s (At start)).next → Took records (At last) before after (expression_at variables s (At start)))
+pub condition_read : (n : ℕ) (s : List ℕ) (p : Place) {start records last : ℕ} {before after : List ℕ} → Ok start ≡ p → WentOn (expression_at n s p).next
+    → ((variables : ℕ) → WentOn (expression_at variables s (Ok start)).next → Took records (Ok last) before after (expression_at variables s (Ok start)))
     → ConditionRead n s p records last after
 condition_read n s p {start} {records} {last} {before} {after} here on reader =
-    let took : Took records (At last) before after (expression_at n s p) =
-    subst (λ (q : Place). WentOn (expression_at n s q).next → Took records (At last) before after (expression_at n s q)) here (reader n) on in
+    let took : Took records (Ok last) before after (expression_at n s p) =
+    subst (λ (q : Place). WentOn (expression_at n s q).next → Took records (Ok last) before after (expression_at n s q)) here (reader n) on in
     let words = took-tree n s p took on in
     record { whole = on; tree = words.0; short = words.1; same = ap tree_of (took-front took on); place = took.place }
 
