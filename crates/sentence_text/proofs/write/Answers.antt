@@ -14,8 +14,7 @@ returns-then-text-needed c =
 
 pub returns : goal.returns
 returns c =
-    let long = parts-long c.args.first.now c.args.turns c.args.rest.now in
-    (
+    let long = parts-long c.args.first.now c.args.turns c.args.rest.now in (
       omega arith,
       puts_written c.new-out.ensures.out c.new-out.ensures.at (puts_then (puts_then c.put_word.ensures c.put_turns.ensures) c.put_word-2.ensures) (search rules),
     )
