@@ -1,6 +1,6 @@
 -- The theorems about the product, together: each with a sentence, and its statement as a whole. Their proofs are in the files that they cite. Who
 -- believes the definitions that stand in a statement need not read on; docs/TRUST.md lists them for each.
-use Rattle.std.specs.Prelude.{Some, None}
+use Rattle.std.specs.Prelude.{true, Some, None}
 use Prim.Native.Nat.{ℕ, ◌<◌, ◌≤◌}
 use mathlib.Core.Path.{◌≡◌}
 use mathlib.Core.List.{List}

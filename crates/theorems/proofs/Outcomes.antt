@@ -1,6 +1,6 @@
 -- Evaluation, by the answers that its contract speaks of: whatever the bytes, the number and the borrowed values, an answer is what every run of that
 -- node does that starts from those values.
-use Rattle.std.specs.Prelude.{Option, None}
+use Rattle.std.specs.Prelude.{Bool, Option, None}
 use Prim.Native.Nat.{ℕ, ◌≤◌, ◌<◌}
 use mathlib.Core.Path.{◌≡◌, refl, sym, ap, ◌∙◌}
 use mathlib.Core.List.{List}

@@ -1,5 +1,5 @@
 -- Runs: of a block, and of a block or node alike; and when a branch is forced.
-use Rattle.std.specs.Prelude.{Option, Some, None, ℕ, zero, suc, ◌≡◌, List, Bool, cond}
+use Rattle.std.specs.Prelude.{true, false, Option, Some, None, ℕ, zero, suc, ◌≡◌, List, Bool, cond}
 use Rattle.isa.specs.declared.Mnemonic.{Mnemonic}
 use Rattle.isa.specs.declared.Instruction.{Instruction}
 use Rattle.concrete.specs.Concrete.{Processor, Choice, executed_all, outcome}
