@@ -1,5 +1,6 @@
 -- Evaluation is the run: whatever is free beside the values of the declared variables, a node's run has the outcome that its evaluation gives.
 -- Assumes nothing.
+use Rattle.std.specs.Prelude.{Option, Some, None}
 use Prim.Native.Nat.{ℕ, ◌≤◌}
 use mathlib.Core.Path.{◌≡◌, refl, sym, ap}
 use mathlib.Core.List.{List}
@@ -9,8 +10,6 @@ use lib.ListN.{length}
 use Rattle.expr.specs.Scan.{plain_expr}
 use Rattle.sheet_node.specs.Node.{Node}
 use Rattle.sheet_node.proofs.Variables.{ReadsDeclared}
-use Rattle.value.specs.declared.Truth.{Truth}
-use Rattle.value.specs.declared.Truth.TheVariants as truth
 use Rattle.value.specs.Run.{Choices, run}
 use Rattle.std.specs.Prelude.{Option, Some, None, Err}
 use Rattle.refusal.specs.declared.Fault.{Fault}
@@ -22,7 +21,7 @@ use Rattle.evaluate_node.proofs.Same.{same-run}
 use Rattle.laws.proofs.Booleans.{and_left, and_right}
 
 module _ (n : Node) (place : ℕ) (values : List ℕ) (declared : ReadsDeclared n) (c : Choices) (starts : StartsFrom n.types values c) where
-  abbrev Run : Truth
+  abbrev Run : Option Bool
   Run = run n.types n.statements n.condition c
 
   -- a node that is plain and has its values: its evaluation is the outcome of its run
@@ -45,10 +44,10 @@ module _ (n : Node) (place : ℕ) (values : List ℕ) (declared : ReadsDeclared 
   unfolding evaluation_of
   refused-16 plain q = rw (plain, q)
 
-  given-run : (t : Truth) → Gives (on_truth place t) t
-  given-run truth.Holds = refl
-  given-run truth.Fails = refl
-  given-run truth.NoOutcome = λ e. refl
+  given-run : (t : Option Bool) → Gives (on_truth place t) t
+  given-run (Some true) = refl
+  given-run (Some false) = refl
+  given-run None = λ e. refl
 
   -- The theorem: what the evaluation gives is the outcome of every run that starts from the borrowed values.
   pub every-run : Gives (evaluation_of n place values) Run
@@ -87,16 +86,16 @@ module _ {r : Refusal} where
   same_number : {f : Fault} {place : ℕ} → ◌≡◌ {A = Evaluation} (Err (refused f place)) (Err r) → 14 ≤ number_of f → number_of f ≤ 16 → ByNode r
   same_number {f} e l h = let same : f ≡ r.fault = cc in rw (← same) (l, h)
 
-  truth-number : (place : ℕ) (t : Truth) → on_truth place t ≡ Err r → ByNode r
-  truth-number place truth.Holds e = absurd cc
-  truth-number place truth.Fails e = absurd cc
-  truth-number place truth.NoOutcome e = same_number e (omega arith) (omega arith)
+  truth-number : (place : ℕ) (t : Option Bool) → on_truth place t ≡ Err r → ByNode r
+  truth-number place (Some true) e = absurd cc
+  truth-number place (Some false) e = absurd cc
+  truth-number place None e = same_number e (omega arith) (omega arith)
 
-  fit-number : (place : ℕ) (f : Option ℕ) (t : Truth) → on_fit f (on_truth place t) ≡ Err r → ByNode r
+  fit-number : (place : ℕ) (f : Option ℕ) (t : Option Bool) → on_fit f (on_truth place t) ≡ Err r → ByNode r
   fit-number place None t e = truth-number place t e
   fit-number place (Some v) t e = same_number e (omega arith) (omega arith)
 
-  plain-number : (place : ℕ) (b : Bool) (f : Option ℕ) (t : Truth) → cond b (on_fit f (on_truth place t)) (Err (refused NotPlain place)) ≡ Err r → ByNode r
+  plain-number : (place : ℕ) (b : Bool) (f : Option ℕ) (t : Option Bool) → cond b (on_fit f (on_truth place t)) (Err (refused NotPlain place)) ≡ Err r → ByNode r
   plain-number place true f t e = fit-number place f t e
   plain-number place false f t e = same_number e (omega arith) (omega arith)
 

@@ -1,4 +1,5 @@
 -- Laws of plain statements and of fitting values.
+use Rattle.std.specs.Prelude.{Option}
 use Prim.Native.Nat.{ℕ, suc, ◌+◌, ◌*◌, ◌≤◌, ◌<◌}
 use mathlib.Core.Path.{◌≡◌, refl, sym, ap, ◌∙◌}
 use mathlib.Core.List.{List, [], ◌∷◌, ◌++◌}
@@ -17,16 +18,14 @@ use Rattle.arith.specs.Numbers.{fits}
 use Rattle.expr.specs.Statement.{Statement}
 use Rattle.expr.specs.Statement.Statement.{assignment, other}
 use Rattle.sheet_node.specs.declared.Assignment.{Assignment}
-use Rattle.sheet_node.specs.Node.{statement_at, statement_of, statements_from, StatementRead}
+use Rattle.sheet_node.specs.Node.{statement_at, statement_of, statements_from}
 use Rattle.sheet_node.specs.Promises.{TookAssignment}
 use Rattle.sheet_node.proofs.Accepted.{statements-nth, statements-length}
 use Rattle.evaluate_node.specs.Evaluate.{plain_statement, plain_all, unfit_from}
 use Rattle.evaluate_node.specs.Promises.{After, state_of, go_on, after_statement, assigned_all, StateIs, Stepped}
 use Rattle.evaluate_node.specs.Promises.After.{went, stopped}
 use Rattle.evaluate_node.specs.declared.Step.{Step}
-use Rattle.value.specs.declared.Value.{Value}
 use Rattle.value.specs.Evaluation.{evaluated}
-use Rattle.value.specs.Promises.{Ready}
 
 -- ---- values
 
@@ -70,27 +69,15 @@ module _ (types s : List ℕ) (p : Place) {f : Assignment} {before after : List 
   pub plain-taken : {plain : Bool} → plain ≡ plain_expr (tree_of (take (2 * f.records) after)) → plain ≡ plain_statement (statement_of (statement_at types s p))
   plain-taken is = rw (took.assigned, ← took-words took) is
 
-pub plain_other : (r : StatementRead) → r.assigned ≡ false → plain_statement (statement_of r) ≡ false
-plain_other r other' = rw other'
-
--- the value of a plain assignment is plain
-pub plain-words : (r : StatementRead) → r.assigned ≡ true → plain_statement (statement_of r) ≡ true → plain_expr (tree_of r.words) ≡ true
-plain-words r is h = rw is at h
-
 -- nothing is made after the run stopped
 pub rests : (types : List ℕ) (x : Statement) (values : List ℕ) → after_statement types x (stopped values) ≡ stopped values
 rests types (assignment v e) values = refl
 rests types other values = refl
 
 module _ (types s : List ℕ) (p : Place) {f : Assignment} {before after : List ℕ} (took : TookAssignment f before after (statement_at types s p))
-    (on : WentOn (statement_at types s p).next) (plain : plain_statement (statement_of (statement_at types s p)) ≡ true) where
-  pub taken-ready : Ready (take (2 * f.records) after)
-  taken-ready =
-      let a = took-assigned types s p took on in
-      record { wf = a.tree; few = a.short; plain = rw (took-words took) (plain-words (statement_at types s p) took.assigned plain) }
-
+    (on : WentOn (statement_at types s p).next) where
   -- an assignment that is made
-  pub made : (values : List ℕ) {v : Value} → v ≡ evaluated types values (tree_of (take (2 * f.records) after))
+  pub made : (values : List ℕ) {v : Option ℕ} → v ≡ evaluated types values (tree_of (take (2 * f.records) after))
       → after_statement types (statement_of (statement_at types s p)) (went values) ≡ go_on v f.variable values
   made values is = rw (took.assigned, took.variable, is, took-words took)
 

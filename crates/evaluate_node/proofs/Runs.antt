@@ -1,4 +1,5 @@
 -- A plain node's run on borrowed values is what the assignments and the condition give.
+use Rattle.std.specs.Prelude.{Option, Some, None}
 use Prim.Native.Nat.{ℕ, zero, suc, ◌≤◌, ◌<◌}
 use mathlib.Core.Path.{◌≡◌, refl, sym, ap, ◌∙◌}
 use mathlib.Core.List.{List, [], ◌∷◌, ◌++◌}
@@ -16,10 +17,6 @@ use Rattle.expr.specs.Statement.{Statement}
 use Rattle.expr.specs.Statement.Statement.{assignment, other}
 use Rattle.sheet_node.specs.Node.{NodeReading, statement_at, statement_of, statements_from, node_of}
 use Rattle.sheet_node.proofs.Accepted.{statement-on, assigned}
-use Rattle.value.specs.declared.Value.{Value}
-use Rattle.value.specs.declared.Value.TheVariants.{Of, NoValue}
-use Rattle.value.specs.declared.Truth.{Truth}
-use Rattle.value.specs.declared.Truth.TheVariants.{NoOutcome}
 use Rattle.value.specs.Evaluation.{evaluated, settled}
 use Rattle.value.specs.Run.{Choices, run_from, run}
 use Rattle.value.proofs.Steps.{lent, assigns, stops, ends}
@@ -66,9 +63,9 @@ declared-all types s p (suc k) e =
     declared-append (length types) t.list _ (declared-all types s p k (statement-on types s t.next e).1) (declared-one types s t.next e)
 
 -- what is left to decide after the assignments
-abbrev finish : List ℕ → Expr → After → Truth
+abbrev finish : List ℕ → Expr → After → Option Bool
 finish types condition (went values) = settled types values condition
-finish types condition (stopped values) = NoOutcome
+finish types condition (stopped values) = None
 
 -- a run that stopped stays so
 pub stays : (types : List ℕ) (l : List Statement) (values : List ℕ) → assigned_all types l (stopped values) ≡ stopped values
@@ -86,15 +83,16 @@ run-from types c condition i (assignment v e ∷ rest) values p d q =
     go (evaluated types values e) refl
     (λ x. run-from types c condition (suc i) rest (set values v x) (and_right (plain_expr e) (plain_all rest) p) (rw length-set d.1) q)
   where
-    go : (u : Value) → evaluated types values e ≡ u
+    go : (u : Option ℕ) → evaluated types values e ≡ u
         → ((x : ℕ) → run_from types c condition (suc i) rest (lent (set values v x)) ≡ finish types condition (assigned_all types rest (went (set values v x))))
         → run_from types c condition i (assignment v e ∷ rest) (lent values) ≡ finish types condition (assigned_all types (assignment v e ∷ rest) (went values))
-    go (Of x) is rest-is =
+    go (Some x) is rest-is =
         assigns types c condition i values v e rest (is_plain e (and_left (plain_expr e) (plain_all rest) p)) x d.0 is ∙ rw is (rest-is x)
-    go NoValue is rest-is =
+    go None is rest-is =
         stops types c condition i values v e rest (is_plain e (and_left (plain_expr e) (plain_all rest) p)) is ∙ rw (is, stays types rest values)
 
-module _ (s : List ℕ) (node : NodeReading) (place : ℕ) (types values words : List ℕ) (r : Running s node types words) where
+module _ (s : List ℕ) (node : NodeReading) (place : ℕ) (types values words : List ℕ) (r : Running s node types words)
+    (plain : plain_expr (tree_of words) ≡ true) where
   abbrev L : List Statement
   L = (statements_from types s node.body node.statements).list
 
@@ -114,7 +112,7 @@ module _ (s : List ℕ) (node : NodeReading) (place : ℕ) (types values words :
 
   module _ (p : plain_all L ≡ true) where
     plain-is : evaluation_of (node_of s node) place values ≡ on_fit (unfit_from 0 types values) (on_truth place (run types L C (on_values values)))
-    plain-is = evaluation-is ∙ rw (p, r.ready.plain)
+    plain-is = evaluation-is ∙ rw (p, plain)
 
     -- the run from the borrowed values is the one from the buffer that holds them
     the-run : {start : List ℕ} → start ≡ take (length types) values ++ drop (length types) (replicate 32 0) → length types ≤ length values
@@ -124,10 +122,10 @@ module _ (s : List ℕ) (node : NodeReading) (place : ℕ) (types values words :
         let long : length types ≤ length start = rw (is, length-append, length-take) (omega arith) in
         let all : AllBelow (length types) L = rw r.types_are reads.statements in
         let own : Below (length types) C = rw (r.types_are, r.words_are) reads.condition in
-        same-run types (length types) (on_values values) (on_values values) C 0 L (lent values) (lent start) p r.ready.plain all own
+        same-run types (length types) (on_values values) (on_values values) C 0 L (lent values) (lent start) p plain all own
         (λ v below. sym (rw is (get_or-append (take (length types) values) _ 0 v (rw (length-take-le (length types) values enough) below) ∙ get_or-take (length types) values v 0 below)))
         ∙ run-from types (on_values values) C 0 L start p
-        (declared-more (length types) _ L long (declared-all types s node.body node.statements r.statements.1)) r.ready.plain
+        (declared-more (length types) _ L long (declared-all types s node.body node.statements r.statements.1)) plain
 
     module _ {fit : Option ℕ} (fit_is : fit ≡ unfit_from 0 types values) (fits : Bool) (start : List ℕ)
         (started : Started fits fit (length types) values (replicate 32 0) start) where
@@ -142,7 +140,7 @@ module _ (s : List ℕ) (node : NodeReading) (place : ℕ) (types values words :
         fit-all : unfit_from 0 types values ≡ None
         fit-all = sym fit_is ∙ all
 
-        from-run : {after : After} {t : Truth} → assigned_all types L (state_of fits start) ≡ after → finish types C after ≡ t
+        from-run : {after : After} {t : Option Bool} → assigned_all types L (state_of fits start) ≡ after → finish types C after ≡ t
             → on_truth place t ≡ evaluation_of (node_of s node) place values
         from-run {after} {t} out t-is =
             sym (plain-is ∙ rw (fit-all, the-run filled.1 (fit-enough 0 types values fit-all), ← (ap (λ (b : Bool). state_of b start) filled.0), out, t-is))
@@ -151,6 +149,6 @@ module _ (s : List ℕ) (node : NodeReading) (place : ℕ) (types values words :
             → Err (refused fault.Division place) ≡ evaluation_of (node_of s node) place values
         node-stopped out = from-run out refl
 
-        pub node-went : {after : List ℕ} → assigned_all types L (state_of fits start) ≡ went after → {t : Truth} {e : Evaluation} → t ≡ settled types after C
+        pub node-went : {after : List ℕ} → assigned_all types L (state_of fits start) ≡ went after → {t : Option Bool} {e : Evaluation} → t ≡ settled types after C
             → e ≡ on_truth place t → e ≡ evaluation_of (node_of s node) place values
         node-went on t-is e-is = e-is ∙ from-run on (sym t-is)

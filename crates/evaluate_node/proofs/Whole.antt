@@ -1,6 +1,6 @@
 -- A node that was read whole, and its evaluation from its parts.
 use Prim.Native.Nat.{ℕ, suc, ◌*◌, ◌≤◌}
-use mathlib.Core.Path.{◌≡◌, refl, sym, ◌∙◌}
+use mathlib.Core.Path.{◌≡◌, refl, sym}
 use mathlib.Core.List.{List, [], ◌∷◌}
 use mathlib.Core.Bool.{Bool, true, false, ◌&&◌}
 use native.Mathlib.Omega.{arith}
@@ -15,7 +15,6 @@ use Rattle.arith.specs.Numbers.{fits}
 use Rattle.sheet_expression.specs.Expression.{expression_at}
 use Rattle.sheet_expression.specs.Promises.{Took}
 use Rattle.sheet_expression.proofs.Lists.{took-front}
-use Rattle.sheet_expression.proofs.Accepted.{took-tree}
 use Rattle.sheet_node.specs.Node.{NodeReading, types_in, node_of}
 use Rattle.sheet_node.specs.Promises.{ReadNode}
 use Rattle.sheet_node.proofs.Accepted.{parts}
@@ -42,24 +41,22 @@ module _ (s : List ℕ) (node : NodeReading) (read : ReadNode s node) where
   pub this-condition : WentOn (expression_at node.variables s node.condition).next
   this-condition = rw (parts s node read).counted (parts s node read).condition
 
-  module _ {records : ℕ} {next : Place} {before after : List ℕ} (took : Took records next before after (expression_at node.variables s node.condition))
-      {b : Bool} (b-is : b ≡ plain_expr (tree_of (take (2 * records) after))) where
-    pub condition-refused : b ≡ false → (place : ℕ) (values : List ℕ) → Err (refused NotPlain place) ≡ evaluation_of (node_of s node) place values
+  module _ {records : ℕ} {next : Place} {before after : List ℕ} (took : Took records next before after (expression_at node.variables s node.condition)) where
+    pub condition-refused : false ≡ plain_expr (tree_of (take (2 * records) after)) → (place : ℕ) (values : List ℕ)
+        → Err (refused NotPlain place) ≡ evaluation_of (node_of s node) place values
     unfolding evaluation_of node_of
     condition-refused fails place values =
-        let out : plain_expr (tree_of (expression_at node.variables s node.condition).words) ≡ false = rw (← took-front took this-condition) (sym b-is ∙ fails) in
+        let out : plain_expr (tree_of (expression_at node.variables s node.condition).words) ≡ false = rw (← took-front took this-condition) (sym fails) in
         sym (rw (out, and-false))
 
-    pub running : b ≡ true → {ts : List ℕ} → ts ≡ types_in s node → Running s node ts (take (2 * records) after)
-    running holds {ts} these =
-        let words = took-tree node.variables s node.condition took this-condition in
+    pub running : {ts : List ℕ} → ts ≡ types_in s node → Running s node ts (take (2 * records) after)
+    running {ts} these =
         record {
           at = read.at;
           is = read.is;
           on = read.on;
           types_are = these;
           words_are = took-front took this-condition;
-          ready = record { wf = words.0; few = words.1; plain = sym b-is ∙ holds };
           few = rw these (parts s node read).few;
           statements = rw these (parts s node read).statements;
         }

@@ -8,8 +8,6 @@ use Rattle.expr.specs.Statement.{Statement}
 use Rattle.expr.specs.Statement.Statement.{assignment, other}
 use Rattle.arith.specs.Numbers.{fits}
 use Rattle.sheet_node.specs.Node.{Node}
-use Rattle.value.specs.declared.Truth.{Truth}
-use Rattle.value.specs.declared.Truth.TheVariants as truth
 use Rattle.value.specs.Run.{Choices, run}
 
 -- whether a node's condition holds, or a refusal
@@ -48,10 +46,10 @@ abbrev pub StartsFrom : List ℕ → List ℕ → Choices → Type 0
 StartsFrom types values c = (v : ℕ) → v < length types → c.start v ≡ get_or values v 0
 
 -- what an evaluation says of a run's outcome: whether the condition holds, or that there is none (14); other refusals say nothing
-abbrev pub Gives : Evaluation → Truth → Type 0
-Gives (Ok true) t = t ≡ truth.Holds
-Gives (Ok false) t = t ≡ truth.Fails
-Gives (Err r) t = r.fault ≡ Division → t ≡ truth.NoOutcome
+abbrev pub Gives : Evaluation → Option Bool → Type 0
+Gives (Ok true) t = t ≡ Some true
+Gives (Ok false) t = t ≡ Some false
+Gives (Err r) t = r.fault ≡ Division → t ≡ None
 
 -- an evaluation that comes from the node's run: whether the condition holds, or 14
 abbrev pub FromRun : Evaluation → Type 0
@@ -64,10 +62,10 @@ on_fit None e = e
 on_fit (Some v) e = Err (refused Value v)
 
 -- What the outcome of the run makes of the evaluation: where there is none, refusal 14, reported at the node (E1, E7).
-abbrev pub on_truth : ℕ → Truth → Evaluation
-on_truth place truth.Holds = Ok true
-on_truth place truth.Fails = Ok false
-on_truth place truth.NoOutcome = Err (refused Division place)
+abbrev pub on_truth : ℕ → Option Bool → Evaluation
+on_truth place (Some true) = Ok true
+on_truth place (Some false) = Ok false
+on_truth place None = Err (refused Division place)
 
 -- The evaluation of a node that stands at an offset: refusals 15, 16 and 14 in this order, else whether the condition holds at the end of the run
 -- (E1, E4, E8).

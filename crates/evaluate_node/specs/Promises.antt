@@ -5,10 +5,7 @@ use Rattle.expr.specs.Statement.Statement.{assignment, other}
 use Rattle.sheet_field.specs.Field.{Place, start_of, WentOn}
 use Rattle.sheet_expression.specs.Expression.{expression_at}
 use Rattle.sheet_node.specs.Node.{NodeReading, StatementRead, statement_of, statements_from, node_at}
-use Rattle.value.specs.declared.Value.{Value}
-use Rattle.value.specs.declared.Value.TheVariants.{Of, NoValue}
 use Rattle.value.specs.Evaluation.{evaluated}
-use Rattle.value.specs.Promises.{Ready}
 use Rattle.evaluate_node.specs.declared.Step.{Step}
 use Rattle.evaluate_node.specs.Evaluate.{plain_statement}
 
@@ -21,9 +18,9 @@ abbrev pub state_of : Bool → List ℕ → After
 state_of true values = went values
 state_of false values = stopped values
 
-abbrev pub go_on : Value → ℕ → List ℕ → After
-go_on (Of x) v values = went (set values v x)
-go_on NoValue v values = stopped values
+abbrev pub go_on : Option ℕ → ℕ → List ℕ → After
+go_on (Some x) v values = went (set values v x)
+go_on None v values = stopped values
 
 -- a statement: an assignment sets its variable, and stops the run where its value divides by zero
 abbrev pub after_statement : List ℕ → Statement → After → After
@@ -58,6 +55,5 @@ pub record Running (s : List ℕ) (node : NodeReading) (types words : List ℕ) 
   pub on : WentOn node.next
   pub types_are : types ≡ take node.variables (drop (start_of node.types) s)
   pub words_are : words ≡ (expression_at node.variables s node.condition).words
-  pub ready : Ready words
   pub few : length types ≤ 32
   pub statements : WentOn (statements_from types s node.body node.statements).next

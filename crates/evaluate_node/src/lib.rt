@@ -8,9 +8,10 @@ ghost use Rattle.sheet_node.specs.Promises.{ReadNode, reading_of};
 ghost use Rattle.evaluate_node.specs.Evaluate.{plain_all, unfit_from, on_truth, evaluation_of};
 ghost use Rattle.evaluate_node.specs.Promises.{state_of, assigned_all, StateIs, Stepped, Started, Running};
 
+use expr::Tree;
 use refusal::{Fault, Refusal};
 use sheet_node::NodeParts;
-use value::{Truth, Value};
+use value::Plain;
 
 // A node's evaluation: whether its condition holds.
 pub type Evaluation = Result<bool, Refusal>;
@@ -55,20 +56,15 @@ fn run_statement(
     let end = r.end;
     let a = r.assignment?;
     let n = 2 * (a.records as usize);
-    if !expr::is_plain(&words[..n]) {
-        return None;
-    }
+    let plain = Plain::of(Tree::new(&words[..n]))?;
     if !going {
         return Some(Step { going, end });
     }
-    let x = value::integer(&words[..n], types, values);
-    match x.value {
-        Value::NoValue => Some(Step { going: false, end }),
-        Value::Of(k) => {
-            values[a.variable as usize] = k;
-            Some(Step { going, end })
-        }
-    }
+    let Some(k) = plain.integer(types, values).value else {
+        return Some(Step { going: false, end });
+    };
+    values[a.variable as usize] = k;
+    Some(Step { going, end })
 }
 
 // The n statements from an offset on, which were read whole: each is checked, and made in the values while the run goes on. Whether it went through; none
@@ -96,14 +92,10 @@ fn run_statements(
     Some(going)
 }
 
-fn outcome(t: Truth, place: usize) -> Evaluation
+fn outcome(t: Option<bool>, place: usize) -> Evaluation
     ensures { result ≡ on_truth place t }
 {
-    match t {
-        Truth::Holds => Ok(true),
-        Truth::Fails => Ok(false),
-        Truth::NoOutcome => Err(Fault::Division.at(place)),
-    }
+    t.ok_or(Fault::Division.at(place))
 }
 
 // The values that a run starts from, where they fit; whether they do.
@@ -126,9 +118,9 @@ fn run_node(
     place: usize,
     types: &[u8],
     values: &[u64],
-    condition: &[u64],
+    condition: Plain,
 ) -> Evaluation
-    requires { Running s.now (reading_of node) types.now condition.now }
+    requires { Running s.now (reading_of node) types.now condition.tree.words.now }
     ensures { result ≡ evaluation_of (node_of s.now (reading_of node)) place values.now }
 {
     let unfit = first_unfit(types, values);
@@ -146,7 +138,7 @@ fn run_node(
     if !went {
         return Err(Fault::Division.at(place));
     }
-    outcome(value::condition(condition, types, &room), place)
+    outcome(condition.condition(types, &room), place)
 }
 
 // The node, read whole, that starts at an offset.
@@ -158,8 +150,8 @@ pub fn evaluate_node(s: &[u8], node: NodeParts, place: usize, values: &[u64]) ->
     let mut words = [0u64; 256];
     let e = sheet_expression::expression_at(s, node.condition, &mut words);
     let m = 2 * (e.records as usize);
-    if !expr::is_plain(&words[..m]) {
+    let Some(plain) = Plain::of(Tree::new(&words[..m])) else {
         return Err(Fault::NotPlain.at(place));
-    }
-    run_node(s, node, place, types, values, &words[..m])
+    };
+    run_node(s, node, place, types, values, plain)
 }

@@ -29,38 +29,26 @@ slice_bounds-words-end c =
     let on = this-condition s node read in let took = c.expression_at-e.ensures c.args.node.front.variables on in
     omega (arith, took.few, c.expression_at-e.auto.out)
 
-pub slice_bounds-is_plain-end : goal.slice_bounds-is_plain-end
-slice_bounds-is_plain-end c =
+pub slice_bounds-new-end : goal.slice_bounds-new-end
+slice_bounds-new-end c =
     let s = c.args.s.now in let node = reading_of c.args.node in let read = c.requires in
     let on = this-condition s node read in let took = c.expression_at-e.ensures c.args.node.front.variables on in
     sym (length-take-le _ _ (omega (arith, took.few, c.expression_at-e.auto.out)))
 
-pub is_plain-requires : goal.is_plain-requires
-is_plain-requires c =
+pub new-requires : goal.new-requires
+new-requires c =
     let s = c.args.s.now in let node = reading_of c.args.node in let read = c.requires in
     let on = this-condition s node read in let took = c.expression_at-e.ensures c.args.node.front.variables on in
     (took-tree c.args.node.front.variables s (Ok c.args.node.condition) took on).0
 
-pub returns-then-not-is_plain : goal.returns-then-not-is_plain
-returns-then-not-is_plain c =
+pub returns-in_default : goal.returns-in_default
+returns-in_default c =
     let s = c.args.s.now in let node = reading_of c.args.node in let read = c.requires in
     let on = this-condition s node read in let took = c.expression_at-e.ensures c.args.node.front.variables on in
-    rw c.at.ensures (condition-refused s node read took c.is_plain.ensures c.if-not-is_plain.true c.args.place c.args.values.now)
-
-pub slice_bounds-words-end-2 : goal.slice_bounds-words-end-2
-slice_bounds-words-end-2 c =
-    let s = c.args.s.now in let node = reading_of c.args.node in let read = c.requires in
-    let on = this-condition s node read in let took = c.expression_at-e.ensures c.args.node.front.variables on in
-    omega (arith, took.few, c.expression_at-e.auto.out)
-
-pub slice_bounds-run_node-end : goal.slice_bounds-run_node-end
-slice_bounds-run_node-end c =
-    let s = c.args.s.now in let node = reading_of c.args.node in let read = c.requires in
-    let on = this-condition s node read in let took = c.expression_at-e.ensures c.args.node.front.variables on in
-    sym (length-take-le _ _ (omega (arith, took.few, c.expression_at-e.auto.out)))
+    rw c.at.ensures (condition-refused s node read took (rw c.new.ensures at c.in_default.ensures.plain) c.args.place c.args.values.now)
 
 pub run_node-requires : goal.run_node-requires
 run_node-requires c =
     let s = c.args.s.now in let node = reading_of c.args.node in let read = c.requires in
     let on = this-condition s node read in let took = c.expression_at-e.ensures c.args.node.front.variables on in
-    running s node read took c.is_plain.ensures c.if-not-is_plain.false c.types_in-types.ensures
+    rw (c.in-Some.ensures.same, c.new.ensures) (running s node read took c.types_in-types.ensures)
