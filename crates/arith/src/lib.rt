@@ -1,4 +1,5 @@
-// Arithmetic on the bit patterns of a type's values: each operation wraps at the type's width.
+// Arithmetic on the bit patterns of a type's values: each operation wraps at the type's width. Both operands are of one type, which is passed
+// once beside them: with the type in each, every operation would have to ask that they are equal.
 #![tactic(auto)]
 
 ghost use Rattle.std.specs.Prelude.{◌≡◌, ◌==◌, None, Some, cond, ◌-◌, ◌*◌, ◌%◌, ◌^◌, ◌<◌, pos, neg_ℤ, nat_abs, if◌then◌else◌};

@@ -30,7 +30,7 @@ pub const TERNARY: u64 = 8;
 
 pub const KINDS: u64 = 9;
 
-// Types, and how many there are.
+// Types, and how many there are. Numbers, as every function here takes any number for a type or an operator.
 pub const SIGNED_8: u64 = 0;
 
 pub const SIGNED_16: u64 = 1;
@@ -110,6 +110,7 @@ pub fn argument(tag: u64) -> u64
 }
 
 // How many children a record of each kind takes, two bits for each: 1 for a load and a cast, 2 for a binary, 3 for a ternary.
+// A shift, and no jump, as it is asked of every record.
 const ARITIES: u64 = 0x39400;
 
 // How many children the record with this tag word takes.
@@ -242,7 +243,8 @@ fn record_type(tag: u64, types: &[u8], a: u64, b: u64) -> u64
     }
 }
 
-// Where the last tree of a list of trees starts: from the end back, with the number of trees that are still to be passed.
+// Where the last tree of a list of trees starts: from the end back, with the number of trees that are still to be passed. The
+// count ends it, and not the words.
 fn last_start(rs: &[u64]) -> usize
     requires trees { Trees rs.now }
     requires bound { 1 ≤ tree_count rs.now }
