@@ -6,8 +6,8 @@ use native.Mathlib.Omega.{arith}
 use native.Mathlib.Numerals.{add-one}
 use lib.ListN.{length, get_or, set, drop, length-append, length-map, drop_of_length-le}
 use lib.Seq.{drop-cons}
+use Rattle.std.specs.Prelude.{Ok}
 use Rattle.sheet.specs.declared.Sheet.{Sheet}
-use Rattle.sheet.specs.declared.Reading.TheVariants.{Accepted}
 use Rattle.sheet.specs.Sheet.{sheet_at, reading_of}
 use Rattle.sheet.specs.Index.{targets_of}
 use Rattle.sheet.proofs.ByNumber.{instructions-count, places_count}
@@ -19,7 +19,7 @@ use Rattle.verdict_lines.proofs.Decided.{slot-line}
 use Rattle.verdict_lines.proofs.Puts.{put-none, put_step, put-join}
 
 -- the instruction of a slot has an offset in the index
-pub offset-there : (s : List ℕ) (sheet : Sheet) → reading_of s ≡ Accepted sheet → {places : List ℕ} (slots : List ℕ) (i : ℕ) → places ≡ (sheet_at s).instructions.places
+pub offset-there : (s : List ℕ) (sheet : Sheet) → reading_of s ≡ Ok sheet → {places : List ℕ} (slots : List ℕ) (i : ℕ) → places ≡ (sheet_at s).instructions.places
     → length (targets_of (sheet_at s).instructions.list) ≡ length slots → i < length slots → i < length places
 unfolding targets_of
 offset-there s sheet read slots i places-are each below =

@@ -2,23 +2,15 @@
 // counted and written.
 #![tactic(auto)]
 
-ghost use Rattle.std.specs.Prelude.{◌≡◌, ◌+◌, ◌*◌, ◌≤◌, ◌<◌, length, replicate};
-ghost use Rattle.sheet.specs.declared.Reading.TheVariants.{Accepted};
-ghost use Rattle.sheet.specs.Sheet.{sheet_at, reading_of};
+ghost use Rattle.std.specs.Prelude.{◌≡◌, ◌+◌, ◌*◌, ◌≤◌, ◌<◌, length};
+ghost use Rattle.sheet.specs.Sheet.{sheet_at};
 ghost use Rattle.sheet.specs.Index.{over, targets_of};
 ghost use Rattle.sheet_bytes.specs.Write.{bytes, records};
 ghost use Rattle.verdict_lines.specs.Lines.{line_bytes};
 ghost use Rattle.verdict_lines.specs.Slots.{slot_of, kept, decided_of, decided_in, slot_line, lines_in, put_at, RoomFor};
 
-use sheet::Sheet;
+use sheet::code::Code;
 use verdict::Verdict;
-
-// Slots that hold nothing, for as many instructions as a sheet can have.
-pub fn empty_slots() -> [u8; 2048]
-    ensures { result ≡ replicate 2048 0 }
-{
-    [0; 2048]
-}
 
 // What a slot holds of a verdict: 0 where it decides nothing, else twice the reason's number, and one more for always.
 #[tactic(auto, using(crate::proofs::Decided::small))]
@@ -26,8 +18,8 @@ fn slot_of(v: Verdict) -> u8
     ensures { result ≡ slot_of v }
 {
     match v {
-        Verdict::Always(r) => 2 * verdict::reason_number(r) + 1,
-        Verdict::Never(r) => 2 * verdict::reason_number(r),
+        Verdict::Always(r) => 2 * r.number() + 1,
+        Verdict::Never(r) => 2 * r.number(),
         Verdict::Undecided | Verdict::NoBranch => 0,
     }
 }
@@ -75,16 +67,13 @@ fn put_line(list: &mut [u8], at: usize, site: u64, target: u64, slot: u8) -> usi
     at + 18
 }
 
-// Writes the lines over the start of a list that can hold them: sites and offsets are those of an accepted sheet's instructions.
-pub fn write(s: &[u8], sheet: Sheet, sites: &[u64], places: &[u64], slots: &[u8], list: &mut [u8])
-    requires s_value { reading_of s.now ≡ Accepted sheet }
-    requires places_value { places.now ≡ (sheet_at s.now).instructions.places }
-    requires room_for { RoomFor sites.now (targets_of (sheet_at s.now).instructions.list) slots.now list.old }
-    ensures { list.new ≡ over (records line_bytes (lines_in sites.now (targets_of (sheet_at s.now).instructions.list) slots.now)) list.old }
+// Writes the lines of an accepted sheet's slots over the start of a list that can hold them.
+pub fn write(code: &Code, slots: &[u8], list: &mut [u8])
+    requires { RoomFor code.now.addresses.now (targets_of (sheet_at code.now.bytes.now).instructions.list) slots.now list.old }
+    ensures { list.new ≡ over (records line_bytes (lines_in code.now.addresses.now (targets_of (sheet_at code.now.bytes.now).instructions.list) slots.now)) list.old }
 {
     let mut at = 0;
     for i in 0..slots.len() {
-        let target = sheet::nth_target(s, sheet, places, i);
-        at = put_line(list, at, sites[i], target, slots[i]);
+        at = put_line(list, at, code.addresses[i], code.nth_target(i), slots[i]);
     }
 }

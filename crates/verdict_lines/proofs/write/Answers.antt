@@ -13,15 +13,12 @@ use Rattle.verdict_lines.proofs.write.Goals as goal
 
 pub loop-i-init : goal.loop-i-init
 loop-i-init c =
-    (put_front _ _, (omega (arith, c.requires.room_for.room), (omega arith, refl)))
+    (put_front _ _, (omega (arith, c.requires.room), refl))
 
-pub nth_target-target-requires : goal.nth_target-target-requires
-nth_target-target-requires c =
-    record { s_value = c.requires.s_value; places_value = c.requires.places_value; number_in_bounds = offset-there c.args.s.now c.args.sheet c.requires.s_value c.args.slots.now c.loop-i.i c.requires.places_value c.requires.room_for.each_target c.loop-i-test.true }
-
-pub bounds-sites-i : goal.bounds-sites-i
-bounds-sites-i c =
-    omega (arith, c.requires.room_for.each_site)
+pub nth_target-requires : goal.nth_target-requires
+nth_target-requires c =
+    let code = c.args.code.now in
+    offset-there code.bytes.now code.sheet code.accepted c.args.slots.now c.loop-i.i code.placed c.requires.each_target c.loop-i-test.true
 
 pub put_line-at-requires : goal.put_line-at-requires
 put_line-at-requires c =
@@ -29,24 +26,24 @@ put_line-at-requires c =
 
 pub loop-i-preserved : goal.loop-i-preserved
 loop-i-preserved c =
-    let sites = c.args.sites.now in
-    let targets = targets_of (sheet_at c.args.s.now).instructions.list in
+    let sites = c.args.code.now.addresses.now in
+    let targets = targets_of (sheet_at c.args.code.now.bytes.now).instructions.list in
     let slots = c.args.slots.now in
     let i = c.loop-i.i in
     let at = c.loop-i.at in
     let list = c.loop-i.list in
     let below = c.loop-i-test.true in
-    let each = c.requires.room_for in
-    let put : c.put_line-at.new.list ≡ put_at at (records line_bytes (slot_line (get_or sites i 0) (get_or targets i 0) (get_or slots i 0))) list = rw (← c.nth_target-target.ensures) c.put_line-at.ensures.1 in
+    let each = c.requires in
+    let put : c.put_line-at.new.list ≡ put_at at (records line_bytes (slot_line (get_or sites i 0) (get_or targets i 0) (get_or slots i 0))) list = rw (← c.nth_target.ensures) c.put_line-at.ensures.1 in
     let next = c.put_line-at.ensures.0 in
     let long = put_keeps at (records line_bytes (slot_line (get_or sites i 0) (get_or targets i 0) (get_or slots i 0))) list put in
     let more = decided-more slots i (omega (arith, below)) in
-    (write-more sites targets slots i at list (omega (arith, below, each.each_site)) (omega (arith, below, each.each_target)) (omega (arith, below)) next put c.loop-i.invariant.0, (omega (arith, next, c.loop-i.invariant.1.0, long, more), (omega (arith, below), long ∙ c.loop-i.invariant.1.1.1)))
+    (write-more sites targets slots i at list (omega (arith, below, each.each_site)) (omega (arith, below, each.each_target)) (omega (arith, below)) next put c.loop-i.invariant.0, (omega (arith, next, c.loop-i.invariant.1.0, long, more), long ∙ c.loop-i.invariant.1.1))
 
 pub shape_of-list : goal.shape_of-list
 shape_of-list c =
-    c.loop-i.invariant.1.1.1
+    c.loop-i.invariant.1.1
 
 pub returns : goal.returns
 returns c =
-    write_done c.args.sites.now (targets_of (sheet_at c.args.s.now).instructions.list) c.args.slots.now c.loop-i.i c.loop-i.at c.loop-i.list (omega (arith, c.requires.room_for.each_site)) c.loop-i.invariant.0
+    write_done c.args.code.now.addresses.now (targets_of (sheet_at c.args.code.now.bytes.now).instructions.list) c.args.slots.now c.loop-i.i c.loop-i.at c.loop-i.list (omega (arith, c.requires.each_site)) c.loop-i.invariant.0
