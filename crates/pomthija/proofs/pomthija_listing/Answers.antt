@@ -4,4 +4,4 @@ use Rattle.pomthija.proofs.pomthija_listing.Goals as goal
 
 pub returns : goal.returns
 returns c =
-    returned-listing (listing_of c.args.s.now c.args.list.now) _ c.listing.ensures c.hand_out.ensures
+    returned-listing (listing_of c.args.s.now c.args.list.now) _ _ _ _ c.listing.ensures c.hand_out.ensures

@@ -1,2 +1,6 @@
-use Rattle.pomthija.proofs.Host.{returned-always, returned-never, returned-undecided, returned-none, returned-refused}
+use Rattle.pomthija.proofs.Host.{returned-none}
 use Rattle.pomthija.proofs.pomthija_node_verdict.Goals as goal
+
+pub unreachable-requires : goal.unreachable-requires
+unreachable-requires c =
+    returned-none _ _ _ c.node_verdict-answer.ensures c.in-Ok-NoBranch.is (rw c.in-Ok-NoBranch.is at c.in-Ok-NoBranch.field-0-is)
