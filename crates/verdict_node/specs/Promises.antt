@@ -1,14 +1,18 @@
 -- What the contracts of a node verdict's parts ask and give.
-use Rattle.std.specs.Prelude.{ℕ, ◌≡◌, List}
-use Rattle.sheet_node.specs.declared.NodeReading.{NodeReading}
-use Rattle.sheet_node.specs.Node.{node_of}
-use Rattle.verdict.specs.declared.Verdict.{Verdict}
-use Rattle.verdict.specs.declared.Answer.TheVariants.{Given}
+use Rattle.std.specs.Prelude.{ℕ, ◌≡◌, List, Result, Ok, Err, IfOk}
+use Rattle.refusal.specs.declared.Refusal.{Refusal}
+use Rattle.sheet_node.specs.Node.{NodeReading, node_of}
+use Rattle.verdict.specs.Numbers.{Answer}
 use Rattle.verdict_node.specs.declared.JudgedNode.{JudgedNode}
 use Rattle.verdict_node.specs.NodeVerdict.{node_verdict}
 
--- what is given for a node whose record starts at an offset
-pub record JudgedIs (r : JudgedNode) (s : List ℕ) (node : NodeReading) (place : ℕ) : Type 0 where
-  pub answer : r.answer ≡ node_verdict (node_of s node) place
-  pub addresses : (v : Verdict) → r.answer ≡ Given v → r.addresses ≡ node.addresses
-  pub sites : (v : Verdict) → r.answer ≡ Given v → r.sites ≡ node.sites
+-- the answer in what is given for a node
+abbrev pub answer_in : Result JudgedNode Refusal → Answer
+answer_in (Ok j) = Ok j.verdict
+answer_in (Err r) = Err r
+
+-- what is given for a node whose record starts at an offset: its answer and, with a verdict, where its addresses stand
+pub record JudgedIs (r : Result JudgedNode Refusal) (s : List ℕ) (node : NodeReading) (place : ℕ) : Type 0 where
+  pub answer : answer_in r ≡ node_verdict (node_of s node) place
+  pub addresses : IfOk r (λ j. j.addresses ≡ node.addresses)
+  pub sites : IfOk r (λ j. Ok j.sites ≡ node.sites)

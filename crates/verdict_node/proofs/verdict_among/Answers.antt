@@ -1,31 +1,32 @@
-use mathlib.Core.Path.{refl}
 use Rattle.std.proofs.Common.{rules}
-use Rattle.verdict_node.proofs.Judged.{whole-at, types-fit, types_are, types-few, these-statements, this-condition, judged-into, judged_long}
+use Rattle.verdict_node.proofs.Judged.{types-fit, types_are, types-few, these-statements, this-condition, node-sites, judged-into, judged_long}
 use Rattle.verdict_node.proofs.verdict_among.Goals as goal
 
-pub types_of-types-requires : goal.types_of-types-requires
-types_of-types-requires g c =
-    types-fit _ _ (whole-at _ _ c.requires.went_on) c.requires.front_value c.start-from.ensures
+pub types_in-types-requires : goal.types_in-types-requires
+types_in-types-requires g c =
+    types-fit _ _ c.requires.went_on c.requires.front_value
 
 pub substitute-requires : goal.substitute-requires
 substitute-requires g c =
-    let read = whole-at _ _ c.requires.went_on in
-    let front = c.requires.front_value in
-    let these = types_are _ _ read front c.start-from.ensures c.types_of-types.ensures in
-    (search rules, (λ _. types-few _ _ read front these c.requires.few, (these-statements _ _ read front these, this-condition _ _ read front these)))
+    let s = c.args.s.now in let on = c.requires.went_on in let front = c.requires.front_value in
+    let these = types_are s c.args.at on front c.types_in-types.ensures in
+    (search rules, (λ _. types-few s c.args.at on front these c.requires.few, (these-statements s c.args.at on front these, this-condition s c.args.at on front these)))
+
+pub judge-requires-clause-inside : goal.judge-requires-clause-inside
+judge-requires-clause-inside g c =
+    let s = c.args.s.now in let on = c.requires.went_on in let front = c.requires.front_value in
+    let these = types_are s c.args.at on front c.types_in-types.ensures in
+    node-sites s c.args.at on front these c.in-Some.ensures.0
 
 pub returns-in-Some : goal.returns-in-Some
 returns-in-Some g c =
-    let read = whole-at _ _ c.requires.went_on in
-    let front = c.requires.front_value in
-    let these = types_are _ _ read front c.start-from.ensures c.types_of-types.ensures in
+    let s = c.args.s.now in let on = c.requires.went_on in let front = c.requires.front_value in
+    let these = types_are s c.args.at on front c.types_in-types.ensures in
     let made = c.in-Some.ensures in
-    let j = c.judge.ensures in
-    judged-into _ _ read front these _ _ made.2 made.0 j.answer j.addresses j.sites
+    judged-into s c.args.at on front these made.0 _ made.2 c.judge.ensures.answer c.judge.ensures.addresses
 
 pub returns-in-None : goal.returns-in-None
 returns-in-None g c =
-    let read = whole-at _ _ c.requires.went_on in
-    let front = c.requires.front_value in
-    let these = types_are _ _ read front c.start-from.ensures c.types_of-types.ensures in
-    judged_long _ _ read front these _ c.in-None.ensures refl
+    let s = c.args.s.now in let on = c.requires.went_on in let front = c.requires.front_value in
+    let these = types_are s c.args.at on front c.types_in-types.ensures in
+    rw c.at.ensures (judged_long s c.args.at on front these c.in-None.ensures)
