@@ -12,9 +12,7 @@ use std::io::Read;
 use test_io::Early;
 use verdict::{Answer, Reason, Verdict};
 
-// How many bytes the longest frame that is read has, and the longest sentence of a block.
-const LONGEST_FRAME: usize = 1048576;
-
+// How many bytes the longest sentence of a block has.
 const LONGEST_SENTENCE: usize = 49182;
 
 fn refused(output: &impl Print, r: Refusal) -> bool {
@@ -247,7 +245,7 @@ fn answer_all<R: Read>(
 
 // It always ends with status 0, so one that ends too early says so on standard output too, where the lines are compared.
 fn main(rt: HostRuntime) {
-    let mut buf = [0u8; LONGEST_FRAME];
+    let mut buf = test_io::room();
     let mut values = [0u64; 256];
     let output = rt.stdout();
     let end = answer_all(&mut rt.stdin(), &output, &mut buf, &mut values);

@@ -68,6 +68,13 @@ pub fn is_early(errors: &impl Print, end: Result<(), Early>) -> bool
     }
 }
 
+// A buffer for the longest frame that is read. It is not made in place: there the check computes the array, and runs out of stack.
+pub fn room() -> [u8; 1048576]
+    ensures { 1048576 ≡ length result }
+{
+    [0; 1048576]
+}
+
 // The first bytes, and 0 past the end.
 fn first<const N: usize>(s: &[u8]) -> [u8; N]
     requires { N ≤ 8 }
