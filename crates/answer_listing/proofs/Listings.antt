@@ -5,16 +5,14 @@ use mathlib.Core.List.{List, [], ◌∷◌}
 use native.Mathlib.Omega.{arith}
 use lib.ListN.{length, take, replicate, length-map}
 use borrow.Author.Tests.{le-leb, lt-leb}
-use Rattle.std.specs.Prelude.{Option, Some, None, Result, Ok, Err}
+use Rattle.std.specs.Prelude.{Result, Ok, Err}
 use Rattle.refusal.specs.declared.Fault.TheVariants.{Room}
 use Rattle.refusal.specs.declared.Refusal.{Refusal}
 use Rattle.refusal.specs.Numbers.{refused}
-use Rattle.isa.specs.declared.Instruction.{Instruction}
 use Rattle.sheet.specs.declared.Sheet.{Sheet}
 use Rattle.sheet.specs.declared.code.Code.{Code}
 use Rattle.sheet.specs.Sheet.{sheet_at, reading_of}
 use Rattle.sheet.specs.Index.{over, addresses_of, targets_of}
-use Rattle.sheet.proofs.ByNumber.{instructions-count, places_count}
 use Rattle.sheet.proofs.InCode.{code-addresses, code-places}
 use Rattle.sheet_bytes.specs.Write.{records}
 use Rattle.verdict_lines.specs.Lines.{Line, line_bytes}
@@ -24,7 +22,6 @@ use Rattle.verdict_sheet.specs.Said.{Judged, judged_up_to}
 use Rattle.verdict_sheet.specs.Kept.{slots_of, Reached}
 use Rattle.verdict_sheet.proofs.Due.{lines-due, slots-empty}
 use Rattle.answer_listing.specs.Listing.{Gives, written, on_judged, listing_of}
-use Rattle.answer_listing.specs.Promises.{Attempted}
 
 -- the lines against the list's length
 module _ (s sites targets slots list : List ℕ) (each-site : length sites ≡ length slots) (each-target : length targets ≡ length slots)

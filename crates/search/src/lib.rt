@@ -6,7 +6,7 @@ ghost use Rattle.std.specs.Prelude.{◌≡◌, true};
 ghost use Rattle.search.specs.Ascending.{Ascending, Below, count_below, place_of};
 
 // The index of the first number at or above x, or the length where all are below it.
-pub fn first_at_or_above(list: &[u64], x: u64) -> usize
+fn first_at_or_above(list: &[u64], x: u64) -> usize
     requires { Ascending list.now }
     ensures { result ≡ count_below list.now x }
 {

@@ -1,5 +1,5 @@
 -- Sentences by two parts of a buffer.
-use Prim.Native.Nat.{ℕ, zero, suc, ◌+◌, ◌-◌, ◌*◌, ◌≤◌, ◌<◌}
+use Prim.Native.Nat.{ℕ, zero, suc, ◌+◌, ◌-◌, ◌*◌, ◌≤◌}
 use mathlib.Core.Path.{◌≡◌, refl, sym, ap, ap₂, ◌∙◌}
 use mathlib.Core.Bool.{true, false, cond, ◌&&◌}
 use mathlib.Core.List.{List, [], ◌++◌, append-nil, append_assoc}
@@ -7,7 +7,7 @@ use native.Mathlib.Omega.{arith}
 use borrow.Author.Tests.{eqb-true}
 use lib.Dec.{eqb}
 use lib.ListN.{length, take, drop, length-append}
-use lib.Seq.{slice, slice_empty, length-slice, length-take-le, take_at, drop_at, take-take}
+use lib.Seq.{slice, slice_empty, length-take-le, take_at, drop_at, take-take}
 use Rattle.laws.specs.Words.{same_words}
 use Rattle.laws.proofs.Booleans.{and_left, and_right, by_test}
 use Rattle.laws.proofs.SameWords.{words-true}
@@ -20,7 +20,7 @@ use Rattle.sentence_text.specs.declared.Said.TheVariants.{Joined}
 use Rattle.sentence_text.specs.declared.Said.{Said}
 use Rattle.sentence_text.specs.Sentence.{conjunction, joined, turned, turned_times}
 use Rattle.sentence_text.proofs.Turns.{turns_long}
-use Rattle.sentence_text.specs.Promises.{in_parts, Composes, said_text, turns_of}
+use Rattle.sentence_text.specs.Promises.{Composes, said_text, turns_of}
 
 -- two texts as one
 joined_once : (a b : List ℕ) → same_words a b ≡ true → joined a b ≡ a

@@ -2,7 +2,6 @@
 #![tactic(auto)]
 
 ghost use Rattle.std.specs.Prelude.{◌≡◌, ◌+◌, ◌-◌, ◌<◌, ◌≤◌, length};
-ghost use Rattle.std.proofs.Math.Seq.{slice};
 ghost use Rattle.text.specs.Digits.{digit as digit_of, digits, places_of, decimal};
 ghost use Rattle.text.specs.Promises.{Puts};
 
@@ -30,16 +29,6 @@ impl<'a> Writer<'a> {
         let end = self.at + word.len();
         self.out[self.at..end].copy_from_slice(word);
         self.at = end;
-    }
-
-    // Puts a part of a word.
-    pub fn put_part(&mut self, word: &[u8], from: usize, to: usize)
-        requires from_le_to { from ≤ to }
-        requires to_in_bounds { to ≤ length word.now }
-        requires part_in_bounds { self.old.at + (to - from) ≤ length self.old.out.now }
-        ensures { Puts self.old self.new (slice from to word.now) }
-    {
-        self.put_word(&word[from..to]);
     }
 
     // Puts the last digits of n in a base, as many as the width.

@@ -1,7 +1,7 @@
 -- A block of an accepted sheet, found by the index.
 use Prim.Native.Nat.{ℕ}
 use mathlib.Core.Path.{◌≡◌}
-use lib.ListN.{length, get_or, length-map}
+use lib.ListN.{get_or}
 use lib.Seq.{slice}
 use Rattle.machine.specs.Registers.{nothing_known}
 use Rattle.search.specs.Ascending.{count_below}
@@ -9,7 +9,6 @@ use Rattle.search.proofs.Laws.{count-splits}
 use Rattle.sheet.specs.declared.Block.{Block}
 use Rattle.sheet.specs.declared.code.Code.{Code}
 use Rattle.sheet.specs.Sheet.{no_block, sheet_at}
-use Rattle.sheet.specs.Index.{addresses_of}
 use Rattle.sheet.proofs.ByNumber.{addresses-rise}
 use Rattle.sheet.proofs.InCode.{code-addresses, code-rises}
 use Rattle.verdict.specs.declared.Verdict.{Verdict}

@@ -36,12 +36,7 @@ pub fn jump_at(code: &Code, number: usize) -> Option<Mnemonic>
 }
 
 // Step over the instructions of an accepted sheet from number `first` up to `end`.
-pub fn step_over(
-    code: &Code,
-    first: usize,
-    end: usize,
-    state: &mut State,
-)
+pub fn step_over(code: &Code, first: usize, end: usize, state: &mut State)
     requires { end ≤ length code.now.places.now }
     ensures { state.new ≡ stepped_all state.old (slice first end (sheet_at code.now.bytes.now).instructions.list) }
 {

@@ -1,4 +1,3 @@
-use mathlib.Core.Path.{◌∙◌}
 use borrow.Author.Tests.{eq-eqb, ne_eqb}
 use Rattle.text.proofs.Puts.{part-is}
 use Rattle.sentence_text.proofs.Parts.{compared}

@@ -1,9 +1,7 @@
 use mathlib.Core.Path.{refl}
 use native.Mathlib.Omega.{arith}
-use lib.ListN.{length-append}
 use Rattle.std.proofs.Common.{rules}
 use Rattle.text.proofs.Puts.{puts_then, puts_written}
-use Rattle.sentence_text.proofs.Turns.{turns_long}
 use Rattle.sentence_text.proofs.Sentences.{parts-long}
 use Rattle.sentence_text.proofs.write.Goals as goal
 

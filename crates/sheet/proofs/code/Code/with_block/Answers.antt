@@ -1,8 +1,6 @@
 use mathlib.Core.Path.{sym, ◌∙◌}
-use native.Mathlib.Omega.{arith}
 use native.Mathlib.Nat.{le_trans}
 use Rattle.std.proofs.Common.{rules}
-use borrow.Author.Tests.{le-ltb}
 use Rattle.sheet.proofs.Accepted.{accepted}
 use Rattle.sheet.proofs.ByNumber.{front-addresses, front-places}
 use Rattle.sheet.proofs.code.Code.with_block.Goals as goal
