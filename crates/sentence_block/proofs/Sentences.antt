@@ -12,8 +12,7 @@ use Rattle.machine.specs.Rules.{stepped_all}
 use Rattle.sheet.specs.Sheet.{sheet_at}
 use Rattle.sheet.proofs.Fronts.{one}
 use Rattle.verdict_block.specs.declared.Range.{Range}
-use Rattle.verdict_block.specs.declared.Jump.{Jump}
-use Rattle.verdict_block.specs.declared.Jump.TheVariants.{Conditional, Nothing}
+use Rattle.std.specs.Prelude.{Option, Some, None}
 use Rattle.verdict_block.specs.Verdict.{apart, jump_of}
 use Rattle.verdict_block.specs.Promises.{RangeOf}
 use Rattle.verdict_block.proofs.Between.{apart_none, apart-between}
@@ -30,17 +29,17 @@ module _ (l : List Instruction) where
   pub sentence-none : (first end : ℕ) → end ≤ first → [] ≡ sentence_at nothing_known no_why (apart (slice first end l))
   sentence-none first end out = rw (apart_none l first end out)
 
-  module _ (first last end : ℕ) (below : first < end) (last-is : last + 1 ≡ end) (fits : end ≤ length l) {jump : Jump}
+  module _ (first last end : ℕ) (below : first < end) (last-is : last + 1 ≡ end) (fits : end ≤ length l) {jump : Option Mnemonic}
       (jump-is : (d : Instruction) → jump ≡ jump_of (get_or l last d)) where
     some : Instruction
     some = one l last (omega (arith, last-is, fits))
 
     -- the last one is no branch
-    pub sentence-other : jump ≡ Nothing → [] ≡ sentence_at nothing_known no_why (apart (slice first end l))
+    pub sentence-other : jump ≡ None → [] ≡ sentence_at nothing_known no_why (apart (slice first end l))
     sentence-other is = rw (apart-between l first last end some below last-is fits, ← jump-is some, is)
 
     -- it is one
-    pub sentence-branch : {m : Mnemonic} {t : Setters} {telling : Telling} {said : List ℕ} → jump ≡ Conditional m → Traced l first last t
+    pub sentence-branch : {m : Mnemonic} {t : Setters} {telling : Option Telling} {said : List ℕ} → jump ≡ Some m → Traced l first last t
         → telling ≡ telling_of (stepped_all nothing_known (slice first last l)) m
         → ((d : Instruction) → said ≡ telling_text telling (carry_at l first t d) (result_at l first t d))
         → said ≡ sentence_at nothing_known no_why (apart (slice first end l))

@@ -9,8 +9,7 @@ use lib.ListN.{length, get_or}
 use lib.Seq.{slice}
 use Rattle.isa.specs.declared.Instruction.{Instruction}
 use Rattle.isa.specs.Modelled.{modelled, undeclared}
-use Rattle.alu.specs.declared.Flag.{Flag}
-use Rattle.alu.specs.declared.Flag.TheVariants as flag
+use Rattle.std.specs.Prelude.{Option, Some, None}
 use Rattle.alu.specs.declared.Flags.{Flags}
 use Rattle.alu.specs.Flags as flags
 use Rattle.machine.specs.declared.State.{State}
@@ -49,11 +48,11 @@ by_way sets own before = own
 by_way turns own before = before ++ turned
 by_way keeps own before = before
 
-turned-told : (f : Flag) (a b : List ℕ) → flag_told f a ≡ flag_told f b → flag_told (flags.opposite f) (a ++ turned) ≡ flag_told (flags.opposite f) (b ++ turned)
-turned-told (flag.Known p) a b h = let same : a ≡ b = cc in rw same
-turned-told flag.Unknown a b h = refl
+turned-told : (f : Option Bool) (a b : List ℕ) → flag_told f a ≡ flag_told f b → flag_told (flags.opposite f) (a ++ turned) ≡ flag_told (flags.opposite f) (b ++ turned)
+turned-told (Some p) a b h = let same : a ≡ b = cc in rw same
+turned-told None a b h = refl
 
-told : {way : Way} {own : List ℕ} {lacks : Bool} {f g : Flag} {old new : List ℕ} (before : List ℕ) → Change way own lacks f old g new → lacks ≡ false
+told : {way : Way} {own : List ℕ} {lacks : Bool} {f g : Option Bool} {old new : List ℕ} (before : List ℕ) → Change way own lacks f old g new → lacks ≡ false
     → flag_told f old ≡ flag_told f before → flag_told g new ≡ flag_told g (by_way way own before)
 told before becomes-unknown sound h = refl
 told before (set some) sound h = refl

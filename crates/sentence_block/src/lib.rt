@@ -20,9 +20,8 @@ use isa::Mnemonic;
 use machine::State;
 use phrase::Cause;
 use sentence::{Setters, Telling};
-use sentence_text::{Fit, Said};
+use sentence_text::{Said, TooShort};
 use sheet::code::Code;
-use verdict_block::Jump;
 
 // The causes of the flags' values after the instructions of an accepted sheet from number `first` up to `end`, where nothing is known at their start.
 fn setters_in(code: &Code, first: usize, end: usize) -> Setters
@@ -34,11 +33,9 @@ fn setters_in(code: &Code, first: usize, end: usize) -> Setters
         carry: first,
         turns: 0,
     };
-    let mut i = first;
-    while i < end {
+    for i in first..end {
         let it = code.nth_instruction(i);
         setters = sentence::setters_after(setters, i, it);
-        i += 1;
     }
     setters
 }
@@ -48,27 +45,24 @@ fn cause_at(code: &Code, first: usize, number: usize, carry: bool) -> Cause
     requires { number < length code.now.places.now }
     ensures { (d : Instruction) → cause_text result ≡ own_at (sheet_at code.now.bytes.now).instructions.list first carry number d }
 {
-    let start = State::unknown();
-    let mut registers = start.registers;
-    let known = start.flags;
-    let flags = verdict_block::step_over(code, first, number, &mut registers, known);
+    let mut state = State::unknown();
+    verdict_block::step_over(code, first, number, &mut state);
     let it = code.nth_instruction(number);
-    let mnemonic = it.mnemonic;
-    let operand = it.first;
-    let second = it.second;
-    sentence::cause_of(&registers, mnemonic, operand, second, carry)
+    sentence::cause_of(&state, it.mnemonic, it.first, it.second, carry)
 }
 
 // What the causes say that tell of a branch.
-fn said_by(code: &Code, first: usize, setters: Setters, telling: Telling) -> Said
+fn said_by(code: &Code, first: usize, setters: Setters, telling: Option<Telling>) -> Said
     requires { (setters.result < length code.now.places.now) × (setters.carry < length code.now.places.now) }
     ensures result_value { (d : Instruction) → said_text result ≡ telling_text telling (carry_at (sheet_at code.now.bytes.now).instructions.list first setters d) (result_at (sheet_at code.now.bytes.now).instructions.list first setters d) }
     ensures result_bound { turns_of result ≤ setters.turns }
 {
+    let Some(telling) = telling else {
+        return Said::Nothing;
+    };
     let carry = setters.carry;
     let result = setters.result;
     match telling {
-        Telling::Nothing => Said::Nothing,
         Telling::Carry => Said::One(cause_at(code, first, carry, true), setters.turns),
         Telling::Result => Said::One(cause_at(code, first, result, false), 0),
         Telling::Both => Said::Joined(
@@ -76,20 +70,18 @@ fn said_by(code: &Code, first: usize, setters: Setters, telling: Telling) -> Sai
             setters.turns,
             cause_at(code, first, result, false),
         ),
-        Telling::Value(register, value) => Said::One(phrase::value_of(register, value), 0),
+        Telling::Value(register, value) => Said::One(Cause::Value(register, value), 0),
     }
 }
 
 // What tells of the branch of that mnemonic, which stands at number `end`.
-fn telling_at(code: &Code, first: usize, end: usize, mnemonic: Mnemonic) -> Telling
+fn telling_at(code: &Code, first: usize, end: usize, mnemonic: Mnemonic) -> Option<Telling>
     requires { end ≤ length code.now.places.now }
     ensures { result ≡ telling_of (stepped_all nothing_known (slice first end (sheet_at code.now.bytes.now).instructions.list)) mnemonic }
 {
-    let start = State::unknown();
-    let mut registers = start.registers;
-    let known = start.flags;
-    let flags = verdict_block::step_over(code, first, end, &mut registers, known);
-    sentence::jump_telling(&registers, flags, mnemonic)
+    let mut state = State::unknown();
+    verdict_block::step_over(code, first, end, &mut state);
+    sentence::jump_telling(&state, mnemonic)
 }
 
 // The sentence at the end of the instructions of an accepted sheet from number `first` up to `end`.
@@ -102,20 +94,19 @@ fn said_in(code: &Code, first: usize, end: usize) -> Said
         return Said::Nothing;
     }
     let last = end - 1;
-    let jump = verdict_block::jump_at(code, last);
-    match jump {
-        Jump::Conditional(mnemonic) => said_by(
+    match verdict_block::jump_at(code, last) {
+        Some(mnemonic) => said_by(
             code,
             first,
             setters_in(code, first, last),
             telling_at(code, first, last, mnemonic),
         ),
-        Jump::Nothing => Said::Nothing,
+        None => Said::Nothing,
     }
 }
 
 // Writes the sentence of the block of that number, of an accepted sheet with its index, to the start of a text that can hold it.
-pub fn sentence_on(code: &Code, number: u64, text: &mut [u8]) -> Fit
+pub fn sentence_on(code: &Code, number: u64, text: &mut [u8]) -> Result<usize, TooShort>
     requires { number < code.now.sheet.blocks.count }
     ensures { Fits result (sentence_on code.now.bytes.now number) text.old text.new }
 {

@@ -22,11 +22,11 @@ pub said_by-requires : goal.said_by-requires
 said_by-requires c =
     (omega (arith, c.if-end-first, c.requires.0, c.setters_in.ensures.result), omega (arith, c.if-end-first, c.requires.0, c.setters_in.ensures.carry))
 
-pub returns-in-Conditional : goal.returns-in-Conditional
-returns-in-Conditional c =
-    record { result_value = sentence-branch _ c.args.first (c.args.end - 1) c.args.end (omega (arith, c.if-end-first)) (omega (arith, c.if-end-first)) (inside c.args.code.now c.requires.0) c.jump_at-jump.ensures c.in-Conditional.is c.setters_in.ensures c.telling_at.ensures c.said_by.ensures.result_value; result_bound = omega (arith, c.said_by.ensures.result_bound, c.setters_in.ensures.turns, c.if-end-first, c.requires.1) }
+pub returns-in-Some : goal.returns-in-Some
+returns-in-Some c =
+    record { result_value = sentence-branch _ c.args.first (c.args.end - 1) c.args.end (omega (arith, c.if-end-first)) (omega (arith, c.if-end-first)) (inside c.args.code.now c.requires.0) c.jump_at.ensures c.in-Some.is c.setters_in.ensures c.telling_at.ensures c.said_by.ensures.result_value; result_bound = omega (arith, c.said_by.ensures.result_bound, c.setters_in.ensures.turns, c.if-end-first, c.requires.1) }
 
-pub returns-in-Nothing : goal.returns-in-Nothing
+pub returns-in-None : goal.returns-in-None
 unfolding said_text
-returns-in-Nothing c =
-    record { result_value = sentence-other _ c.args.first (c.args.end - 1) c.args.end (omega (arith, c.if-end-first)) (omega (arith, c.if-end-first)) (inside c.args.code.now c.requires.0) c.jump_at-jump.ensures c.in-Nothing.is; result_bound = omega arith }
+returns-in-None c =
+    record { result_value = sentence-other _ c.args.first (c.args.end - 1) c.args.end (omega (arith, c.if-end-first)) (omega (arith, c.if-end-first)) (inside c.args.code.now c.requires.0) c.jump_at.ensures c.in-None.is; result_bound = omega arith }

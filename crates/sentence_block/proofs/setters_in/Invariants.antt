@@ -1,10 +1,6 @@
-use Prim.Native.Nat.{◌-◌, ◌≤◌}
 use Rattle.sheet.specs.Sheet.{sheet_at}
 use Rattle.sentence_block.specs.Promises.{Traced}
 use Rattle.sentence_block.proofs.setters_in.Given as goal
 
 abbrev pub invariant-loop-i : goal.invariant-loop-i
-invariant-loop-i l = Traced (sheet_at l.code.bytes.now).instructions.list l.first l.i l.setters × (l.first ≤ l.i) × (l.i ≤ l.end)
-
-abbrev pub decreases-loop-i : goal.decreases-loop-i
-decreases-loop-i l = l.end - l.i
+invariant-loop-i l = Traced (sheet_at l.code.bytes.now).instructions.list l.first l.i l.setters
