@@ -12,12 +12,10 @@ use lib.ListN.{length, get_or, length-map}
 use lib.Seq.{slice}
 use borrow.Author.Tests.{lt-ltb, le-ltb}
 use Rattle.isa.specs.declared.Instruction.{Instruction}
-use Rattle.search.specs.declared.Found.{Found}
-use Rattle.search.specs.declared.Found.TheVariants.{At, Nothing}
-use Rattle.search.specs.Ascending.{later, place_of}
+use Rattle.search.specs.Ascending.{place_of}
 use Rattle.search.proofs.Laws.{place_found}
-use Rattle.std.specs.Prelude.{Ok}
-use Rattle.sheet_field.specs.Field.{Place, WentOn, little, field_at}
+use Rattle.std.specs.Prelude.{Option, Some, None, option_map, Ok}
+use Rattle.sheet_field.specs.Field.{Place, WentOn, little}
 use Rattle.sheet_field.proofs.Fields.{field-at, field-whole}
 use Rattle.sheet_field.proofs.Counted.{back}
 use Rattle.sheet_node.proofs.Nodes.{addresses-keep}
@@ -33,14 +31,14 @@ use Rattle.verdict_sheet.specs.Sites.{branch_at, unless_later, last_branch, bloc
 use Rattle.verdict_sheet.specs.Kept.{if_branch, branch_ending, SiteIs}
 
 -- the mark at an index that was found
-marked : List Bool → Found → Bool
-marked branches (At k) = get_or branches k false
-marked branches Nothing = false
+marked : List Bool → Option ℕ → Bool
+marked branches (Some k) = get_or branches k false
+marked branches None = false
 
-marked-later : (b : Bool) (branches : List Bool) (p : Found) → marked (b ∷ branches) (later p) ≡ marked branches p
+marked-later : (b : Bool) (branches : List Bool) (p : Option ℕ) → marked (b ∷ branches) (option_map suc p) ≡ marked branches p
 unfolding marked
-marked-later b branches (At k) = refl
-marked-later b branches Nothing = refl
+marked-later b branches (Some k) = refl
+marked-later b branches None = refl
 
 branch-marked : (code : List Instruction) (a : ℕ) → branch_at code a ≡ marked (branches_of code) (place_of (addresses_of code) a)
 unfolding branch_at marked branches_of addresses_of place_of
@@ -49,7 +47,7 @@ branch-marked (i ∷ code) a = go (eqb i.address a) (branch-marked code a)
   where
     go : (t : Bool) → branch_at code a ≡ marked (branches_of code) (place_of (addresses_of code) a)
         → cond t i.branch (branch_at code a)
-        ≡ marked (i.branch ∷ branches_of code) (cond t (At 0) (later (place_of (addresses_of code) a)))
+        ≡ marked (i.branch ∷ branches_of code) (cond t (Some 0) (option_map suc (place_of (addresses_of code) a)))
     go true rest = refl
     go false rest = rest ∙ sym (marked-later i.branch (branches_of code) (place_of (addresses_of code) a))
 
@@ -68,32 +66,32 @@ pub addresses-length : (code : List Instruction) → length (addresses_of code) 
 unfolding addresses_of
 addresses-length code = rw length-map
 
-module _ (code : List Instruction) (l : List ℕ) (a : ℕ) (jump : Found) (before : SiteIs code jump (last_branch code l)) where
-  by_place : (p : Found) → p ≡ place_of (addresses_of code) a → SiteIs code (if_branch code p jump) (last_branch code (l ++ (a ∷ [])))
+module _ (code : List Instruction) (l : List ℕ) (a : ℕ) (jump : Option ℕ) (before : SiteIs code jump (last_branch code l)) where
+  by_place : (p : Option ℕ) → p ≡ place_of (addresses_of code) a → SiteIs code (if_branch code p jump) (last_branch code (l ++ (a ∷ [])))
   unfolding marked
-  by_place Nothing is = rw (last_more code l a, branch-marked code a, ← is) before
-  by_place (At k) is = rw (last_more code l a, branch-marked code a, ← is) (go (get_or (branches_of code) k false))
+  by_place None is = rw (last_more code l a, branch-marked code a, ← is) before
+  by_place (Some k) is = rw (last_more code l a, branch-marked code a, ← is) (go (get_or (branches_of code) k false))
     where
       there : (k < length (addresses_of code)) × (get_or (addresses_of code) k 0 ≡ a)
       there = place_found (addresses_of code) a is refl
 
-      go : (t : Bool) → SiteIs code (cond t (At k) jump) (cond t (some a) (last_branch code l))
+      go : (t : Bool) → SiteIs code (cond t (Some k) jump) (cond t (some a) (last_branch code l))
       go true = (omega (arith, addresses-length code, there.0), ap some (sym there.1))
       go false = before
 
   -- one address more
-  pub jump-more : {r : Found} → r ≡ if_branch code (place_of (addresses_of code) a) jump → SiteIs code r (last_branch code (l ++ (a ∷ [])))
+  pub jump-more : {r : Option ℕ} → r ≡ if_branch code (place_of (addresses_of code) a) jump → SiteIs code r (last_branch code (l ++ (a ∷ [])))
   jump-more is = rw is (by_place (place_of (addresses_of code) a) refl)
 
 -- the cases of looking an address up
-module _ (addresses : List ℕ) (code : List Instruction) (address : ℕ) (otherwise : Found) {p : Found} (p-is : p ≡ place_of addresses address) where
-  pub branch-here : {k : ℕ} → p ≡ At k → get_or (branches_of code) k false ≡ true → At k ≡ if_branch code (place_of addresses address) otherwise
+module _ (addresses : List ℕ) (code : List Instruction) (address : ℕ) (otherwise : Option ℕ) {p : Option ℕ} (p-is : p ≡ place_of addresses address) where
+  pub branch-here : {k : ℕ} → p ≡ Some k → get_or (branches_of code) k false ≡ true → Some k ≡ if_branch code (place_of addresses address) otherwise
   branch-here at mark = rw (← p-is, at, mark)
 
-  pub other-here : {k : ℕ} → p ≡ At k → get_or (branches_of code) k false ≡ false → otherwise ≡ if_branch code (place_of addresses address) otherwise
+  pub other-here : {k : ℕ} → p ≡ Some k → get_or (branches_of code) k false ≡ false → otherwise ≡ if_branch code (place_of addresses address) otherwise
   other-here at mark = rw (← p-is, at, mark)
 
-  pub nothing-here : p ≡ Nothing → otherwise ≡ if_branch code (place_of addresses address) otherwise
+  pub nothing-here : p ≡ None → otherwise ≡ if_branch code (place_of addresses address) otherwise
   nothing-here nowhere = rw (← p-is, nowhere)
 
 -- the loop over a node's addresses, which were read whole
@@ -119,11 +117,11 @@ module _ (s : List ℕ) (sites n : ℕ) (on : WentOn (addresses_from s (Ok sites
       let from : f.from ≡ sites + 8 * i = cc (f.there, before) in
       omega (arith, f.inside, from)
 
-  pub jump-none : (code : List Instruction) → SiteIs code Nothing (last_branch code (addresses_from s (Ok sites) 0).list)
+  pub jump-none : (code : List Instruction) → SiteIs code None (last_branch code (addresses_from s (Ok sites) 0).list)
   unfolding addresses_from last_branch
   jump-none code = refl
 
-  pub jump-again : (i : ℕ) → i < n → (code : List Instruction) {addresses : List ℕ} {address : ℕ} (jump : Found) {r : Found} → addresses ≡ addresses_of code
+  pub jump-again : (i : ℕ) → i < n → (code : List Instruction) {addresses : List ℕ} {address : ℕ} (jump : Option ℕ) {r : Option ℕ} → addresses ≡ addresses_of code
       → SiteIs code jump (last_branch code (addresses_from s (Ok sites) i).list)
       → address ≡ little s (sites + 8 * i) 8 → r ≡ if_branch code (place_of addresses address) jump
       → SiteIs code r (last_branch code (addresses_from s (Ok sites) (i + 1)).list)
@@ -140,7 +138,7 @@ unfolding node_at
 addresses-last s p sites-are n-is on = rw (sites-are, n-is) on
 
 -- a node's jump, from its addresses
-pub jump-of : (s : List ℕ) (node : NodeReading) (code : List Instruction) (jump : Found) {sites : Place} {n : ℕ} → sites ≡ node.sites → n ≡ node.addresses
+pub jump-of : (s : List ℕ) (node : NodeReading) (code : List Instruction) (jump : Option ℕ) {sites : Place} {n : ℕ} → sites ≡ node.sites → n ≡ node.addresses
     → SiteIs code jump (last_branch code (addresses_from s sites n).list) → SiteIs code jump (last_branch code (node_of s node).addresses)
 unfolding node_of
 jump-of s node code jump sites-are n-is is = rw (← sites-are, ← n-is) is
@@ -165,7 +163,7 @@ module _ (s : List ℕ) (number first end : ℕ) (code_is : code_of s number ≡
         rw (code_is, apart-between l first last end d below last-is fits, mark, map_at (λ (i : Instruction). i.address) l last d 0 there)
 
     branch-last : get_or (branches_of (sheet_at s).instructions.list) last false ≡ true
-        → SiteIs (sheet_at s).instructions.list (At last) (block_site s number)
+        → SiteIs (sheet_at s).instructions.list (Some last) (block_site s number)
     branch-last is = (there, by_last true is)
 
     other_last : get_or (branches_of (sheet_at s).instructions.list) last false ≡ false → block_site s number ≡ none
@@ -174,7 +172,7 @@ module _ (s : List ℕ) (number first end : ℕ) (code_is : code_of s number ≡
   -- the branch that ends its range
   module _ (fits : end ≤ length (sheet_at s).instructions.list) where
     at-end : first < end → (b : Bool) → get_or (branches_of (sheet_at s).instructions.list) (end - 1) false ≡ b
-        → SiteIs (sheet_at s).instructions.list (cond b (At (end - 1)) Nothing) (block_site s number)
+        → SiteIs (sheet_at s).instructions.list (cond b (Some (end - 1)) None) (block_site s number)
     at-end below true is = branch-last (end - 1) below (omega arith) fits is
     at-end below false is = other_last (end - 1) below (omega arith) fits is
 
@@ -185,7 +183,7 @@ module _ (s : List ℕ) (number first end : ℕ) (code_is : code_of s number ≡
     ending-site : SiteIs (sheet_at s).instructions.list (branch_ending (sheet_at s).instructions.list first end) (block_site s number)
     ending-site = by_order (dec_lt first end)
 
-pub block-site : (s : List ℕ) (number : ℕ) (range : Range) → RangeOf s number range → {r : Found}
+pub block-site : (s : List ℕ) (number : ℕ) (range : Range) → RangeOf s number range → {r : Option ℕ}
     → r ≡ branch_ending (sheet_at s).instructions.list range.first range.end
     → SiteIs (sheet_at s).instructions.list r (block_site s number)
 block-site s number range of r-is = rw r-is (ending-site s number range.first range.end of.code of.within)

@@ -3,7 +3,7 @@ use Prim.Native.Nat.{ℕ, zero, suc, ◌<◌}
 use mathlib.Core.Path.{◌≡◌, refl, sym, ap₂, ◌∙◌}
 use mathlib.Core.List.{List, [], ◌∷◌, ◌++◌, append-nil}
 use mathlib.Core.Bool.{Bool, true, false, cond}
-use mathlib.Core.Option.{Option}
+use mathlib.Core.Option.{Option as Site}
 use native.Mathlib.Omega.{arith}
 use lib.Dec.{eqb}
 use lib.ListN.{length, get_or, set, length-map}
@@ -12,8 +12,7 @@ use borrow.Author.Tests.{eq-eqb, ne_eqb}
 use Rattle.isa.specs.declared.Instruction.{Instruction}
 use Rattle.verdict.specs.declared.Verdict.{Verdict}
 use Rattle.verdict.specs.declared.Verdict.TheVariants.{Always, Never, Undecided, NoBranch}
-use Rattle.search.specs.declared.Found.{Found}
-use Rattle.search.specs.declared.Found.TheVariants.{At, Nothing}
+use Rattle.std.specs.Prelude.{Option, Some, None}
 use Rattle.search.specs.Ascending.{Ascending}
 use Rattle.search.proofs.Laws.{ascending-below, ascending-rest}
 use Rattle.sheet.specs.Index.{addresses_of}
@@ -94,27 +93,27 @@ slots_length code said = rw length-map
 
 -- a record's verdict is kept at its branch, if it has one
 module _ (code : List Instruction) (up : Ascending (addresses_of code)) (v : Verdict) (said : List Said) where
-  pub keep-saying : (at : Found) (site : Option ℕ) {slots after : List ℕ} → SiteIs code at site → after ≡ kept_at slots at v → slots ≡ slots_of code said
+  pub keep-saying : (at : Option ℕ) (site : Site ℕ) {slots after : List ℕ} → SiteIs code at site → after ≡ kept_at slots at v → slots ≡ slots_of code said
       → after ≡ slots_of code (said ++ saying site v)
-  keep-saying (At k) site there after_is is = rw (there.1, after_is, is) (slots-more said v code up k there.0)
-  keep-saying Nothing site there after_is is = rw (there, after_is, is, append-nil)
+  keep-saying (Some k) site there after_is is = rw (there.1, after_is, is) (slots-more said v code up k there.0)
+  keep-saying None site there after_is is = rw (there, after_is, is, append-nil)
 
-pub has-slot : (code : List Instruction) (at : Found) (site : Option ℕ) (slots : List ℕ) → SiteIs code at site → length slots ≡ length code → HasSlot slots at
-has-slot code (At k) site slots there long = rw long there.0
-has-slot code Nothing site slots there long = tt
+pub has-slot : (code : List Instruction) (at : Option ℕ) (site : Site ℕ) (slots : List ℕ) → SiteIs code at site → length slots ≡ length code → HasSlot slots at
+has-slot code (Some k) site slots there long = rw long there.0
+has-slot code None site slots there long = tt
 
-pub slot-there : (code : List Instruction) (site : Option ℕ) (at : Found) {k : ℕ} → SiteIs code at site → at ≡ At k → k < length code
-slot-there code site at {k} there is = let found : SiteIs code (At k) site = rw is at there in found.0
+pub slot-there : (code : List Instruction) (site : Site ℕ) (at : Option ℕ) {k : ℕ} → SiteIs code at site → at ≡ Some k → k < length code
+slot-there code site at {k} there is = let found : SiteIs code (Some k) site = rw is at there in found.0
 
 -- a block's verdict, where it has a branch and where it has none
-module _ (code : List Instruction) {addresses : List ℕ} (up : Ascending addresses) (are : addresses ≡ addresses_of code) (said : List Said) (site : Option ℕ) (w : Verdict)
-    (at : Found) {slots after : List ℕ} (there : SiteIs code at site) (is : slots ≡ slots_of code said) where
-  pub block-kept : {k : ℕ} {v : Verdict} → at ≡ At k → v ≡ w → after ≡ kept slots k v → after ≡ slots_of code (said ++ saying site w)
+module _ (code : List Instruction) {addresses : List ℕ} (up : Ascending addresses) (are : addresses ≡ addresses_of code) (said : List Said) (site : Site ℕ) (w : Verdict)
+    (at : Option ℕ) {slots after : List ℕ} (there : SiteIs code at site) (is : slots ≡ slots_of code said) where
+  pub block-kept : {k : ℕ} {v : Verdict} → at ≡ Some k → v ≡ w → after ≡ kept slots k v → after ≡ slots_of code (said ++ saying site w)
   block-kept {k} at-is v-is after_is =
-      keep-saying code (rw (← are) up) w said (At k) site (rw at-is at there) (rw (← v-is) after_is) is
+      keep-saying code (rw (← are) up) w said (Some k) site (rw at-is at there) (rw (← v-is) after_is) is
 
-  pub block-silent : at ≡ Nothing → after ≡ slots → after ≡ slots_of code (said ++ saying site w)
-  block-silent at-is after_is = keep-saying code (rw (← are) up) w said Nothing site (rw at-is at there) after_is is
+  pub block-silent : at ≡ None → after ≡ slots → after ≡ slots_of code (said ++ saying site w)
+  block-silent at-is after_is = keep-saying code (rw (← are) up) w said None site (rw at-is at there) after_is is
 
 -- where a verdict is kept already, keeping another changes nothing
 pub kept-already : (slots : List ℕ) (number : ℕ) (v : Verdict) → (get_or slots number 0 ≡ 0 → ⊥) → slots ≡ kept slots number v

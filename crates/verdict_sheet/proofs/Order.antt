@@ -5,7 +5,7 @@ use mathlib.Core.List.{List, [], ◌++◌}
 use native.Mathlib.Omega.{arith}
 use native.Mathlib.Numerals.{add-one}
 use lib.ListN.{length, get_or}
-use Rattle.std.specs.Prelude.{Result, Ok, Err}
+use Rattle.std.specs.Prelude.{Option, Result, Ok, Err}
 use Rattle.refusal.specs.declared.Refusal.{Refusal}
 use Rattle.search.specs.Ascending.{Ascending}
 use Rattle.sheet.specs.Index.{addresses_of}
@@ -16,7 +16,6 @@ use Rattle.sheet.proofs.ByNumber.{addresses-rise, nth-node-read, nth-node-is}
 use Rattle.isa.specs.declared.Instruction.{Instruction}
 use Rattle.verdict.specs.declared.Verdict.{Verdict}
 use Rattle.verdict.specs.Numbers.{Answer}
-use Rattle.search.specs.declared.Found.{Found}
 use Rattle.sheet_node.specs.Node.{NodeReading, node_at, node_of, addresses_from}
 use Rattle.sheet.specs.Sheet.{sheet_at, reading_of, no_node, node_numbered, node_place}
 use Rattle.verdict_block.specs.Verdict.{verdict_on}
@@ -64,7 +63,7 @@ module _ (s : List ℕ) (sheet : Sheet) (read : reading_of s ≡ Ok sheet) (numb
 -- the answer for one node
 module _ (s : List ℕ) (rises : Ascending (addresses_of (sheet_at s).instructions.list)) (node : NodeReading) (place : ℕ) {given : Answer}
     (given_is : given ≡ node_verdict (node_of s node) place) (said : List Said) where
-  pub node_through : (at : Found) {v : Verdict} {slots after : List ℕ}
+  pub node_through : (at : Option ℕ) {v : Verdict} {slots after : List ℕ}
       → SiteIs (sheet_at s).instructions.list at (last_branch (sheet_at s).instructions.list (node_of s node).addresses)
       → given ≡ Ok v → after ≡ kept_at slots at v → slots ≡ slots_of (sheet_at s).instructions.list said
       → Reached (sheet_at s).instructions.list (Ok tt) after
@@ -128,7 +127,7 @@ module _ (s : List ℕ) (blocks : ℕ) where
 -- one node more of an accepted sheet, by what is given for it
 module _ (c : Code) (number : ℕ) {nodes : List ℕ} (places : nodes ≡ (sheet_at c.bytes.now).nodes.places) (there : number < length nodes) (blocks : ℕ) (slots : List ℕ)
     (before : Reached (sheet_at c.bytes.now).instructions.list (Ok tt) slots (judged_up_to c.bytes.now blocks number)) where
-  pub node-kept : (j : JudgedNode) → JudgedIs (Ok j) c.bytes.now (node_at c.bytes.now (Ok (get_or nodes number 0))) (get_or nodes number 0) → (jump : Found) {after : List ℕ}
+  pub node-kept : (j : JudgedNode) → JudgedIs (Ok j) c.bytes.now (node_at c.bytes.now (Ok (get_or nodes number 0))) (get_or nodes number 0) → (jump : Option ℕ) {after : List ℕ}
       → SiteIs (sheet_at c.bytes.now).instructions.list jump (last_branch (sheet_at c.bytes.now).instructions.list (addresses_from c.bytes.now (Ok j.sites) j.addresses).list)
       → after ≡ kept_at slots jump j.verdict → Reached (sheet_at c.bytes.now).instructions.list (Ok tt) after (judged_up_to c.bytes.now blocks (number + 1))
   node-kept j is jump {after} site after_is =

@@ -2,7 +2,7 @@
 // and in the slot of each branch the first decided verdict is kept. A node that is refused ends it.
 #![tactic(auto)]
 
-ghost use Rattle.std.specs.Prelude.{◌≡◌, List, [], ◌++◌,  ◌≤◌, ◌<◌, length, Ok};
+ghost use Rattle.std.specs.Prelude.{◌≡◌, List, [], ◌++◌, ◌≤◌, ◌<◌, length, Ok};
 ghost use Rattle.std.proofs.Math.Seq.{slice};
 ghost use Rattle.machine.specs.Registers.{nothing_known};
 ghost use Rattle.search.specs.Ascending.{place_of};
@@ -16,38 +16,26 @@ ghost use Rattle.verdict_sheet.specs.Said.{Said, saying, blocks_say, judged_up_t
 ghost use Rattle.verdict_sheet.specs.Kept.{if_branch, branch_ending, SiteIs, kept_at, HasSlot, slots_of, Reached};
 
 use refusal::Refusal;
-use search::Found;
 use sheet::code::Code;
 use verdict::Verdict;
 use verdict_block::Range;
 
 // The number of the conditional branch at an address, or else another.
-fn branch_or(
-    code: &Code,
-    address: u64,
-    otherwise: Found,
-) -> Found
+fn branch_or(code: &Code, address: u64, otherwise: Option<usize>) -> Option<usize>
     ensures { result ≡ if_branch (sheet_at code.now.bytes.now).instructions.list (place_of code.now.addresses.now address) otherwise }
 {
-    let found = search::find(code.addresses, address);
-    match found {
-        Found::At(k) => {
-            if code.is_branch(k) {
-                found
-            } else {
-                otherwise
-            }
-        }
-        Found::Nothing => otherwise,
+    match search::find(code.addresses, address) {
+        Some(k) if code.is_branch(k) => Some(k),
+        _ => otherwise,
     }
 }
 
 // The number of a node's jump, from its n addresses, which were read whole from an offset on.
-fn node_jump(code: &Code, sites: usize, n: u64) -> Found
+fn node_jump(code: &Code, sites: usize, n: u64) -> Option<usize>
     requires { WentOn (addresses_from code.now.bytes.now (Ok sites) n).next }
     ensures { SiteIs (sheet_at code.now.bytes.now).instructions.list result (last_branch (sheet_at code.now.bytes.now).instructions.list (addresses_from code.now.bytes.now (Ok sites) n).list) }
 {
-    let mut jump = Found::Nothing;
+    let mut jump = None;
     for i in 0..n {
         let address = sheet_field::number::<8>(code.bytes, sites + 8 * i as usize);
         jump = branch_or(code, address, jump);
@@ -56,29 +44,24 @@ fn node_jump(code: &Code, sites: usize, n: u64) -> Found
 }
 
 // The number of the conditional branch that ends a range of instructions.
-fn last_branch(code: &Code, range: Range) -> Found
+fn last_branch(code: &Code, range: Range) -> Option<usize>
     requires { range.end ≤ length code.now.places.now }
     ensures { result ≡ branch_ending (sheet_at code.now.bytes.now).instructions.list range.first range.end }
 {
-    let end = range.end;
-    if end <= range.first {
-        return Found::Nothing;
+    if range.end <= range.first {
+        return None;
     }
-    let last = end - 1;
-    if code.is_branch(last) {
-        return Found::At(last);
-    }
-    Found::Nothing
+    let last = range.end - 1;
+    code.is_branch(last).then_some(last)
 }
 
 // Keeps a verdict in the slot of that number, if there is one.
-fn keep_at(slots: &mut [u8], at: Found, v: Verdict)
+fn keep_at(slots: &mut [u8], at: Option<usize>, v: Verdict)
     requires { HasSlot slots.old at }
     ensures { slots.new ≡ kept_at slots.old at v }
 {
-    match at {
-        Found::At(k) => verdict_lines::keep(slots, k, v),
-        Found::Nothing => {}
+    if let Some(k) = at {
+        verdict_lines::keep(slots, k, v);
     }
 }
 
@@ -94,21 +77,14 @@ fn keep_end(code: &Code, range: Range, slots: &mut [u8], number: usize)
 }
 
 // The block of that number, where it has a branch; and where its instructions end, a guess where the next block's start.
-fn judge_block(
-    code: &Code,
-    number: u64,
-    guess: usize,
-    slots: &mut [u8],
-) -> usize
+fn judge_block(code: &Code, number: u64, guess: usize, slots: &mut [u8]) -> usize
     requires number_lt_count { number < code.now.sheet.blocks.count }
     requires slots_len { length slots.old ≡ length code.now.addresses.now }
     ensures { (said : List Said) → slots.old ≡ slots_of (sheet_at code.now.bytes.now).instructions.list said → slots.new ≡ slots_of (sheet_at code.now.bytes.now).instructions.list (said ++ saying (block_site code.now.bytes.now number) (verdict_on code.now.bytes.now number)) }
 {
     let range = verdict_block::range_of(code, number, guess);
-    let at = last_branch(code, range);
-    match at {
-        Found::At(k) => keep_end(code, range, slots, k),
-        Found::Nothing => {}
+    if let Some(k) = last_branch(code, range) {
+        keep_end(code, range, slots, k);
     }
     range.end
 }
@@ -118,7 +94,7 @@ fn judge_blocks(code: &Code, slots: &mut [u8])
     requires { slots.old ≡ slots_of (sheet_at code.now.bytes.now).instructions.list [] }
     ensures { slots.new ≡ slots_of (sheet_at code.now.bytes.now).instructions.list (blocks_say code.now.bytes.now code.now.sheet.blocks.count) }
 {
-    let mut guess: usize = 0;
+    let mut guess = 0;
     for i in 0..code.sheet.blocks.count {
         guess = judge_block(code, i, guess, slots);
     }
@@ -130,8 +106,8 @@ fn judge_nodes(code: &Code, nodes: &[u64], slots: &mut [u8]) -> Result<(), Refus
     requires slots_value { slots.old ≡ slots_of (sheet_at code.now.bytes.now).instructions.list (blocks_say code.now.bytes.now code.now.sheet.blocks.count) }
     ensures { Reached (sheet_at code.now.bytes.now).instructions.list result slots.new (judged_up_to code.now.bytes.now code.now.sheet.blocks.count code.now.sheet.nodes.count) }
 {
-    for i in 0..nodes.len() {
-        let judged = verdict_node::verdict_at(code.bytes, nodes[i] as usize)?;
+    for node in nodes {
+        let judged = verdict_node::verdict_at(code.bytes, *node as usize)?;
         let jump = node_jump(code, judged.sites, judged.addresses);
         keep_at(slots, jump, judged.verdict);
     }

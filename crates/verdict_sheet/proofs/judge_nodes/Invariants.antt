@@ -7,8 +7,8 @@ use mathlib.Core.Path.{◌≡◌}
 use Prim.Native.Nat.{ℕ}
 use Rattle.verdict_sheet.proofs.judge_nodes.Given as goal
 
-abbrev pub invariant-loop-i : goal.invariant-loop-i
-invariant-loop-i l = let s = l.code.bytes.now in
+abbrev pub invariant-loop-node : goal.invariant-loop-node
+invariant-loop-node l = let s = l.code.bytes.now in
     (length l.slots ≡ length l.initial.slots)
     × ((blocks : ℕ) → l.initial.slots ≡ slots_of (sheet_at s).instructions.list (blocks_say s blocks)
-    → Reached (sheet_at s).instructions.list (Ok tt) l.slots (judged_up_to s blocks l.i))
+    → Reached (sheet_at s).instructions.list (Ok tt) l.slots (judged_up_to s blocks l.node-index))

@@ -1,20 +1,22 @@
-use mathlib.Core.Path.{sym, ◌∙◌}
+use mathlib.Core.Path.{◌≡◌, refl, ap, ◌∙◌}
+use Rattle.std.specs.Bool.{then_some}
+use Rattle.std.proofs.Common.{Bool, true, false, cond, Some, None, ℕ, ◌-◌}
 use native.Mathlib.Omega.{arith}
 use borrow.Author.Tests.{lt-ltb, le-ltb}
 use Rattle.verdict_sheet.proofs.last_branch.Goals as goal
 
-pub returns-then-end-range : goal.returns-then-end-range
-returns-then-end-range c =
-    rw (le-ltb _ _ c.if-end-range.true)
+pub returns-then-range : goal.returns-then-range
+returns-then-range c =
+    rw (le-ltb _ _ c.if-range.true)
 
 pub is_branch-requires : goal.is_branch-requires
 is_branch-requires c =
-    omega (arith, c.requires, c.if-end-range.false)
+    omega (arith, c.requires, c.if-range.false)
 
-pub returns-then-is_branch : goal.returns-then-is_branch
-returns-then-is_branch c =
-    rw (lt-ltb _ _ c.if-end-range.false, sym c.is_branch.ensures ∙ c.if-is_branch.true)
+here : (b : Bool) (k : ℕ) → then_some b k ≡ cond b (Some k) None
+here true k = refl
+here false k = refl
 
 pub returns : goal.returns
 returns c =
-    rw (lt-ltb _ _ c.if-end-range.false, sym c.is_branch.ensures ∙ c.if-is_branch.false)
+    rw (lt-ltb _ _ c.if-range.false) (c.then_some.ensures ∙ here _ _ ∙ ap (λ (b : Bool). cond b (Some (c.args.range.end - 1)) None) c.is_branch.ensures)
