@@ -8,14 +8,13 @@ use mathlib.Core.Logic.{◌⊎◌, inl, inr, ⊎_elim}
 use native.Mathlib.Omega.{arith}
 use lib.Dec.{ltb}
 use borrow.Author.Tests.{ltb-true, ltb-false, lt-ltb}
+use Rattle.std.specs.Prelude.{Ok}
 use Rattle.laws.proofs.Booleans.{by_test}
 use Rattle.verdict.specs.declared.Verdict.{Verdict}
 use Rattle.verdict.specs.declared.Verdict.TheVariants.{Always, Never, Undecided, NoBranch}
-use Rattle.verdict.specs.declared.Answer.{Answer}
-use Rattle.verdict.specs.Numbers.{verdict_numbers, answer_numbers}
+use Rattle.verdict.specs.Numbers.{verdict_numbers, answer_numbers, Answer}
 use Rattle.verdict.specs.Numbers.Numbers.{decision}
 use Rattle.sheet.specs.declared.Sheet.{Sheet}
-use Rattle.sheet.specs.declared.Reading.TheVariants as reading
 use Rattle.sheet.specs.Sheet.{reading_of}
 use Rattle.verdict_block.specs.Verdict.{verdict_on}
 use Rattle.verdict_sheet.specs.Sites.{block_site, node_site}
@@ -34,7 +33,7 @@ site_of s (block number) = block_site s number
 site_of s (node number) = node_site s number
 
 -- the answers for records of an accepted sheet
-module _ (s : List ℕ) (sheet : Sheet) (read : reading_of s ≡ reading.Accepted sheet) where
+module _ (s : List ℕ) (sheet : Sheet) (read : reading_of s ≡ Ok sheet) where
   pub block-answer : (k : ℕ) → k < sheet.blocks.count → block_answer s k ≡ verdict_numbers (verdict_on s k)
   unfolding block_answer
   block-answer k below = rw (read, lt-ltb k sheet.blocks.count below)
@@ -70,7 +69,7 @@ Decided s a (Never r) = Decider s a (Never r)
 Decided s a Undecided = Nobody s a
 Decided s a NoBranch = Nobody s a
 
-module _ (s : List ℕ) (sheet : Sheet) (read : reading_of s ≡ reading.Accepted sheet) (given : (k : ℕ) → k < sheet.nodes.count → Given s k) (a : ℕ) where
+module _ (s : List ℕ) (sheet : Sheet) (read : reading_of s ≡ Ok sheet) (given : (k : ℕ) → k < sheet.nodes.count → Given s k) (a : ℕ) where
   abbrev verdict_at : ℕ → Verdict
   verdict_at k = verdict_in (node_verdict_of s k)
 

@@ -9,11 +9,11 @@ use native.Mathlib.Omega.{arith}
 use lib.Dec.{eqb}
 use lib.ListN.{length, get_or, length-append}
 use borrow.Author.Tests.{eqb-true, eqb-false, eq-eqb, ne_eqb}
+use Rattle.std.specs.Prelude.{Ok}
+use Rattle.sheet_field.specs.Field.{Place}
 use Rattle.laws.proofs.Booleans.{by_test}
 use Rattle.isa.specs.declared.Instruction.{Instruction}
-use Rattle.sheet_field.specs.declared.Place.{Place}
 use Rattle.sheet.specs.declared.Sheet.{Sheet}
-use Rattle.sheet.specs.declared.Reading.TheVariants as reading
 use Rattle.sheet.specs.Sheet.{nodes_from, sheet_at, reading_of}
 use Rattle.sheet.proofs.Accepted.{accepted}
 use Rattle.sheet_bytes.specs.Write.{All, Bytes, WhereThere}
@@ -62,7 +62,7 @@ ordered-from low i [] above ok up = (above, ok.0.formed.address, target_small i 
 ordered-from low i (j ∷ l) above ok up =
     (above, ok.0.formed.address, target_small i ok.0, ordered-from (suc i.address) j l (omega (arith, up.0)) ok.1 up.1)
 
-pub ordered : (s : List ℕ) → Bytes s → (sheet : Sheet) → reading_of s ≡ reading.Accepted sheet → Ordered 0 (sheet_at s).instructions.list
+pub ordered : (s : List ℕ) → Bytes s → (sheet : Sheet) → reading_of s ≡ Ok sheet → Ordered 0 (sheet_at s).instructions.list
 unfolding Ordered
 ordered s small sheet read =
     let w = read-was-written s sheet small read in
@@ -234,7 +234,7 @@ unfolding nodes_from
 nodes-length s p zero = refl
 nodes-length s p (suc k) = let n = nodes-length s p k in length-append (nodes_from s p k).list (_ ∷ []) ∙ omega (arith, n)
 
-module _ (s : List ℕ) (sheet : Sheet) (read : reading_of s ≡ reading.Accepted sheet) where
+module _ (s : List ℕ) (sheet : Sheet) (read : reading_of s ≡ Ok sheet) where
   about-branch : (from : Source) (a : ℕ) → About s from a → (to : ℕ) × Branch s a to
   about-branch (block k) a h =
       let listed = ((h.2.code.holds h.1).0 (last-in h.0 h.1)).0 in
@@ -266,7 +266,7 @@ module _ (s : List ℕ) (sheet : Sheet) (read : reading_of s ≡ reading.Accepte
 
 -- ---- due
 
-module _ (s : List ℕ) (sheet : Sheet) (read : reading_of s ≡ reading.Accepted sheet) (given : (k : ℕ) → k < sheet.nodes.count → Given s k)
+module _ (s : List ℕ) (sheet : Sheet) (read : reading_of s ≡ Ok sheet) (given : (k : ℕ) → k < sheet.nodes.count → Given s k)
     (said : List Said) (is : said ≡ blocks_say s sheet.blocks.count ++ nodes_say s sheet.nodes.count) where
   abbrev code : List Instruction
   code = (sheet_at s).instructions.list

@@ -19,7 +19,6 @@ use Rattle.machine.specs.declared.State.{State}
 use Rattle.machine.specs.Registers.{nothing_known, read_of}
 use Rattle.machine.specs.Conditions.{count_register, condition_of}
 use Rattle.machine.specs.Rules.{stepped, stepped_all}
-use Rattle.std.specs.Prelude.{codes}
 use Rattle.sentence_text.specs.Sentence.{turned}
 use Rattle.sentence.specs.Why.{Why, why_stepped, why_stepped_all, no_why}
 use Rattle.sentence.specs.Told.{Told, flag_told, opposite, differ, either, both, flags_told, condition_told, count_told, told_of, sentence_of}

@@ -7,19 +7,18 @@ use mathlib.Core.Option.{Option, none, some}
 use native.Mathlib.Omega.{arith}
 use lib.Dec.{eqb}
 use borrow.Author.Tests.{eqb-true, eqb-false}
+use Rattle.std.specs.Prelude.{Ok, Err}
+use Rattle.refusal.specs.declared.Refusal.{Refusal}
 use Rattle.laws.proofs.Booleans.{by_test}
 use Rattle.verdict.specs.declared.Verdict.{Verdict}
 use Rattle.verdict.specs.declared.Verdict.TheVariants.{Always, Never, Undecided, NoBranch}
-use Rattle.verdict.specs.declared.Answer.{Answer}
-use Rattle.verdict.specs.declared.Answer.TheVariants as answer
-use Rattle.verdict.specs.Numbers.{verdict_numbers}
+use Rattle.verdict.specs.Numbers.{verdict_numbers, Answer}
 use Rattle.verdict.specs.Numbers.Numbers.{decision}
 use Rattle.sheet.specs.Sheet.{node_numbered, node_place}
 use Rattle.verdict_block.specs.Verdict.{verdict_on}
 use Rattle.verdict_node.specs.NodeVerdict.{node_verdict}
 use Rattle.verdict_sheet.specs.Sites.{block_site, node_site}
 use Rattle.verdict_sheet.specs.Said.{Said, saying, blocks_say, Judged, node_too, judged_up_to, or_later, first_decided}
-use Rattle.verdict_sheet.specs.Said.Judged.{all, refused as node_refused}
 use Rattle.theorems.proofs.Apart.{some_same, not_some}
 
 -- a verdict that decides nothing
@@ -113,8 +112,8 @@ module _ (site : ℕ → Option ℕ) (verdict : ℕ → Verdict) where
 
 -- a verdict that was given
 abbrev pub verdict_in : Answer → Verdict
-verdict_in (answer.Given v) = v
-verdict_in (answer.Refused k at) = NoBranch
+verdict_in (Ok v) = v
+verdict_in (Err r) = NoBranch
 
 abbrev pub node_verdict_of : List ℕ → ℕ → Answer
 node_verdict_of s k = node_verdict (node_numbered s k) (node_place s k)
@@ -130,21 +129,21 @@ nodes_say s n = say_up_to (node_site s) (λ k. verdict_in (node_verdict_of s k))
 
 pub record Given (s : List ℕ) (k : ℕ) : Type 0 where
   pub verdict : Verdict
-  pub is : node_verdict_of s k ≡ answer.Given verdict
+  pub is : node_verdict_of s k ≡ Ok verdict
 
 pub record AllSay (s : List ℕ) (blocks n : ℕ) (said : List Said) : Type 0 where
   pub is : said ≡ blocks_say s blocks ++ nodes_say s n
   pub given : (k : ℕ) → k < n → Given s k
 
-pub record RefusedAt (s : List ℕ) (n number place : ℕ) : Type 0 where
+pub record RefusedAt (s : List ℕ) (n : ℕ) (r : Refusal) : Type 0 where
   pub node : ℕ
   pub below : node < n
-  pub is : node_verdict_of s node ≡ answer.Refused number place
+  pub is : node_verdict_of s node ≡ Err r
   pub given : (k : ℕ) → k < node → Given s k
 
 abbrev pub JudgedAs : List ℕ → ℕ → ℕ → Judged → Type 0
-JudgedAs s blocks n (all said) = AllSay s blocks n said
-JudgedAs s blocks n (node_refused number place) = RefusedAt s n number place
+JudgedAs s blocks n (Ok said) = AllSay s blocks n said
+JudgedAs s blocks n (Err r) = RefusedAt s n r
 
 pub judged-as : (s : List ℕ) (blocks n : ℕ) → JudgedAs s blocks n (judged_up_to s blocks n)
 unfolding judged_up_to say_up_to
@@ -156,9 +155,9 @@ judged-as s blocks (suc n) = go (judged_up_to s blocks n) (judged-as s blocks n)
         by_test (eqb k n) (λ t. rw (eqb-true k n t) last) (λ t. let apart = eqb-false k n t in before k (omega (arith, below, apart)))
 
     go : (j : Judged) → JudgedAs s blocks n j → (a : Answer) → node_verdict_of s n ≡ a → JudgedAs s blocks (suc n) (node_too j (node_site s n) a)
-    go (all said) h (answer.Given v) is = record {
+    go (Ok said) h (Ok v) is = record {
       is = rw (is, h.is) (append_assoc (blocks_say s blocks) (nodes_say s n) (saying (node_site s n) v));
       given = more h.given (record { verdict = v; is = is });
     }
-    go (all said) h (answer.Refused k at) is = record { node = n; below = omega arith; is = is; given = h.given }
-    go (node_refused k at) h a is = record { node = h.node; below = omega (arith, h.below); is = h.is; given = h.given }
+    go (Ok said) h (Err r) is = record { node = n; below = omega arith; is = is; given = h.given }
+    go (Err r) h a is = record { node = h.node; below = omega (arith, h.below); is = h.is; given = h.given }

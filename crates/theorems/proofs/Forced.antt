@@ -5,6 +5,7 @@ use mathlib.Core.Path.{◌≡◌, ap, ◌∙◌}
 use mathlib.Core.List.{List}
 use mathlib.Core.Logic.{◌↔◌}
 use mathlib.Core.Bool.{Bool, true, false}
+use Rattle.std.specs.Prelude.{Ok}
 use Rattle.isa.specs.declared.Mnemonic.{Mnemonic}
 use Rattle.machine.specs.declared.State.{State}
 use Rattle.machine.specs.Registers.{nothing_known}
@@ -13,7 +14,6 @@ use Rattle.concrete.specs.Agreement.{Agrees}
 use Rattle.concrete.proofs.Sound.{nothing_known_lem, steps-sound}
 use Rattle.concrete.proofs.Forced.{forced}
 use Rattle.sheet.specs.declared.Sheet.{Sheet}
-use Rattle.sheet.specs.declared.Reading.TheVariants as reading
 use Rattle.sheet.specs.Sheet.{reading_of}
 use Rattle.verdict.specs.declared.Reason.TheVariants.{Flags}
 use Rattle.verdict.specs.declared.Verdict.{Verdict}
@@ -54,7 +54,7 @@ possible s p (ending before i) a agrees =
     record { state = executed_all p before (λ k. some-choice); agrees = steps-sound s p before (λ k. some-choice) a agrees }
 
 -- The theorem: for every accepted sheet and every block of it that ends in a conditional branch.
-pub blocks-forced : (s : List ℕ) (sheet : Sheet) → reading_of s ≡ reading.Accepted sheet → (number : ℕ) (known : State) (m : Mnemonic)
+pub blocks-forced : (s : List ℕ) (sheet : Sheet) → reading_of s ≡ Ok sheet → (number : ℕ) (known : State) (m : Mnemonic)
     → end_on s number nothing_known ≡ record { known = known; jump = Some m }
     → (b : Bool) → (verdict_on s number ≡ saying b) ↔ Forced known m b
 unfolding verdict_on end_on end_from

@@ -10,12 +10,12 @@ use native.Mathlib.Numerals.{unary_clauses}
 use lib.Dec.{eqb, leb, ltb}
 use lib.ListN.{length, get_or}
 use borrow.Author.Tests.{eqb-true, eqb-false, leb-true, leb-false, ltb-true, ltb-false}
+use Rattle.std.specs.Prelude.{Ok}
 use Rattle.laws.proofs.Booleans.{by_test}
 use Rattle.search.specs.Ascending.{Ascending}
 use Rattle.isa.specs.declared.Instruction.{Instruction}
 use Rattle.sheet_bytes.specs.Write.{entry}
 use Rattle.sheet.specs.declared.Sheet.{Sheet}
-use Rattle.sheet.specs.declared.Reading.TheVariants as reading
 use Rattle.sheet.specs.Sheet.{no_block, no_node, sheet_at, reading_of, node_numbered}
 use Rattle.sheet.specs.Index.{addresses_of}
 use Rattle.sheet.proofs.Accepted.{accepted, blocks-length}
@@ -229,7 +229,7 @@ found-last code (b ∷ earlier) later a branch silent = rw (found-last code earl
 
 -- ---- of an accepted sheet
 
-module _ (s : List ℕ) (sheet : Sheet) (read : reading_of s ≡ reading.Accepted sheet) where
+module _ (s : List ℕ) (sheet : Sheet) (read : reading_of s ≡ Ok sheet) where
   abbrev code : List Instruction
   code = (sheet_at s).instructions.list
 

@@ -6,9 +6,10 @@ use mathlib.Core.List.{List, [], ◌∷◌, ◌++◌}
 use native.Mathlib.Omega.{arith}
 use lib.Dec.{leb}
 use lib.ListN.{length, get_or}
-use Rattle.sheet_field.specs.declared.Place.TheVariants.{At, Refused}
-use Rattle.sheet_field.specs.declared.Field.{Field}
-use Rattle.sheet_field.specs.Field.{little, field_at}
+use Rattle.std.specs.Prelude.{Ok, Err}
+use Rattle.refusal.specs.Numbers.{refused}
+use Rattle.refusal.specs.declared.Fault.TheVariants.{Ends}
+use Rattle.sheet_field.specs.Field.{little, field_at, FieldReading}
 use Rattle.sheet.specs.Index.{over}
 use Rattle.sheet_bytes.specs.Write.{bytes, records}
 use Rattle.sheet_bytes.proofs.Spans.{Spans, bytes-length, spans-cut, spans-length}
@@ -32,10 +33,10 @@ unfolding field_at
 spells s a b v small h = go (leb (a + 8) (length s)) (field-read 8 v (omega arith) small h)
   where
     go : (t : Bool)
-        → ◌≡◌ {A = Field} (cond t (record { value = little s a 8; next = At (a + 8) }) (record { value = 0; next = Refused 1 a })) (record { value = v; next = At b })
+        → ◌≡◌ {A = FieldReading} (cond t (record { value = little s a 8; next = Ok (a + 8) }) (record { value = 0; next = Err (refused Ends a) })) (record { value = v; next = Ok b })
         → little s a 8 ≡ v
-    go true e = ap (λ (f : Field). f.value) e
-    go false e = let q = ap (λ (f : Field). f.next) e in let z : ◌≡◌ {A = ℕ} 0 1 = cc in absurd (omega arith)
+    go true e = ap (λ (f : FieldReading). f.value) e
+    go false e = let q = ap (λ (f : FieldReading). f.next) e in let z : ◌≡◌ {A = ℕ} 0 1 = cc in absurd (omega arith)
 
 -- a line that fits its bytes
 pub record Fits (l : Line) : Type 0 where

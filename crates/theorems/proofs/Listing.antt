@@ -8,12 +8,14 @@ use native.Mathlib.Omega.{arith}
 use lib.Dec.{leb, ltb}
 use lib.ListN.{length, get_or}
 use borrow.Author.Tests.{ltb-true, ltb-false, leb-true, leb-false}
+use Rattle.std.specs.Prelude.{Ok, Err}
+use Rattle.refusal.specs.declared.Fault.TheVariants.{Room}
+use Rattle.refusal.specs.Numbers.{number_of, refused as refusal}
+use Rattle.refusal.specs.declared.Refusal.{Refusal}
 use Rattle.laws.proofs.Booleans.{by_test}
 use Rattle.isa.specs.declared.Instruction.{Instruction}
 use Rattle.sheet.specs.declared.Sheet.{Sheet}
-use Rattle.sheet.specs.declared.Reading.{Reading}
-use Rattle.sheet.specs.declared.Reading.TheVariants as reading
-use Rattle.sheet.specs.Sheet.{sheet_at, reading_of}
+use Rattle.sheet.specs.Sheet.{sheet_at, reading_of, Reading}
 use Rattle.sheet.specs.Index.{over}
 use Rattle.sheet.proofs.Fronts.{over-length}
 use Rattle.sheet_bytes.specs.Write.{Bytes, records}
@@ -27,7 +29,6 @@ use Rattle.verdict_lines.specs.Lines.{Line, line_bytes}
 use Rattle.verdict_lines.proofs.Written.{lines-length}
 use Rattle.verdict_sheet.specs.Said.{Said, judged_up_to, lines_of}
 use Rattle.verdict_sheet.specs.Said as said_of
-use Rattle.verdict_sheet.specs.Said.Judged.{all, refused as node_refused}
 use Rattle.answer_node.specs.Node.{node_answer}
 use Rattle.answer_listing.specs.Listing.{Listing, turned_back, written, on_judged, listing_on, listing_of}
 use Rattle.answer_listing.specs.Listing.ListedNumbers.{lines, refused as refused_listing}
@@ -99,7 +100,7 @@ module _ (s : List ℕ) (m n : ℕ) (f g : ℕ → Line) (x : AllDue s m f) (y :
 
 -- it is turned back for a reason, or it writes the lines due
 data Case (s list : List ℕ) (r : Listing) : Type 0 where
-  turned : (number place : ℕ) → r ≡ turned_back number place list → Refuses s list number place → Case s list r
+  turned : (why : Refusal) → r ≡ turned_back why list → Refuses s list (number_of why.fault) why.at → Case s list r
   wrote : (sheet : Sheet) → Judged s sheet sheet.nodes.count → (count : ℕ) → r.answer ≡ lines count → Listed s count list r.list
       → Case s list r
 
@@ -109,7 +110,7 @@ verdict-no-refusal (Never r) e = let z : ◌≡◌ {A = ℕ} 0 1 = cc in omega a
 verdict-no-refusal Undecided e = let z : ◌≡◌ {A = ℕ} 0 1 = cc in omega arith
 verdict-no-refusal NoBranch e = let z : ◌≡◌ {A = ℕ} 0 1 = cc in omega arith
 
-judged : (s : List ℕ) (sheet : Sheet) → reading_of s ≡ reading.Accepted sheet → (n : ℕ) → n ≤ sheet.nodes.count
+judged : (s : List ℕ) (sheet : Sheet) → reading_of s ≡ Ok sheet → (n : ℕ) → n ≤ sheet.nodes.count
     → ((k : ℕ) → k < n → Given s k) → Judged s sheet n
 judged s sheet read n few given = record {
   read = read;
@@ -119,7 +120,7 @@ judged s sheet read n few given = record {
       (sym (ap answer_numbers g.is) ∙ (sym (node-answer s sheet read j (omega (arith, few, below))) ∙ e));
 }
 
-module _ (s : List ℕ) (small : Bytes s) (sheet : Sheet) (read : reading_of s ≡ reading.Accepted sheet) (list : List ℕ) where
+module _ (s : List ℕ) (small : Bytes s) (sheet : Sheet) (read : reading_of s ≡ Ok sheet) (list : List ℕ) where
   abbrev code : List Instruction
   code = (sheet_at s).instructions.list
 
@@ -154,17 +155,17 @@ module _ (s : List ℕ) (small : Bytes s) (sheet : Sheet) (read : reading_of s �
 
         go : (t : Bool) → leb (18 * length due) (length list) ≡ t
             → Case s list
-            (cond t (record { answer = lines (length due); list = over (records line_bytes due) list }) (turned_back 12 (length s) list))
+            (cond t (record { answer = lines (length due); list = over (records line_bytes due) list }) (turned_back (refusal Room (length s)) list))
         go true t = wrote sheet J (length due) refl (in_list (leb-true (18 * length due) (length list) t))
         go false t =
-            turned 12 (length s) refl
+            turned (refusal Room (length s)) refl
             (no_room sheet J (length due) (λ k. get_or due k no_line) all-due (leb-false (18 * length due) (length list) t))
 
   on-judged : (j : said_of.Judged) → JudgedAs s sheet.blocks.count sheet.nodes.count j → Case s list (on_judged j s list)
-  on-judged (all said) h = wrote-all said h
-  on-judged (node_refused number place) h =
-      turned number place refl
-      (by_node sheet h.node number place (judged s sheet read h.node (omega (arith, h.below)) h.given) h.below
+  on-judged (Ok said) h = wrote-all said h
+  on-judged (Err r) h =
+      turned r refl
+      (by_node sheet h.node (number_of r.fault) r.at (judged s sheet read h.node (omega (arith, h.below)) h.given) h.below
       (node-answer s sheet read h.node h.below ∙ ap answer_numbers h.is))
 
 listing-case : (s : List ℕ) → Bytes s → (list : List ℕ) → Case s list (listing_of s list)
@@ -172,18 +173,17 @@ unfolding listing_of
 listing-case s small list = go (reading_of s) refl
   where
     go : (r : Reading) → reading_of s ≡ r → Case s list (listing_on r s list)
-    go (reading.Refused number place) e = turned number place refl (by_reading number place e)
-    go (reading.Accepted sheet) e =
+    go (Err r) e = turned r refl (by_reading r e)
+    go (Ok sheet) e =
         on-judged s small sheet e list (judged_up_to s sheet.blocks.count sheet.nodes.count) (judged-as s sheet.blocks.count sheet.nodes.count)
 
 -- ---- refusals exclude each other, and lines
 
-accepted-refused : {X : Type 0} (s : List ℕ) {sheet : Sheet} {number place : ℕ} → reading_of s ≡ reading.Accepted sheet
-    → reading_of s ≡ reading.Refused number place → X
+accepted-refused : {X : Type 0} (s : List ℕ) {sheet : Sheet} {r : Refusal} → reading_of s ≡ Ok sheet → reading_of s ≡ Err r → X
 accepted-refused s e f = let q = sym e ∙ f in let z : ◌≡◌ {A = ℕ} 0 1 = cc in absurd (omega arith)
 
-same-sheet : (s : List ℕ) {a b : Sheet} → reading_of s ≡ reading.Accepted a → reading_of s ≡ reading.Accepted b → a ≡ b
-same-sheet s {a} {b} e f = let q : reading.Accepted a ≡ reading.Accepted b = sym e ∙ f in cc
+same-sheet : (s : List ℕ) {a b : Sheet} → reading_of s ≡ Ok a → reading_of s ≡ Ok b → a ≡ b
+same-sheet s {a} {b} e f = let q = sym e ∙ f in cc
 
 -- where no node is refused, none is the first that is
 none_first : (s : List ℕ) (sheet other : Sheet) (k number place : ℕ) → Judged s sheet sheet.nodes.count → Judged s other k
@@ -199,15 +199,15 @@ Same number place number' place' = (number ≡ number') × (place ≡ place')
 refused-same : {a b c d : ℕ} → refused a b ≡ refused c d → Same a b c d
 refused-same e = (cc, cc)
 
-reading-same : {a b c d : ℕ} → reading.Refused a b ≡ reading.Refused c d → Same a b c d
-reading-same e = (cc, cc)
+reading-same : (s : List ℕ) {q r : Refusal} → reading_of s ≡ Err q → reading_of s ≡ Err r → Same (number_of q.fault) q.at (number_of r.fault) r.at
+reading-same s {q} {r} e f = let both = sym e ∙ f in let same : q ≡ r = cc in rw same (refl, refl)
 
 one-reason : (s list : List ℕ) {number place number' place' : ℕ} → Refuses s list number place → Refuses s list number' place'
     → Same number place number' place'
-one-reason s list (by_reading a b e) (by_reading c d f) = reading-same (sym e ∙ f)
-one-reason s list (by_reading a b e) (by_node sheet k c d j below f) = accepted-refused s j.read e
-one-reason s list (by_reading a b e) (no_room sheet j count line due short) = accepted-refused s j.read e
-one-reason s list (by_node sheet k a b j below e) (by_reading c d f) = accepted-refused s j.read f
+one-reason s list (by_reading q e) (by_reading r f) = reading-same s e f
+one-reason s list (by_reading q e) (by_node sheet k c d j below f) = accepted-refused s j.read e
+one-reason s list (by_reading q e) (no_room sheet j count line due short) = accepted-refused s j.read e
+one-reason s list (by_node sheet k a b j below e) (by_reading r f) = accepted-refused s j.read f
 one-reason s list (by_node sheet k a b j below e) (by_node sheet' k' c d j' below' f) =
     by_test (ltb k k') (λ t. absurd (j'.nodes k (ltb-true k k' t) a b e))
     (λ t. by_test (ltb k' k) (λ u. absurd (j.nodes k' (ltb-true k' k u) c d f))
@@ -215,13 +215,13 @@ one-reason s list (by_node sheet k a b j below e) (by_node sheet' k' c d j' belo
     let here : k ≡ k' = omega (arith, ltb-false k k' t, ltb-false k' k u) in
     refused-same (sym e ∙ (ap (node_answer s) here ∙ f))))
 one-reason s list (by_node sheet k a b j below e) (no_room sheet' j' count line due short) = absurd (none_first s sheet' sheet k a b j' j below e)
-one-reason s list (no_room sheet j count line due short) (by_reading c d f) = accepted-refused s j.read f
+one-reason s list (no_room sheet j count line due short) (by_reading r f) = accepted-refused s j.read f
 one-reason s list (no_room sheet j count line due short) (by_node sheet' k' c d j' below' f) = absurd (none_first s sheet sheet' k' c d j j' below' f)
 one-reason s list (no_room sheet j count line due short) (no_room sheet' j' count' line' due' short') = (refl, refl)
 
 no-reason : (s list after : List ℕ) (sheet : Sheet) (count : ℕ) → Judged s sheet sheet.nodes.count → Listed s count list after
     → {number place : ℕ} → Refuses s list number place → ⊥
-no-reason s list after sheet count j h (by_reading a b e) = accepted-refused s j.read e
+no-reason s list after sheet count j h (by_reading q e) = accepted-refused s j.read e
 no-reason s list after sheet count j h (by_node sheet' k a b j' below e) = none_first s sheet sheet' k a b j j' below e
 no-reason s list after sheet count j h (no_room sheet' j' count' line due short) =
     let few = fewer s count' count line (line_at after) due h.lines in
@@ -238,11 +238,11 @@ pub lines-due : (s : List Byte) (list : List ℕ) (count : ℕ) → (listing_of 
 lines-due s list count e = go (listing-case (numbers s) (all-bytes s) list)
   where
     go : Case (numbers s) list (listing_of (numbers s) list) → Listed (numbers s) count list (listing_of (numbers s) list).list
-    go (turned number place is why) = lines-refused (sym e ∙ ap (λ (r : Listing). r.answer) is)
-    go (wrote sheet j n is h) = let same : n ≡ count = number_of (sym is ∙ e) in rw same at h
+    go (turned r is why) = lines-refused (sym e ∙ ap (λ (r : Listing). r.answer) is)
+    go (wrote sheet j n is h) = let same : n ≡ count = count_is (sym is ∙ e) in rw same at h
       where
-        number_of : lines n ≡ lines count → n ≡ count
-        number_of q = cc
+        count_is : lines n ≡ lines count → n ≡ count
+        count_is q = cc
 
 -- It is refused exactly for one of the reasons.
 pub refused-for : (s : List Byte) (list : List ℕ) (number place : ℕ)
@@ -254,13 +254,13 @@ refused-for s list number place = (λ e. there e (listing-case (numbers s) (all-
 
     there : (listing_of (numbers s) list).answer ≡ refused_listing number place → Case (numbers s) list (listing_of (numbers s) list)
         → Refuses (numbers s) list number place
-    there e (turned a b is why) =
+    there e (turned r is why) =
         let same = numbers_of (sym (ap (λ (r : Listing). r.answer) is) ∙ e) in rw (same.0, same.1) at why
     there e (wrote sheet j n is h) = lines-refused (sym is ∙ e)
 
     back : Refuses (numbers s) list number place → Case (numbers s) list (listing_of (numbers s) list)
         → (listing_of (numbers s) list).answer ≡ refused_listing number place
-    back why (turned a b is other) =
+    back why (turned r is other) =
         let same = one-reason (numbers s) list other why in
         rw (same.0, same.1) at (ap (λ (r : Listing). r.answer) is)
     back why (wrote sheet j n is h) = absurd (no-reason (numbers s) list (listing_of (numbers s) list).list sheet n j h why)
@@ -271,7 +271,7 @@ pub list-kept : (s : List Byte) (list : List ℕ) (number place : ℕ) → (list
 list-kept s list number place e = go (listing-case (numbers s) (all-bytes s) list)
   where
     go : Case (numbers s) list (listing_of (numbers s) list) → (listing_of (numbers s) list).list ≡ list
-    go (turned a b is why) = ap (λ (r : Listing). r.list) is
+    go (turned r is why) = ap (λ (r : Listing). r.list) is
     go (wrote sheet j n is h) = lines-refused (sym is ∙ e)
 
 -- Every line is true of every run of what it comes from.

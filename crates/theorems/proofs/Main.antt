@@ -1,6 +1,6 @@
 -- The theorems about the product, together: each with a sentence, and its statement as a whole. Their proofs are in the files that they cite. Who
 -- believes the definitions that stand in a statement need not read on; docs/TRUST.md lists them for each.
-use Rattle.std.specs.Prelude.{true, Some, None}
+use Rattle.std.specs.Prelude.{true, Some, None, Ok}
 use Prim.Native.Nat.{ℕ, ◌<◌, ◌≤◌}
 use mathlib.Core.Path.{◌≡◌}
 use mathlib.Core.List.{List}
@@ -13,7 +13,6 @@ use Rattle.expr.specs.Tree.Expr.{binary}
 use Rattle.value.specs.Evaluation.{Values, Contents, Effects, shared, ev}
 use Rattle.value.specs.Run.{Choices, run}
 use Rattle.sheet.specs.declared.Sheet.{Sheet}
-use Rattle.sheet.specs.declared.Reading.TheVariants as reading-is
 use Rattle.sheet.specs.Sheet.{reading_of, node_numbered, node_place}
 use Rattle.sheet_bytes.specs.Write.{All}
 use Rattle.format.specs.Sheet.{Byte, numbers, Format}
@@ -146,7 +145,7 @@ program-samples = as-sampled
 
 -- For a block of an accepted sheet the answer is always (never) exactly where the block ends in a flag branch that what is known there forces to jump
 -- (not to jump); its reason is 1.
-pub forced-blocks : (s : List ℕ) (sheet : Sheet) → reading_of s ≡ reading-is.Accepted sheet → (number : ℕ) → number < sheet.blocks.count
+pub forced-blocks : (s : List ℕ) (sheet : Sheet) → reading_of s ≡ Ok sheet → (number : ℕ) → number < sheet.blocks.count
     → (b : Bool) → (block_answer s number ≡ decision (cond b 1 0) 1) ↔ ForcedEnd s number b
 forced-blocks = answers-forced
 

@@ -1,6 +1,6 @@
 -- Nodes: a verdict is right of every run that has an outcome. The substituted condition speaks for every run (crate substitution),
 -- and `decide` is right of every evaluation of it (crate decide); that constants are below their width goes through substitution.
-use Rattle.std.specs.Prelude.{Option, Some, None}
+use Rattle.std.specs.Prelude.{Option, Some, None, Ok, Err}
 use Prim.Native.Nat.{ℕ, zero, suc, ◌<◌, ◌≤◌}
 use mathlib.Core.Path.{◌≡◌, refl, sym, subst}
 use mathlib.Core.Bool.{Bool, true, false, cond, ◌||◌}
@@ -9,6 +9,9 @@ use native.Mathlib.Omega.{arith}
 use lib.Dec.{eqb, ltb}
 use native.Mathlib.Decide.{dec_lt}
 use lib.ListN.{length, get_or-eq_default}
+use Rattle.refusal.specs.Numbers.{refused as refusal}
+use Rattle.refusal.specs.declared.Fault.TheVariants.{Terms, Number}
+use Rattle.refusal.specs.declared.Refusal.{Refusal}
 use Rattle.expr.specs.Admission.{Admitted, AdmittedAll, AdmittedNode}
 use Rattle.expr.proofs.Admission.{constant-fits}
 use Rattle.expr.specs.Codes.{op_equal, op_not_equal}
@@ -26,10 +29,8 @@ use Rattle.substitution.specs.Substitution.{Entry, free, held, Table, nothing_he
 use Rattle.substitution.proofs.Runs.{every-run}
 use Rattle.verdict.specs.declared.Verdict.{Verdict}
 use Rattle.verdict.specs.declared.Verdict.TheVariants.{Always, Never, Undecided, NoBranch}
-use Rattle.verdict.specs.Numbers.{verdict_numbers, answer_numbers}
+use Rattle.verdict.specs.Numbers.{verdict_numbers, answer_numbers, Answer}
 use Rattle.verdict.specs.Numbers.Numbers.{decision, undecided, refused}
-use Rattle.verdict.specs.declared.Answer.{Answer}
-use Rattle.verdict.specs.declared.Answer.TheVariants.{Given, Refused}
 use Rattle.sheet_node.specs.Node.{Node}
 use Rattle.decide.specs.Decide.{decide, fits}
 use Rattle.parity.specs.LowBit.{Has}
@@ -39,9 +40,7 @@ use Rattle.decide.proofs.Complete.{decided}
 use Rattle.decide.proofs.Sound.{Meets, right}
 use Rattle.verdict_node.specs.NodeVerdict.{on_substituted, node_verdict}
 use Rattle.sheet.specs.declared.Sheet.{Sheet}
-use Rattle.sheet.specs.declared.Reading.{Reading}
-use Rattle.sheet.specs.declared.Reading.TheVariants as reading
-use Rattle.sheet.specs.Sheet.{sheet_at, reading_of, no_node, node_numbered, node_place}
+use Rattle.sheet.specs.Sheet.{sheet_at, reading_of, no_node, node_numbered, node_place, Reading}
 use Rattle.sheet_bytes.specs.Write.{Bytes}
 use Rattle.format.proofs.Admitted.{node-admitted-at}
 use Rattle.answer_evaluation.specs.Evaluation.{evaluation_answer}
@@ -155,19 +154,19 @@ outcome-has : (u : Option ℕ) → (truth_of u ≡ None → ⊥) → Has u
 outcome-has (Some x) h = tt
 outcome-has None h = h refl
 
-given-same : {v w : Verdict} → Given v ≡ Given w → v ≡ w
+given-same : {v w : Verdict} → ◌≡◌ {A = Answer} (Ok v) (Ok w) → v ≡ w
 given-same q = cc
 
-refused-given : {X : Type 0} {k at : ℕ} {v : Verdict} → Refused k at ≡ Given v → X
-refused-given q = let z : ◌≡◌ {A = ℕ} 0 1 = cc in absurd (omega arith)
+refused-given : {X : Type 0} {r : Refusal} {v : Verdict} → ◌≡◌ {A = Answer} (Err r) (Ok v) → X
+refused-given q = absurd cc
 
 -- The verdict on a node is right of every run that has an outcome.
-pub node-right : (n : Node) → Fair n → (place : ℕ) (v : Verdict) → node_verdict n place ≡ Given v → (c : Choices)
+pub node-right : (n : Node) → Fair n → (place : ℕ) (v : Verdict) → node_verdict n place ≡ Ok v → (c : Choices)
     → AsSaid v (run n.types n.statements n.condition c)
 unfolding node_verdict
 node-right n fair place v q c = go (with_assignments n.statements n.condition) refl q
   where
-    go : (d : Substituted) → with_assignments n.statements n.condition ≡ d → on_substituted place d ≡ Given v
+    go : (d : Substituted) → with_assignments n.statements n.condition ≡ d → on_substituted place d ≡ Ok v
         → AsSaid v (run n.types n.statements n.condition c)
     go too_long is e = refused-given e
     go (into result) is e = on (fits result) e
@@ -175,7 +174,7 @@ node-right n fair place v q c = go (with_assignments n.statements n.condition) r
         fit : Fitting result
         fit = fitting-result n.statements (all-fitting n.types n.statements fair.assigned) nothing_held (λ v e is. not_free is) n.condition result (admitted-fitting (length n.types) n.condition fair.decides.tree) is
 
-        on : (b : Bool) → cond b (Given (decide result)) (Refused 11 place) ≡ Given v → AsSaid v (run n.types n.statements n.condition c)
+        on : (b : Bool) → cond b (Ok (decide result)) (Err (refusal Terms place)) ≡ Ok v → AsSaid v (run n.types n.statements n.condition c)
         on false e = refused-given e
         on true e =
             rw (sym (given-same e))
@@ -192,7 +191,7 @@ none-fair = record {
 }
 
 -- a node of an accepted sheet; where there is none of that number, the node that stands in asks for nothing
-numbered-fair : (s : List ℕ) (sheet : Sheet) → Bytes s → reading_of s ≡ reading.Accepted sheet → (number : ℕ) → Fair (node_numbered s number)
+numbered-fair : (s : List ℕ) (sheet : Sheet) → Bytes s → reading_of s ≡ Ok sheet → (number : ℕ) → Fair (node_numbered s number)
 numbered-fair s sheet small read number = go (dec_lt number (length (sheet_at s).nodes.list))
   where
     go : Dec (number < length (sheet_at s).nodes.list) → Fair (node_numbered s number)
@@ -218,20 +217,20 @@ pub node-runs : (s : List ℕ) → Bytes s → (number value reason : ℕ) → n
 unfolding node_answer
 node-runs s small number value reason e went r = go (reading_of s) refl e
   where
-    given : (sheet : Sheet) → reading_of s ≡ reading.Accepted sheet → (a : Answer) → node_verdict (node_numbered s number) (node_place s number) ≡ a
+    given : (sheet : Sheet) → reading_of s ≡ Ok sheet → (a : Answer) → node_verdict (node_numbered s number) (node_place s number) ≡ a
         → answer_numbers a ≡ decision value reason → value ≡ cond went 1 0
-    given sheet read (Given v) is q =
+    given sheet read (Ok v) is q =
         numbers-meet v value reason went q
         (subst (Meets v) r.1
         (node-right (node_numbered s number) (numbered-fair s sheet small read number) (node_place s number) v is r.0
         (some-outcome went (node_run s number r.0) r.1)))
-    given sheet read (Refused k at) is q = no-decision q
+    given sheet read (Err r) is q = no-decision q
 
     go : (a : Reading) → reading_of s ≡ a → answer_numbers (on_node a s number) ≡ decision value reason → value ≡ cond went 1 0
-    go (reading.Refused k at) q e = no-decision e
-    go (reading.Accepted sheet) q e = on (ltb number sheet.nodes.count) e
+    go (Err r) q e = no-decision e
+    go (Ok sheet) q e = on (ltb number sheet.nodes.count) e
       where
-        on : (t : Bool) → answer_numbers (cond t (node_verdict (node_numbered s number) (node_place s number)) (Refused 13 0)) ≡ decision value reason
+        on : (t : Bool) → answer_numbers (cond t (node_verdict (node_numbered s number) (node_place s number)) (Err (refusal Number 0))) ≡ decision value reason
             → value ≡ cond went 1 0
         on true e = given sheet q (node_verdict (node_numbered s number) (node_place s number)) refl e
         on false e = no-decision e
@@ -255,17 +254,17 @@ node-decided s number equal a b is differ e = go (reading_of s) e
     verdict-undecided Undecided e = refl
     verdict-undecided NoBranch e = let z : ◌≡◌ {A = ℕ} 0 1 = cc in absurd (omega arith)
 
-    on : (t : Bool) → answer_numbers (cond t (Given (decide c)) (Refused 11 (node_place s number))) ≡ undecided → ⊥
+    on : (t : Bool) → answer_numbers (cond t (Ok (decide c)) (Err (refusal Terms (node_place s number)))) ≡ undecided → ⊥
     on true e = decided equal a b differ (verdict-undecided (decide c) e)
     on false e = not-undecided e
 
-    there : (t : Bool) → answer_numbers (cond t (node_verdict (node_numbered s number) (node_place s number)) (Refused 13 0)) ≡ undecided → ⊥
+    there : (t : Bool) → answer_numbers (cond t (node_verdict (node_numbered s number) (node_place s number)) (Err (refusal Number 0))) ≡ undecided → ⊥
     there true e = on (fits c) (rw is at e)
     there false e = not-undecided e
 
     go : (r : Reading) → answer_numbers (on_node r s number) ≡ undecided → ⊥
-    go (reading.Refused k at) e = not-undecided e
-    go (reading.Accepted sheet) e = there (ltb number sheet.nodes.count) e
+    go (Err r) e = not-undecided e
+    go (Ok sheet) e = there (ltb number sheet.nodes.count) e
 
 -- No evaluation of a node contradicts its verdict: it is a run of the node.
 pub evaluation-agrees : (s : List ℕ) → Bytes s → (number : ℕ) (values : List ℕ) (got value reason : ℕ)

@@ -1,6 +1,6 @@
 -- Evaluation, by the answers that its contract speaks of: whatever the bytes, the number and the borrowed values, an answer is what every run of that
 -- node does that starts from those values.
-use Rattle.std.specs.Prelude.{Bool, Option, None}
+use Rattle.std.specs.Prelude.{Bool, Option, None, Ok, Err}
 use Prim.Native.Nat.{ℕ, ◌≤◌, ◌<◌}
 use mathlib.Core.Path.{◌≡◌, refl, sym, ap, ◌∙◌}
 use mathlib.Core.List.{List}
@@ -9,19 +9,19 @@ use native.Mathlib.Omega.{arith}
 use borrow.Author.Tests.{ltb-true}
 use lib.Dec.{ltb}
 use lib.ListN.{length, get_or}
-use Rattle.sheet_field.specs.declared.Place.TheVariants.{At}
+use mathlib.Core.Bool.{true, false}
+use Rattle.refusal.specs.Numbers.{number_of}
+use Rattle.refusal.specs.declared.Fault.TheVariants.{Division}
+use Rattle.refusal.specs.declared.Refusal.{Refusal}
+use Rattle.refusal.proofs.Apart.{faults-apart}
 use Rattle.sheet_node.specs.Node.{node_at}
 use Rattle.sheet_node.proofs.Variables.{ReadsDeclared, reads-declared}
 use Rattle.sheet.specs.declared.Sheet.{Sheet}
-use Rattle.sheet.specs.declared.Reading.{Reading}
-use Rattle.sheet.specs.declared.Reading.TheVariants as reading
-use Rattle.sheet.specs.Sheet.{sheet_at, reading_of, no_node, node_numbered, node_place}
+use Rattle.sheet.specs.Sheet.{sheet_at, reading_of, no_node, node_numbered, node_place, Reading}
 use Rattle.sheet.proofs.ByNumber.{node-places-count, nth-node-read, nth-node-is}
 use Rattle.sheet.proofs.Refusals.{ByReading, reading-number}
 use Rattle.value.specs.Run.{Choices}
-use Rattle.evaluate_node.specs.declared.Evaluation.{Evaluation}
-use Rattle.evaluate_node.specs.declared.Evaluation.TheVariants as evaluation
-use Rattle.evaluate_node.specs.Evaluate.{on_truth, StartsFrom, Gives, FromRun}
+use Rattle.evaluate_node.specs.Evaluate.{on_truth, StartsFrom, Gives, FromRun, Evaluation}
 use Rattle.evaluate_node.proofs.Every.{every-run, evaluation-outcome, evaluation-number}
 use Rattle.answer_evaluation.specs.Evaluation.{Evaluated, in_numbers, evaluated_node, node_on, evaluation_answer}
 use Rattle.answer_evaluation.specs.Evaluation.Evaluated.{outcome, refused}
@@ -30,20 +30,20 @@ use Rattle.laws.proofs.Booleans.{by_test}
 use Rattle.theorems.specs.Runs.{node_run, SaysOf, AnswerFromRun}
 
 -- a node of an accepted sheet reads only variables that it declares
-declared-only : (s : List ℕ) (sheet : Sheet) → reading_of s ≡ reading.Accepted sheet → (number : ℕ) → number < sheet.nodes.count
+declared-only : (s : List ℕ) (sheet : Sheet) → reading_of s ≡ Ok sheet → (number : ℕ) → number < sheet.nodes.count
     → ReadsDeclared (node_numbered s number)
 declared-only s sheet read number below =
     let places = (sheet_at s).nodes.places in
-    let node = node_at s (At (get_or places number 0)) in
+    let node = node_at s (Ok (get_or places number 0)) in
     let there : number < length places = rw (node-places-count s sheet read) below in
     let r = nth-node-read s sheet read number {places = places} {r = node} refl there refl in
     rw (← nth-node-is s sheet read number {places = places} {r = node} refl there refl no_node)
-    (reads-declared s (At (get_or places number 0)) {a = r.on.0} r.on.1)
+    (reads-declared s (Ok (get_or places number 0)) {a = r.on.0} r.on.1)
 
 says : (e : Evaluation) (t : Option Bool) → Gives e t → SaysOf (in_numbers e) t
-says evaluation.Holds t h = h
-says evaluation.Fails t h = h
-says (evaluation.Refused k at) t h = h
+says (Ok true) t h = h
+says (Ok false) t h = h
+says (Err r) t h = λ fourteen. h (faults-apart r.fault Division fourteen)
 
 -- The theorem: for all bytes, every number and all borrowed values, the answer is what every run of that node does that starts from those values.
 pub answers-run : (s : List ℕ) (number : ℕ) (values : List ℕ) (c : Choices) → StartsFrom (node_numbered s number).types values c
@@ -52,8 +52,8 @@ unfolding evaluation_answer evaluated_node
 answers-run s number values c starts = go (reading_of s) refl
   where
     go : (r : Reading) → reading_of s ≡ r → SaysOf (node_on r s number values) (node_run s number c)
-    go (reading.Refused k at) q = λ e. absurd (omega (arith, e, reading-number s q))
-    go (reading.Accepted sheet) q =
+    go (Err r) q = λ e. absurd (omega (arith, e, reading-number s q))
+    go (Ok sheet) q =
         by_test (ltb number sheet.nodes.count)
         (λ t. rw t
         (says (evaluated_node s number values) (node_run s number c)
@@ -61,9 +61,9 @@ answers-run s number values c starts = go (reading_of s) refl
         (λ t. rw t (λ e. absurd (omega (arith, e))))
 
 from-run : (e : Evaluation) → AnswerFromRun (in_numbers e) → FromRun e
-from-run evaluation.Holds h = tt
-from-run evaluation.Fails h = tt
-from-run (evaluation.Refused k at) h = h
+from-run (Ok true) h = tt
+from-run (Ok false) h = tt
+from-run (Err r) h = faults-apart r.fault Division h
 
 -- And back: an answer that comes from the run is the outcome of each of those runs, in numbers.
 pub answer-outcome : (s : List ℕ) (number : ℕ) (values : List ℕ) (c : Choices) → StartsFrom (node_numbered s number).types values c
@@ -74,8 +74,8 @@ answer-outcome s number values c starts from = go (reading_of s) refl from
   where
     go : (r : Reading) → reading_of s ≡ r → AnswerFromRun (node_on r s number values)
         → node_on r s number values ≡ in_numbers (on_truth (node_place s number) (node_run s number c))
-    go (reading.Refused k at) q h = absurd (omega (arith, h, reading-number s q))
-    go (reading.Accepted sheet) q h =
+    go (Err r) q h = absurd (omega (arith, h, reading-number s q))
+    go (Ok sheet) q h =
         by_test (ltb number sheet.nodes.count)
         (λ t. rw t
         (ap in_numbers
@@ -110,22 +110,30 @@ fourteen s number values from = (
 abbrev ByEvaluation : ℕ → Type 0
 ByEvaluation k = ((1 ≤ k) × (k ≤ 9)) ⊎ ((13 ≤ k) × (k ≤ 16))
 
-numbered : (e : Evaluation) {k at : ℕ} → in_numbers e ≡ refused k at → e ≡ evaluation.Refused k at
-numbered evaluation.Holds e = cc
-numbered evaluation.Fails e = cc
-numbered (evaluation.Refused k' at') e = cc
+-- an evaluation that is a refusal of that number
+record RefusedAs (e : Evaluation) (k : ℕ) : Type 0 where
+  by : Refusal
+  is : e ≡ Err by
+  number : number_of by.fault ≡ k
+
+numbered : (e : Evaluation) {k at : ℕ} → in_numbers e ≡ refused k at → RefusedAs e k
+numbered (Ok true) e = absurd cc
+numbered (Ok false) e = absurd cc
+numbered (Err r) e = record { by = r; is = refl; number = cc }
 
 pub refusal-number : (s : List ℕ) (number : ℕ) (values : List ℕ) {k at : ℕ} → evaluation_answer s number values ≡ refused k at → ByEvaluation k
 unfolding evaluation_answer evaluated_node
 refusal-number s number values {k} {at} e = go (reading_of s) refl e
   where
     go : (r : Reading) → reading_of s ≡ r → node_on r s number values ≡ refused k at → ByEvaluation k
-    go (reading.Refused k' at') q h = let same : k' ≡ k = cc in inl (rw same at (reading-number s q))
-    go (reading.Accepted sheet) q h =
+    go (Err r) q h = let same : number_of r.fault ≡ k = cc in inl (rw same at (reading-number s q))
+    go (Ok sheet) q h =
         by_test (ltb number sheet.nodes.count)
         (λ t.
-        let n = evaluation-number (node_numbered s number) (node_place s number) values (numbered (evaluated_node s number values) (rw t at h)) in
-        inr (omega (arith, n.0), n.1))
+        let a = numbered (evaluated_node s number values) (rw t at h) in
+        let n = evaluation-number (node_numbered s number) (node_place s number) values a.is in
+        let own : (13 ≤ number_of a.by.fault) × (number_of a.by.fault ≤ 16) = (omega (arith, n.0), n.1) in
+        inr (rw a.number at own))
         (λ t. let same : 13 ≡ k = thirteen (rw t at h) in inr (omega (arith, same), omega (arith, same)))
       where
         thirteen : refused 13 0 ≡ refused k at → 13 ≡ k
@@ -140,13 +148,13 @@ outcome-bit s number values value e = go (reading_of s) e
     refused-outcome e = let z : ◌≡◌ {A = ℕ} 0 1 = cc in absurd (omega arith)
 
     bit : (a : Evaluation) → in_numbers a ≡ outcome value → value ≤ 1
-    bit evaluation.Holds e = let is : 1 ≡ value = cc in omega (arith, is)
-    bit evaluation.Fails e = let is : 0 ≡ value = cc in omega (arith, is)
-    bit (evaluation.Refused k at) e = refused-outcome e
+    bit (Ok true) e = let is : 1 ≡ value = cc in omega (arith, is)
+    bit (Ok false) e = let is : 0 ≡ value = cc in omega (arith, is)
+    bit (Err r) e = refused-outcome e
 
     go : (r : Reading) → node_on r s number values ≡ outcome value → value ≤ 1
-    go (reading.Refused k at) h = refused-outcome h
-    go (reading.Accepted sheet) h =
+    go (Err r) h = refused-outcome h
+    go (Ok sheet) h =
         by_test (ltb number sheet.nodes.count) (λ t. bit (evaluated_node s number values) (rw t at h)) (λ t. refused-outcome (rw t at h))
 
 -- a refusal's number is never 0

@@ -9,18 +9,16 @@ use mathlib.Core.Bool.{Bool, true, false, cond}
 use native.Mathlib.Omega.{arith}
 use borrow.Author.Tests.{ltb-true, lt-ltb}
 use lib.Dec.{ltb}
+use Rattle.std.specs.Prelude.{Ok, Err}
 use Rattle.isa.specs.declared.Instruction.{Instruction}
 use Rattle.machine.specs.Registers.{nothing_known}
 use Rattle.machine.specs.Rules.{stepped_all}
 use Rattle.sheet.specs.declared.Sheet.{Sheet}
-use Rattle.sheet.specs.declared.Reading.{Reading}
-use Rattle.sheet.specs.declared.Reading.TheVariants as reading
-use Rattle.sheet.specs.Sheet.{reading_of}
+use Rattle.sheet.specs.Sheet.{reading_of, Reading}
 use Rattle.verdict.specs.declared.Verdict.{Verdict}
 use Rattle.verdict.specs.declared.Verdict.TheVariants as verdict
-use Rattle.verdict.specs.Numbers.{verdict_numbers, answer_numbers}
+use Rattle.verdict.specs.Numbers.{verdict_numbers, answer_numbers, Answer}
 use Rattle.verdict.specs.Numbers.Numbers.{decision}
-use Rattle.verdict.specs.declared.Answer.TheVariants.{Given}
 use Rattle.verdict.proofs.Apart.{answers-apart}
 use Rattle.verdict_block.specs.Verdict.{Parts, apart, code_of, end_from, end_on, verdict_on}
 use Rattle.verdict_block.specs.Verdict.Parts.{none, ending}
@@ -38,7 +36,7 @@ use Rattle.laws.proofs.Booleans.{by_test}
 -- a decision comes from an accepted sheet, and is the verdict on that block
 record Decision (s : List ℕ) (number value reason : ℕ) : Type 0 where
   sheet : Sheet
-  read : reading_of s ≡ reading.Accepted sheet
+  read : reading_of s ≡ Ok sheet
   below : number < sheet.blocks.count
   is : verdict_numbers (verdict_on s number) ≡ decision value reason
 
@@ -47,8 +45,8 @@ unfolding block_answer
 decided-by s number value reason e = go (reading_of s) refl e
   where
     go : (r : Reading) → reading_of s ≡ r → answer_numbers (on_reading r s number) ≡ decision value reason → Decision s number value reason
-    go (reading.Refused k at) q h = no-decision h
-    go (reading.Accepted sheet) q h =
+    go (Err r) q h = no-decision h
+    go (Ok sheet) q h =
         by_test (ltb number sheet.blocks.count)
         (λ t. record { sheet = sheet; read = q; below = ltb-true number sheet.blocks.count t; is = rw t at h })
         (λ t. no-decision (rw t at h))
@@ -74,22 +72,22 @@ block_runs s number value reason e went r =
 
 -- ---- forced
 
-saying-said : (b : Bool) → answer_numbers (Given (saying b)) ≡ decision (cond b 1 0) 1
+saying-said : (b : Bool) → answer_numbers (Ok (saying b)) ≡ decision (cond b 1 0) 1
 saying-said true = refl
 saying-said false = refl
 
-same-verdict : {v w : Verdict} → Given v ≡ Given w → v ≡ w
+same-verdict : {v w : Verdict} → ◌≡◌ {A = Answer} (Ok v) (Ok w) → v ≡ w
 same-verdict e = cc
 
 saying-is : (v : Verdict) (b : Bool) → verdict_numbers v ≡ decision (cond b 1 0) 1 → v ≡ saying b
-saying-is v b e = same-verdict (answers-apart (Given v) (Given (saying b)) (e ∙ sym (saying-said b)))
+saying-is v b e = same-verdict (answers-apart (Ok v) (Ok (saying b)) (e ∙ sym (saying-said b)))
 
 not-saying : {X : Type 0} (b : Bool) → verdict.NoBranch ≡ saying b → X
 not-saying true e = let z : ◌≡◌ {A = ℕ} 0 1 = cc in absurd (omega arith)
 not-saying false e = let z : ◌≡◌ {A = ℕ} 0 1 = cc in absurd (omega arith)
 
 -- what is known at a block's end
-ends_on : (s : List ℕ) (sheet : Sheet) → reading_of s ≡ reading.Accepted sheet → (number : ℕ) (before : List Instruction) (last : Instruction)
+ends_on : (s : List ℕ) (sheet : Sheet) → reading_of s ≡ Ok sheet → (number : ℕ) (before : List Instruction) (last : Instruction)
     → EndsIn s number before last
     → end_on s number nothing_known ≡ record { known = stepped_all nothing_known before; jump = Some last.mnemonic }
 unfolding end_on end_from
@@ -118,7 +116,7 @@ answer-forces s number b e =
         (λ t. not-saying b (rw (q, t) at is))
 
 -- and a block that ends so has that answer
-forced-answer : (s : List ℕ) (sheet : Sheet) → reading_of s ≡ reading.Accepted sheet → (number : ℕ) → number < sheet.blocks.count
+forced-answer : (s : List ℕ) (sheet : Sheet) → reading_of s ≡ Ok sheet → (number : ℕ) → number < sheet.blocks.count
     → (b : Bool) → ForcedEnd s number b → block_answer s number ≡ decision (cond b 1 0) 1
 unfolding block_answer
 forced-answer s sheet read number below b f =
@@ -128,6 +126,6 @@ forced-answer s sheet read number below b f =
 
 -- The theorem: for a block of an accepted sheet the answer is always (never) exactly where the block ends in a flag branch that what is known
 -- forces to jump (not to jump).
-pub answers-forced : (s : List ℕ) (sheet : Sheet) → reading_of s ≡ reading.Accepted sheet → (number : ℕ) → number < sheet.blocks.count
+pub answers-forced : (s : List ℕ) (sheet : Sheet) → reading_of s ≡ Ok sheet → (number : ℕ) → number < sheet.blocks.count
     → (b : Bool) → (block_answer s number ≡ decision (cond b 1 0) 1) ↔ ForcedEnd s number b
 answers-forced s sheet read number below b = (answer-forces s number b, forced-answer s sheet read number below b)

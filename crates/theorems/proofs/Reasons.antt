@@ -5,18 +5,18 @@ use mathlib.Core.Bool.{Bool, true, false, cond}
 use mathlib.Core.List.{List}
 use mathlib.Core.Logic.{◌↔◌}
 use lib.Dec.{ltb}
+use Rattle.std.specs.Prelude.{Ok, Err}
+use Rattle.refusal.specs.Numbers.{number_of, refused as refusal}
+use Rattle.refusal.specs.declared.Fault.TheVariants.{Terms, Number}
 use Rattle.expr.specs.Tree.{Expr}
 use Rattle.substitution.specs.Substitution.{into, with_assignments}
 use Rattle.decide.specs.Decide.{decide, fits}
 use Rattle.decide.specs.Decided.{Decided}
 use Rattle.decide.proofs.Reasons.{reasons, undecided-where}
-use Rattle.verdict.specs.declared.Answer.TheVariants.{Given, Refused}
 use Rattle.verdict.specs.Numbers.{verdict_numbers, answer_numbers}
 use Rattle.verdict.specs.Numbers.Numbers.{decision, undecided, refused}
 use Rattle.verdict_node.specs.NodeVerdict.{on_substituted, node_verdict}
-use Rattle.sheet.specs.declared.Reading.{Reading}
-use Rattle.sheet.specs.declared.Reading.TheVariants as reading
-use Rattle.sheet.specs.Sheet.{reading_of, node_numbered, node_place}
+use Rattle.sheet.specs.Sheet.{reading_of, node_numbered, node_place, Reading}
 use Rattle.answer_node.specs.Node.{on_node, node_answer}
 
 -- the node's condition, after substitution
@@ -33,22 +33,22 @@ module _ (s : List ℕ) (number : ℕ) (e : Expr) (is : Condition s number e) (g
   unfolding node_answer node_verdict
   answer-is = go (reading_of s) given
     where
-      verdict : node_verdict (node_numbered s number) (node_place s number) ≡ cond (fits e) (Given (decide e)) (Refused 11 (node_place s number))
+      verdict : node_verdict (node_numbered s number) (node_place s number) ≡ cond (fits e) (Ok (decide e)) (Err (refusal Terms (node_place s number)))
       verdict = ap (on_substituted (node_place s number)) is
 
-      on : (t : Bool) → ((k at : ℕ) → answer_numbers (cond t (Given (decide e)) (Refused 11 (node_place s number))) ≡ refused k at → ⊥)
-          → answer_numbers (cond t (Given (decide e)) (Refused 11 (node_place s number))) ≡ verdict_numbers (decide e)
+      on : (t : Bool) → ((k at : ℕ) → answer_numbers (cond t (Ok (decide e)) (Err (refusal Terms (node_place s number)))) ≡ refused k at → ⊥)
+          → answer_numbers (cond t (Ok (decide e)) (Err (refusal Terms (node_place s number)))) ≡ verdict_numbers (decide e)
       on true n = refl
       on false n = absurd (n 11 (node_place s number) refl)
 
-      there : (t : Bool) → ((k at : ℕ) → answer_numbers (cond t (node_verdict (node_numbered s number) (node_place s number)) (Refused 13 0)) ≡ refused k at → ⊥)
-          → answer_numbers (cond t (node_verdict (node_numbered s number) (node_place s number)) (Refused 13 0)) ≡ verdict_numbers (decide e)
+      there : (t : Bool) → ((k at : ℕ) → answer_numbers (cond t (node_verdict (node_numbered s number) (node_place s number)) (Err (refusal Number 0))) ≡ refused k at → ⊥)
+          → answer_numbers (cond t (node_verdict (node_numbered s number) (node_place s number)) (Err (refusal Number 0))) ≡ verdict_numbers (decide e)
       there true n = ap answer_numbers verdict ∙ on (fits e) (λ k at x. n k at (ap answer_numbers verdict ∙ x))
       there false n = absurd (n 13 0 refl)
 
       go : (r : Reading) → ((k at : ℕ) → answer_numbers (on_node r s number) ≡ refused k at → ⊥) → answer_numbers (on_node r s number) ≡ verdict_numbers (decide e)
-      go (reading.Refused k at) n = absurd (n k at refl)
-      go (reading.Accepted sheet) n = there (ltb number sheet.nodes.count) n
+      go (Err r) n = absurd (n (number_of r.fault) r.at refl)
+      go (Ok sheet) n = there (ltb number sheet.nodes.count) n
 
   pub node-decided-as : (value reason : ℕ) → (node_answer s number ≡ decision value reason) ↔ Decided e value reason
   node-decided-as value reason =

@@ -10,14 +10,16 @@ use lib.Dec.{leb, ltb}
 use lib.ListN.{length, drop, get_or, length-append, length-drop}
 use lib.Seq.{take-append_seam, get_or-append-add, get_or-drop}
 use Rattle.std.proofs.Common.{Option, Some, None}
+use Rattle.std.specs.Prelude.{Ok, Err}
+use Rattle.refusal.specs.declared.Fault.TheVariants.{Number, Text}
+use Rattle.refusal.specs.Numbers.{number_of, refused as refusal}
+use Rattle.refusal.specs.declared.Refusal.{Refusal}
 use Rattle.machine.specs.declared.State.{State}
 use Rattle.machine.specs.Registers.{nothing_known}
 use Rattle.machine.specs.Rules.{stepped_all}
 use Rattle.machine.specs.Conditions.{condition_of}
 use Rattle.sheet.specs.declared.Sheet.{Sheet}
-use Rattle.sheet.specs.declared.Reading.{Reading}
-use Rattle.sheet.specs.declared.Reading.TheVariants as reading
-use Rattle.sheet.specs.Sheet.{reading_of}
+use Rattle.sheet.specs.Sheet.{reading_of, Reading}
 use Rattle.sheet.proofs.Refusals.{reading-number}
 use Rattle.verdict.specs.declared.Verdict.{Verdict}
 use Rattle.verdict.specs.declared.Verdict.TheVariants.{Always, Never, Undecided, NoBranch}
@@ -86,8 +88,8 @@ empty-on s number = empty-at (apart (code_of s number))
 -- ---- what the answer is
 
 data Case (s : List ℕ) (block : ℕ) (text : List ℕ) (r : Answered) : Type 0 where
-  turned : (number place : ℕ) → r ≡ turned_back number place text → RefusesSentence s block text number place → Case s block text r
-  wrote : (sheet : Sheet) → reading_of s ≡ reading.Accepted sheet → block < sheet.blocks.count → length (sentence_on s block) ≤ length text
+  turned : (why : Refusal) → r ≡ turned_back why text → RefusesSentence s block text (number_of why.fault) why.at → Case s block text r
+  wrote : (sheet : Sheet) → reading_of s ≡ Ok sheet → block < sheet.blocks.count → length (sentence_on s block) ≤ length text
       → r ≡ record { answer = long (length (sentence_on s block)); text = sentence_on s block ++ drop (length (sentence_on s block)) text } → Case s block text r
 
 sentence-case : (s : List ℕ) (block : ℕ) (text : List ℕ) → Case s block text (sentence_answer s block text)
@@ -97,19 +99,19 @@ sentence-case s block text = go (reading_of s) refl
     sentence : List ℕ
     sentence = sentence_on s block
 
-    fit : (sheet : Sheet) → reading_of s ≡ reading.Accepted sheet → block < sheet.blocks.count → (t : Bool) → leb (length sentence) (length text) ≡ t
-        → Case s block text (cond t (record { answer = long (length sentence); text = sentence ++ drop (length sentence) text }) (turned_back 17 (length sentence) text))
+    fit : (sheet : Sheet) → reading_of s ≡ Ok sheet → block < sheet.blocks.count → (t : Bool) → leb (length sentence) (length text) ≡ t
+        → Case s block text (cond t (record { answer = long (length sentence); text = sentence ++ drop (length sentence) text }) (turned_back (refusal Text (length sentence)) text))
     fit sheet read below true t = wrote sheet read below (leb-true (length sentence) (length text) t) refl
-    fit sheet read below false t = turned 17 (length sentence) refl (no_room sheet read below (leb-false (length sentence) (length text) t))
+    fit sheet read below false t = turned (refusal Text (length sentence)) refl (no_room sheet read below (leb-false (length sentence) (length text) t))
 
-    there : (sheet : Sheet) → reading_of s ≡ reading.Accepted sheet → (t : Bool) → ltb block sheet.blocks.count ≡ t
-        → Case s block text (cond t (written sentence text) (turned_back 13 0 text))
+    there : (sheet : Sheet) → reading_of s ≡ Ok sheet → (t : Bool) → ltb block sheet.blocks.count ≡ t
+        → Case s block text (cond t (written sentence text) (turned_back (refusal Number 0) text))
     there sheet read true t = fit sheet read (ltb-true block sheet.blocks.count t) (leb (length sentence) (length text)) refl
-    there sheet read false t = turned 13 0 refl (no_block sheet read (ltb-false block sheet.blocks.count t))
+    there sheet read false t = turned (refusal Number 0) refl (no_block sheet read (ltb-false block sheet.blocks.count t))
 
     go : (r : Reading) → reading_of s ≡ r → Case s block text (on_reading r s block text)
-    go (reading.Refused number place) e = turned number place refl (by_reading number place e)
-    go (reading.Accepted sheet) e = there sheet e (ltb block sheet.blocks.count) refl
+    go (Err r) e = turned r refl (by_reading r e)
+    go (Ok sheet) e = there sheet e (ltb block sheet.blocks.count) refl
 
 long-refused : {X : Type 0} {n number place : ℕ} → long n ≡ refused number place → X
 long-refused e = let z : ◌≡◌ {A = ℕ} 0 1 = cc in absurd (omega arith)
@@ -121,11 +123,11 @@ same-refused : {a b c d : ℕ} → refused a b ≡ refused c d → (a ≡ c) × 
 same-refused e = (cc, cc)
 
 -- the block verdict is refused for the first two of them
-block_refused : (s : List ℕ) (block number place : ℕ) → reading_of s ≡ reading.Refused number place → block_answer s block ≡ refused_block number place
+block_refused : (s : List ℕ) (block : ℕ) (r : Refusal) → reading_of s ≡ Err r → block_answer s block ≡ refused_block (number_of r.fault) r.at
 unfolding block_answer
-block_refused s block number place e = rw e
+block_refused s block r e = rw e
 
-block-missing : (s : List ℕ) (block : ℕ) (sheet : Sheet) → reading_of s ≡ reading.Accepted sheet → sheet.blocks.count ≤ block
+block-missing : (s : List ℕ) (block : ℕ) (sheet : Sheet) → reading_of s ≡ Ok sheet → sheet.blocks.count ≤ block
     → block_answer s block ≡ refused_block 13 0
 unfolding block_answer
 block-missing s block sheet e le = rw (e, le-ltb block sheet.blocks.count le)
@@ -155,7 +157,7 @@ sentence-decided s block text = (λ e. there e (sentence-case s block text), λ 
 
     there : (sentence_answer s block text).answer ≡ long 0 → Case s block text (sentence_answer s block text)
         → NoVerdict (block_answer s block)
-    there e (turned number place is why) = long-refused (sym e ∙ ap (λ (r : Answered). r.answer) is)
+    there e (turned r is why) = long-refused (sym e ∙ ap (λ (r : Answered). r.answer) is)
     there e (wrote sheet read below room is) =
         let none-there = no-entry (sentence_on s block) (same-long (sym (ap (λ (r : Answered). r.answer) is) ∙ e)) in
         rw (block-answer s sheet read block below) (said (verdict_on s block) ((empty-on s block).0 none-there))
@@ -165,15 +167,18 @@ sentence-decided s block text = (λ e. there e (sentence-case s block text), λ 
     refused-open e (inl f) = let q = sym e ∙ f in let z : ◌≡◌ {A = ℕ} 0 1 = cc in omega arith
     refused-open e (inr f) = let q = sym e ∙ f in let z : ◌≡◌ {A = ℕ} 0 1 = cc in omega arith
 
-    empty : {sheet : Sheet} → reading_of s ≡ reading.Accepted sheet → block < sheet.blocks.count
+    empty : {sheet : Sheet} → reading_of s ≡ Ok sheet → block < sheet.blocks.count
         → NoVerdict (block_answer s block) → sentence_on s block ≡ []
     empty {sheet} read below o = (empty-on s block).1 (open-verdict (verdict_on s block) (rw (block-answer s sheet read block below) at o))
 
+    no_reason : NoVerdict (block_answer s block) → {number place : ℕ} → RefusesSentence s block text number place → ⊥
+    no_reason o (by_reading r e) = refused-open (block_refused s block r e) o
+    no_reason o (no_block sheet e le) = refused-open (block-missing s block sheet e le) o
+    no_reason o (no_room sheet e less short) = let q = ap length (empty e less o) in omega arith
+
     back : NoVerdict (block_answer s block) → Case s block text (sentence_answer s block text)
         → (sentence_answer s block text).answer ≡ long 0
-    back o (turned number place is (by_reading a b e)) = absurd (refused-open (block_refused s block a b e) o)
-    back o (turned number place is (no_block sheet e le)) = absurd (refused-open (block-missing s block sheet e le) o)
-    back o (turned number place is (no_room sheet e less short)) = absurd (let q = ap length (empty e less o) in omega arith)
+    back o (turned r is why) = absurd (no_reason o why)
     back o (wrote sheet read below room is) = ap (λ (r : Answered). r.answer) is ∙ ap (λ (l : List ℕ). long (length l)) (empty read below o)
 
 -- It is refused exactly for one of the reasons.
@@ -184,12 +189,12 @@ sentence-refused s block text number place = (λ e. there e (sentence-case s blo
   where
     there : (sentence_answer s block text).answer ≡ refused number place → Case s block text (sentence_answer s block text)
         → RefusesSentence s block text number place
-    there e (turned a b is why) =
+    there e (turned r is why) =
         let same = same-refused (sym (ap (λ (r : Answered). r.answer) is) ∙ e) in rw (same.0, same.1) at why
     there e (wrote sheet read below room is) = long-refused (sym (ap (λ (r : Answered). r.answer) is) ∙ e)
 
     back : {number place : ℕ} → RefusesSentence s block text number place → (sentence_answer s block text).answer ≡ refused number place
-    back (by_reading a b e) = rw e
+    back (by_reading r e) = rw e
     back (no_block sheet e le) = rw (e, le-ltb block sheet.blocks.count le)
     back (no_room sheet e less short) = rw (e, lt-ltb block sheet.blocks.count less, lt-leb (length (sentence_on s block)) (length text) short)
 
@@ -199,7 +204,7 @@ pub text-kept : (s : List ℕ) (block : ℕ) (text : List ℕ) (number place : �
 text-kept s block text number place e = go (sentence-case s block text)
   where
     go : Case s block text (sentence_answer s block text) → (sentence_answer s block text).text ≡ text
-    go (turned a b is why) = ap (λ (r : Answered). r.text) is
+    go (turned r is why) = ap (λ (r : Answered). r.text) is
     go (wrote sheet read below room is) = long-refused (sym (ap (λ (r : Answered). r.answer) is) ∙ e)
 
 -- Its number is one of reading's, 13 or 17.
@@ -208,7 +213,7 @@ pub sentence-number : (s : List ℕ) (block : ℕ) (text : List ℕ) {k at : ℕ
 sentence-number s block text {k} {at} e = go ((sentence-refused s block text k at).0 e)
   where
     go : {a b : ℕ} → RefusesSentence s block text a b → ((1 ≤ a) × (a ≤ 9)) ⊎ ((a ≡ 13) ⊎ (a ≡ 17))
-    go (by_reading a b q) = let n = reading-number s q in inl (n.0, n.1)
+    go (by_reading r q) = let n = reading-number s q in inl (n.0, n.1)
     go (no_block sheet q le) = inr (inl refl)
     go (no_room sheet q less short) = inr (inr refl)
 
@@ -226,7 +231,7 @@ sentence-stands s block text n e = go (sentence-case s block text)
     sentence = sentence_on s block
 
     go : Case s block text (sentence_answer s block text) → Holds sentence n text (sentence_answer s block text).text
-    go (turned a b is why) = long-refused (sym e ∙ ap (λ (r : Answered). r.answer) is)
+    go (turned r is why) = long-refused (sym e ∙ ap (λ (r : Answered). r.answer) is)
     go (wrote sheet read below room is) =
         let count : n ≡ length sentence = same-long (sym e ∙ ap (λ (r : Answered). r.answer) is) in
         rw (ap (λ (r : Answered). r.text) is, count)

@@ -7,8 +7,8 @@ use mathlib.Core.List.{List, [], ◌∷◌, ◌++◌}
 use mathlib.Core.Bool.{Bool, true, false, cond, ◌&&◌}
 use lib.Dec.{eqb, leb, ltb}
 use lib.ListN.{get_or}
-use Rattle.sheet_field.specs.declared.Place.{Place}
-use Rattle.sheet_field.specs.declared.Place.TheVariants.{At}
+use Rattle.std.specs.Prelude.{Ok}
+use Rattle.sheet_field.specs.Field.{Place}
 use Rattle.isa.specs.declared.Operand.{Operand}
 use Rattle.isa.specs.declared.Operand.TheVariants.{Absent, Reg, Imm, Mem}
 use Rattle.isa.specs.declared.Instruction.{Instruction}
@@ -24,7 +24,6 @@ use Rattle.concrete.proofs.Forced.{forced}
 use Rattle.sheet_instruction.specs.Instruction.{instruction_at}
 use Rattle.sheet_instruction.proofs.Accepted.{Well, instruction-on}
 use Rattle.sheet.specs.declared.Sheet.{Sheet}
-use Rattle.sheet.specs.declared.Reading.TheVariants as reading
 use Rattle.sheet.specs.Sheet.{no_block, instructions_from, sheet_at, reading_of}
 use Rattle.sheet.proofs.Accepted.{accepted}
 use Rattle.verdict.specs.declared.Verdict.TheVariants as answer
@@ -64,7 +63,7 @@ all_append : (l m : List Instruction) → AllAccepted l → AllAccepted m → Al
 all_append [] m a b = b
 all_append (i ∷ l) m a b = (a.0, all_append l m a.1 b)
 
-all_read : (s : List ℕ) (p : Place) (k : ℕ) {a : ℕ} → (instructions_from s p k).next ≡ At a → AllAccepted (instructions_from s p k).list
+all_read : (s : List ℕ) (p : Place) (k : ℕ) {a : ℕ} → (instructions_from s p k).next ≡ Ok a → AllAccepted (instructions_from s p k).list
 unfolding instructions_from
 all_read s p zero e = tt
 all_read s p (suc k) e =
@@ -74,11 +73,11 @@ all_read s p (suc k) e =
     all_append t.list (i ∷ []) (all_read s p k r.there)
     (record { first = well i.first r.one; second = well i.second r.two; sound = r.sound }, tt)
 
-all-of-sheet : (s : List ℕ) (sheet : Sheet) → reading_of s ≡ reading.Accepted sheet → AllAccepted (sheet_at s).instructions.list
+all-of-sheet : (s : List ℕ) (sheet : Sheet) → reading_of s ≡ Ok sheet → AllAccepted (sheet_at s).instructions.list
 all-of-sheet s sheet read =
     let acc = accepted s sheet read in
     rw (← acc.instructions)
-    (all_read s (At sheet.instructions.at) sheet.instructions.count {a = acc.after_instructions.0} (rw acc.instructions acc.after_instructions.1))
+    (all_read s (Ok sheet.instructions.at) sheet.instructions.count {a = acc.after_instructions.0} (rw acc.instructions acc.after_instructions.1))
 
 all-within : (from to : ℕ) (l : List Instruction) → AllAccepted l → AllAccepted (within from to l)
 unfolding within
@@ -90,7 +89,7 @@ all-within from to (i ∷ l) a = kept (leb from i.address && ltb i.address to) (
     kept false rest = rest
 
 -- the instructions of a block of an accepted sheet
-pub all-of-block : (s : List ℕ) (sheet : Sheet) → reading_of s ≡ reading.Accepted sheet → (number : ℕ) → AllAccepted (code_of s number)
+pub all-of-block : (s : List ℕ) (sheet : Sheet) → reading_of s ≡ Ok sheet → (number : ℕ) → AllAccepted (code_of s number)
 unfolding code_of
 all-of-block s sheet read number =
     let block = get_or (sheet_at s).blocks.list number no_block in
@@ -132,7 +131,7 @@ end-right s p (ending before i) free last a agrees =
     last-right (stepped_all s before) (executed_all p before free) i last (steps-sound s p before free a agrees)
 
 -- The theorem: for every accepted sheet and every block of it, whatever the start state and whatever is free.
-pub blocks-right : (s : List ℕ) (sheet : Sheet) → reading_of s ≡ reading.Accepted sheet → (number : ℕ)
+pub blocks-right : (s : List ℕ) (sheet : Sheet) → reading_of s ≡ Ok sheet → (number : ℕ)
     → (start : Processor) (free : ℕ → Choice) (last : Bool) → NotAgainst (verdict_on s number) (run_on s number start free last)
 unfolding verdict_on end_on end_from run_on
 blocks-right s sheet read number start free last =

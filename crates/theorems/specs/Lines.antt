@@ -1,9 +1,10 @@
 -- The lines of a listing: which are due, how they stand in the list, and when there is none.
-use Rattle.std.specs.Prelude.{ℕ, ◌+◌, ◌*◌, ◌≤◌, ◌<◌, ◌≡◌, Bool, cond, List, length, get_or}
+use Rattle.std.specs.Prelude.{ℕ, ◌+◌, ◌*◌, ◌≤◌, ◌<◌, ◌≡◌, Bool, cond, List, length, get_or, Ok, Err}
+use Rattle.refusal.specs.Numbers.{number_of}
+use Rattle.refusal.specs.declared.Refusal.{Refusal}
 use Rattle.isa.specs.declared.Instruction.{Instruction}
 use Rattle.sheet_field.specs.Field.{little}
 use Rattle.sheet.specs.declared.Sheet.{Sheet}
-use Rattle.sheet.specs.declared.Reading.TheVariants as reading
 use Rattle.sheet.specs.Sheet.{reading_of}
 use Rattle.verdict.specs.Numbers.Numbers.{decision, refused}
 use Rattle.verdict_lines.specs.Lines.{Line}
@@ -58,13 +59,13 @@ pub record Listed (s : List ℕ) (count : ℕ) (before after : List ℕ) : Type 
 
 -- reading accepts the bytes, and the first k nodes are not refused
 pub record Judged (s : List ℕ) (sheet : Sheet) (k : ℕ) : Type 0 where
-  pub read : reading_of s ≡ reading.Accepted sheet
+  pub read : reading_of s ≡ Ok sheet
   pub nodes : (j : ℕ) → j < k → (number place : ℕ) → node_answer s j ≡ refused number place → ⊥
 
 -- Why a listing is refused: reading refuses; or a node is refused, the first that is gives number and offset; or no node is, and the list is too
 -- short for the lines due, which is 12 at the sheet's length (R5, L8, L9).
 pub data Refuses (s list : List ℕ) : ℕ → ℕ → Type 0 where
-  by_reading : (number place : ℕ) → reading_of s ≡ reading.Refused number place → Refuses s list number place
+  by_reading : (r : Refusal) → reading_of s ≡ Err r → Refuses s list (number_of r.fault) r.at
   by_node : (sheet : Sheet) (k number place : ℕ) → Judged s sheet k → k < sheet.nodes.count → node_answer s k ≡ refused number place
       → Refuses s list number place
   no_room : (sheet : Sheet) → Judged s sheet sheet.nodes.count → (count : ℕ) (line : ℕ → Line) → AllDue s count line → length list < 18 * count

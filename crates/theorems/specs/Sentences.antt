@@ -1,9 +1,10 @@
 -- The sentence of a block in a borrowed text: how it stands there, and when there is none; and sheets as bytes with their sentences, worked out by hand
 -- from docs/SHEET.md and the Rust's text.
-use Rattle.std.specs.Prelude.{ℕ, ◌≤◌, ◌<◌, ◌≡◌, List, [], ◌∷◌, length, get_or, take, replicate}
+use Rattle.std.specs.Prelude.{ℕ, ◌≤◌, ◌<◌, ◌≡◌, List, [], ◌∷◌, length, get_or, take, replicate, Ok, Err}
 use Prim.Native.String.{String}
+use Rattle.refusal.specs.Numbers.{number_of}
+use Rattle.refusal.specs.declared.Refusal.{Refusal}
 use Rattle.sheet.specs.declared.Sheet.{Sheet}
-use Rattle.sheet.specs.declared.Reading.TheVariants as reading
 use Rattle.sheet.specs.Sheet.{reading_of}
 use Rattle.std.specs.Prelude.{codes}
 use Rattle.sentence_block.specs.Sentence.{sentence_on}
@@ -23,9 +24,9 @@ pub record Holds (sentence : List ℕ) (count : ℕ) (before after : List ℕ) :
 -- Why a sentence is refused: reading refuses; or there is no block of that number, which is 13 at 0; or the text is shorter than that block's
 -- sentence, which is 17 at the sentence's length (R5, M31, W17).
 pub data RefusesSentence (s : List ℕ) (block : ℕ) (text : List ℕ) : ℕ → ℕ → Type 0 where
-  by_reading : (number place : ℕ) → reading_of s ≡ reading.Refused number place → RefusesSentence s block text number place
-  no_block : (sheet : Sheet) → reading_of s ≡ reading.Accepted sheet → sheet.blocks.count ≤ block → RefusesSentence s block text 13 0
-  no_room : (sheet : Sheet) → reading_of s ≡ reading.Accepted sheet → block < sheet.blocks.count → length text < length (sentence_on s block)
+  by_reading : (r : Refusal) → reading_of s ≡ Err r → RefusesSentence s block text (number_of r.fault) r.at
+  no_block : (sheet : Sheet) → reading_of s ≡ Ok sheet → sheet.blocks.count ≤ block → RefusesSentence s block text 13 0
+  no_room : (sheet : Sheet) → reading_of s ≡ Ok sheet → block < sheet.blocks.count → length text < length (sentence_on s block)
       → RefusesSentence s block text 17 (length (sentence_on s block))
 
 -- ---- worked sentences
