@@ -6,27 +6,29 @@ use mathlib.Core.List.{List}
 use lib.Dec.{ltb}
 use borrow.Author.Tests.{lt-ltb, le-leb, lt-leb}
 use Rattle.std.specs.Prelude.{Ok, Err, Result}
+use Rattle.std.specs.Result.{MatchResult, IsErrAnd}
 use Rattle.refusal.specs.declared.Fault.TheVariants.{Number, Text}
 use Rattle.refusal.specs.declared.Refusal.{Refusal}
 use Rattle.refusal.specs.Numbers.{refused}
 use Rattle.sheet.specs.declared.Sheet.{Sheet}
 use Rattle.sheet.specs.Sheet.{Reading, reading_of}
 use Rattle.sheet.specs.Promises.{having_block}
-use Rattle.sentence_text.specs.declared.Fit.{Fit}
-use Rattle.sentence_text.specs.declared.Fit.TheVariants.{Whole, Short}
+use Rattle.sentence_text.specs.declared.TooShort.{TooShort}
 use Rattle.sentence_text.specs.Promises.{Fits}
 use Rattle.sentence_block.specs.Sentence.{sentence_on}
 use Rattle.answer_sentence.specs.Sentence.{written, turned_back, on_reading, sentence_answer, Gives}
 
--- what the code answers by whether the text could hold the sentence
-abbrev told_by : Fit → Result ℕ Refusal
-told_by (Whole n) = Ok n
-told_by (Short n) = Err (refused Text n)
+-- the code's answer: the length of a sentence that fits, else an error of which Q
+abbrev pub Told : (TooShort → Refusal → Type 0) → Result ℕ TooShort → Result ℕ Refusal → Type 0
+Told Q fit told = MatchResult fit (λ n. told ≡ Ok n) (λ short. IsErrAnd told (Q short))
 
 -- a sentence that fits is written; one that does not is refused
-gives : (sentence old new : List ℕ) (fit : Fit) → Fits fit sentence old new → Gives (told_by fit) new (written sentence old)
-gives sentence old new (Whole n) (fits, is) = rw (le-leb _ _ fits, is.is, is.long) (refl, refl)
-gives sentence old new (Short n) (long, short, kept) = rw (lt-leb _ _ short, long, kept) (refl, refl)
+gives : (Q : TooShort → Refusal → Type 0) → ((short : TooShort) (r : Refusal) → Q short r → r ≡ refused Text short.needed)
+    → (sentence old new : List ℕ) (fit : Result ℕ TooShort) (told : Result ℕ Refusal) → Fits fit sentence old new → Told Q fit told
+    → Gives told new (written sentence old)
+gives Q say sentence old new (Ok n) told (fits, is) e = rw (e, le-leb _ _ fits, is.is, is.long) (refl, refl)
+gives Q say sentence old new (Err short) (Err r) (long, below, kept) e = rw (say short r e, lt-leb _ _ below, long, kept) (refl, refl)
+gives Q say sentence old new (Err short) (Ok n) fits e = absurd e
 
 module _ (s : List ℕ) (number : ℕ) (text : List ℕ) where
   pub sentence_refused : {r : Refusal} → Err r ≡ having_block (reading_of s) number → Gives (Err r) text (sentence_answer s number text)
@@ -42,15 +44,9 @@ module _ (s : List ℕ) (number : ℕ) (text : List ℕ) where
           go true e = absurd cc
           go false e = let same : r ≡ refused Number 0 = cc in rw same (refl, refl)
 
-  pub sentence-given : (fit : Fit) (new : List ℕ) {sheet : Sheet} → reading_of s ≡ Ok sheet → number < sheet.blocks.count
-      → Fits fit (sentence_on s number) text new → Gives (told_by fit) new (sentence_answer s number text)
+  pub sentence-given : (fit : Result ℕ TooShort) (told : Result ℕ Refusal) (new : List ℕ) {sheet : Sheet} → reading_of s ≡ Ok sheet
+      → number < sheet.blocks.count → Fits fit (sentence_on s number) text new
+      → (Q : TooShort → Refusal → Type 0) → ((short : TooShort) (r : Refusal) → Q short r → r ≡ refused Text short.needed) → Told Q fit told
+      → Gives told new (sentence_answer s number text)
   unfolding sentence_answer
-  sentence-given fit new is there fits = rw (is, lt-ltb _ _ there) (gives (sentence_on s number) text new fit fits)
-
-  pub sentence-whole : {fit : Fit} {n : ℕ} (new : List ℕ) {sheet : Sheet} → fit ≡ Whole n → reading_of s ≡ Ok sheet → number < sheet.blocks.count
-      → Fits fit (sentence_on s number) text new → Gives (Ok n) new (sentence_answer s number text)
-  sentence-whole {fit} new whole is there fits = rw whole at (sentence-given fit new is there fits)
-
-  pub sentence-short : {fit : Fit} {n : ℕ} (new : List ℕ) {sheet : Sheet} → fit ≡ Short n → reading_of s ≡ Ok sheet → number < sheet.blocks.count
-      → Fits fit (sentence_on s number) text new → Gives (Err (refused Text n)) new (sentence_answer s number text)
-  sentence-short {fit} new short is there fits = rw short at (sentence-given fit new is there fits)
+  sentence-given fit told new is there fits Q say e = rw (is, lt-ltb _ _ there) (gives Q say (sentence_on s number) text new fit told fits e)

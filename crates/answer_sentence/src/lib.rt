@@ -4,7 +4,6 @@
 ghost use Rattle.answer_sentence.specs.Sentence.{sentence_answer, Gives};
 
 use refusal::{Fault, Refusal};
-use sentence_text::Fit;
 use sheet::code::Code;
 
 // Writes the sentence of the verdict on the block of that number, from 0, to the start of the text, and gives its length. A block without a verdict
@@ -15,8 +14,5 @@ pub fn block_sentence(s: &[u8], number: u64, text: &mut [u8]) -> Result<usize, R
     let mut addresses = [0; 2048];
     let mut places = [0; 2048];
     let code = Code::with_block(s, number, &mut addresses, &mut places)?;
-    match sentence_block::sentence_on(&code, number, text) {
-        Fit::Whole(n) => Ok(n),
-        Fit::Short(n) => Err(Fault::Text.at(n)),
-    }
+    sentence_block::sentence_on(&code, number, text).map_err(|short| Fault::Text.at(short.needed))
 }
