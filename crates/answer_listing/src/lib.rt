@@ -1,7 +1,7 @@
 // The listing: it takes any bytes and a borrowed list, refuses what reading refuses, and writes the lines by the rules.
 #![tactic(auto)]
 
-ghost use Rattle.std.specs.Prelude.{◌≡◌, ◌≤◌, length};
+ghost use Rattle.std.specs.Prelude.{◌≡◌, ◌≤◌, length, replicate};
 ghost use Rattle.sheet.specs.Sheet.{sheet_at};
 ghost use Rattle.sheet.specs.Index.{targets_of};
 ghost use Rattle.verdict_lines.specs.Slots.{lines_in};
@@ -27,6 +27,34 @@ fn write_lines(code: &Code, slots: &[u8], list: &mut [u8]) -> Result<u64, Refusa
     Ok(n)
 }
 
+// The listing with an index of the given lists, or none where the sheet has more records than they hold. The lists are as long as the slots, which hold
+// nothing.
+fn list_in(
+    s: &[u8],
+    addresses: &mut [u64],
+    places: &mut [u64],
+    nodes: &mut [u64],
+    room: &mut [u8],
+    list: &mut [u8],
+) -> Result<Option<u64>, Refusal>
+    requires lists { (length addresses.old ≡ length room.old) × (length places.old ≡ length room.old) }
+    requires empty { room.old ≡ replicate (length room.old) 0 }
+    requires few { (length room.old ≤ 2048) × (length nodes.old ≤ 1024) }
+    ensures { Attempted result (length room.old) (length nodes.old) s.now list.old list.new }
+{
+    let sheet = sheet::read_index(s, addresses, places, nodes)?;
+    if (room.len() as u64) < sheet.instructions.count {
+        return Ok(None);
+    }
+    if (nodes.len() as u64) < sheet.nodes.count {
+        return Ok(None);
+    }
+    let code = Code::new(s, sheet, addresses, places);
+    let slots = &mut room[..code.places.len()];
+    verdict_sheet::judge(&code, &nodes[..sheet.nodes.count as usize], slots)?;
+    Ok(Some(write_lines(&code, slots, list)?))
+}
+
 // The listing with an index of N instructions and M nodes, or none where the sheet has more.
 fn list_within<const N: usize, const M: usize>(
     s: &[u8],
@@ -38,18 +66,8 @@ fn list_within<const N: usize, const M: usize>(
     let mut addresses = [0; N];
     let mut places = [0; N];
     let mut nodes = [0; M];
-    let sheet = sheet::read_index(s, &mut addresses, &mut places, &mut nodes)?;
-    if (N as u64) < sheet.instructions.count {
-        return Ok(None);
-    }
-    if (M as u64) < sheet.nodes.count {
-        return Ok(None);
-    }
-    let code = Code::new(s, sheet, &addresses, &places);
     let mut room = [0; N];
-    let slots = &mut room[..code.places.len()];
-    verdict_sheet::judge(&code, &nodes[..sheet.nodes.count as usize], slots)?;
-    Ok(Some(write_lines(&code, slots, list)?))
+    list_in(s, &mut addresses, &mut places, &mut nodes, &mut room, list)
 }
 
 // The listing with an index for the largest sheet.
