@@ -1,6 +1,6 @@
 -- Evaluation is the run: whatever is free beside the values of the declared variables, a node's run has the outcome that its evaluation gives.
 -- Assumes nothing.
-use Rattle.std.specs.Prelude.{Option, Some, None}
+use Rattle.std.specs.Prelude.{Option, Some, None, Err}
 use Prim.Native.Nat.{ℕ, ◌≤◌}
 use mathlib.Core.Path.{◌≡◌, refl, sym, ap}
 use mathlib.Core.List.{List}
@@ -11,7 +11,6 @@ use Rattle.expr.specs.Scan.{plain_expr}
 use Rattle.sheet_node.specs.Node.{Node}
 use Rattle.sheet_node.proofs.Variables.{ReadsDeclared}
 use Rattle.value.specs.Run.{Choices, run}
-use Rattle.std.specs.Prelude.{Option, Some, None, Err}
 use Rattle.refusal.specs.declared.Fault.{Fault}
 use Rattle.refusal.specs.declared.Fault.TheVariants.{Division, NotPlain, Value}
 use Rattle.refusal.specs.declared.Refusal.{Refusal}

@@ -1,5 +1,5 @@
 -- Laws of plain statements and of fitting values.
-use Rattle.std.specs.Prelude.{Option}
+use Rattle.std.specs.Prelude.{Option, Some, None, Ok}
 use Prim.Native.Nat.{ℕ, suc, ◌+◌, ◌*◌, ◌≤◌, ◌<◌}
 use mathlib.Core.Path.{◌≡◌, refl, sym, ap, ◌∙◌}
 use mathlib.Core.List.{List, [], ◌∷◌, ◌++◌}
@@ -9,7 +9,6 @@ use native.Mathlib.Numerals.{add-one}
 use native.Mathlib.Nat.{zero-add}
 use lib.ListN.{length, get_or, drop, take, drop_of_length-le}
 use lib.Seq.{drop-cons, paste, take-length, length-take-le}
-use Rattle.std.specs.Prelude.{Some, None, Ok}
 use Rattle.sheet_node.proofs.Statements.{took-words, took-assigned}
 use Rattle.sheet_field.specs.Field.{Place, WentOn}
 use Rattle.expr.specs.Tree.{tree_of}
