@@ -186,8 +186,8 @@ module _ (said : List Said) where
       let p : 1 ≡ value = cc in let q : reason_number r ≡ reason = cc in (omega arith, rw (p, q))
   own_line i (Never r) lines value reason e =
       let p : 0 ≡ value = cc in let q : reason_number r ≡ reason = cc in (omega arith, rw (p, q))
-  own_line i Undecided lines value reason e = let z : ◌≡◌ {A = ℕ} 0 1 = cc in absurd (omega arith)
-  own_line i NoBranch lines value reason e = let z : ◌≡◌ {A = ℕ} 0 1 = cc in absurd (omega arith)
+  own_line i Undecided lines value reason e = cc
+  own_line i NoBranch lines value reason e = cc
 
   -- every instruction whose branch is decided has a line
   pub every : (code : List Instruction) (a value reason : ℕ) → Among a code → verdict_numbers (first_decided a said) ≡ decision value reason
@@ -290,8 +290,8 @@ module _ (s : List ℕ) (sheet : Sheet) (read : reading_of s ≡ Ok sheet) (give
       go : (v : Verdict) → Decided s l.site v → verdict_numbers v ≡ decision l.value l.reason → Due s l
       go (Always r) d e = by (Always r) d e
       go (Never r) d e = by (Never r) d e
-      go Undecided d e = let z : ◌≡◌ {A = ℕ} 0 1 = cc in absurd (omega arith)
-      go NoBranch d e = let z : ◌≡◌ {A = ℕ} 0 1 = cc in absurd (omega arith)
+      go Undecided d e = cc
+      go NoBranch d e = cc
 
   pub due-line : (l : Line) → Due s l → At said code l
   due-line l d =

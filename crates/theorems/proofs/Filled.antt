@@ -4,7 +4,6 @@ use mathlib.Core.Path.{◌≡◌, refl}
 use mathlib.Core.Logic.{◌↔◌}
 use mathlib.Core.Bool.{Bool, true, false}
 use mathlib.Core.List.{List, [], ◌∷◌}
-use native.Mathlib.Omega.{arith}
 use Rattle.isa.specs.declared.Register.{Register}
 use Rattle.isa.specs.declared.Condition.{Condition}
 use Rattle.isa.specs.declared.Condition.TheVariants.{E, Ne, L, Ge, Le, G, B, Ae, Be, A, S, Ns, P, Np, O, No}
@@ -158,5 +157,5 @@ pub empty-unknown : (s : State) (w : Why) (m : Mnemonic) → Filled s.flags w �
 empty-unknown s w m h = rw (← told-without s w m) (go (told-says s w m h))
   where
     go : {t : Told} → SaysSome t → (sentence_of t ≡ []) ↔ (without t ≡ None)
-    go (tells some) = (λ e. absurd (some e), λ e. let z : ◌≡◌ {A = ℕ} 0 1 = cc in absurd (omega arith))
+    go (tells some) = (λ e. absurd (some e), λ e. cc)
     go silent = (λ e. refl, λ e. refl)

@@ -31,8 +31,8 @@ Undeciding NoBranch = Unit {0}
 pub undeciding-none : (v : Verdict) {value reason : ℕ} → Undeciding v → verdict_numbers v ≡ decision value reason → ⊥
 undeciding-none (Always r) h e = h
 undeciding-none (Never r) h e = h
-undeciding-none Undecided h e = let z : ◌≡◌ {A = ℕ} 0 1 = cc in omega arith
-undeciding-none NoBranch h e = let z : ◌≡◌ {A = ℕ} 0 1 = cc in omega arith
+undeciding-none Undecided h e = cc
+undeciding-none NoBranch h e = cc
 
 or_later_lem : (v w u : Verdict) → or_later (or_later v w) u ≡ or_later v (or_later w u)
 or_later_lem (Always r) w u = refl

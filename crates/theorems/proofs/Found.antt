@@ -40,7 +40,7 @@ module _ {A : Type 0} where
   entry-is [] n d x e = none-some e
     where
       none-some : {X : Type 0} → none ≡ some x → X
-      none-some e = let z : ◌≡◌ {A = ℕ} 0 1 = cc in absurd (omega arith)
+      none-some e = cc
   entry-is (y ∷ l) zero d x e = cc
   entry-is (y ∷ l) (suc n) d x e = entry-is l n d x e
 
@@ -132,7 +132,7 @@ apart-joined (i ∷ before) last = ap (preceded i) (apart-joined before last)
 
 joined-apart : (l before : List Instruction) (last : Instruction) → apart l ≡ ending before last → l ≡ before ++ (last ∷ [])
 unfolding apart
-joined-apart [] before last e = let z : ◌≡◌ {A = ℕ} 0 1 = cc in absurd (omega arith)
+joined-apart [] before last e = cc
 joined-apart (i ∷ l) before last e = go (apart l) refl e (λ b k is. joined-apart l b k is)
   where
     parts_same : {a b : List Instruction} {x y : Instruction} → ending a x ≡ ending b y → (a ≡ b) × (x ≡ y)
@@ -147,15 +147,15 @@ joined-apart (i ∷ l) before last e = go (apart l) refl e (λ b k is. joined-ap
         none_left (j ∷ m) q = absurd (some_left (apart m) q)
           where
             some_left : (parts : Parts) → preceded j parts ≡ no_instruction → ⊥
-            some_left no_instruction q = let z : ◌≡◌ {A = ℕ} 0 1 = cc in omega arith
-            some_left (ending b k) q = let z : ◌≡◌ {A = ℕ} 0 1 = cc in omega arith
+            some_left no_instruction q = cc
+            some_left (ending b k) q = cc
     go (ending b k) is e rest = let s = parts_same e in rw (← s.0, ← s.1) (ap (λ (m : List Instruction). i ∷ m) (rest b k is))
 
 -- ---- the instruction at an address
 
 branch-found : (l : List Instruction) (a : ℕ) → branch_at l a ≡ true → (i : Instruction) × In i l × (i.branch ≡ true) × (i.address ≡ a)
 unfolding branch_at In
-branch-found [] a e = let z : ◌≡◌ {A = ℕ} 0 1 = cc in absurd (omega arith)
+branch-found [] a e = cc
 branch-found (i ∷ l) a e =
     by_test (eqb i.address a)
     (λ t. (i, inl refl, rw t at e, eqb-true i.address a t))
@@ -178,7 +178,7 @@ no-branch code [] e b h is = h
 no-branch code (a ∷ l) e b h is = go (last_branch code l) refl e (λ rest later. no-branch code l rest b later is)
   where
     some-none : {x : ℕ} → some x ≡ none → ⊥
-    some-none e = let z : ◌≡◌ {A = ℕ} 0 1 = cc in omega arith
+    some-none e = cc
 
     go : (o : Option ℕ) → last_branch code l ≡ o → unless_later (cond (branch_at code a) (some a) none) o ≡ none
         → (last_branch code l ≡ none → In b l → ⊥) → ⊥

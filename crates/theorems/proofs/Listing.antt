@@ -105,10 +105,10 @@ data Case (s list : List ℕ) (r : Listing) : Type 0 where
       → Case s list r
 
 verdict-no-refusal : (v : Verdict) {number place : ℕ} → verdict_numbers v ≡ refused number place → ⊥
-verdict-no-refusal (Always r) e = let z : ◌≡◌ {A = ℕ} 0 1 = cc in omega arith
-verdict-no-refusal (Never r) e = let z : ◌≡◌ {A = ℕ} 0 1 = cc in omega arith
-verdict-no-refusal Undecided e = let z : ◌≡◌ {A = ℕ} 0 1 = cc in omega arith
-verdict-no-refusal NoBranch e = let z : ◌≡◌ {A = ℕ} 0 1 = cc in omega arith
+verdict-no-refusal (Always r) e = cc
+verdict-no-refusal (Never r) e = cc
+verdict-no-refusal Undecided e = cc
+verdict-no-refusal NoBranch e = cc
 
 judged : (s : List ℕ) (sheet : Sheet) → reading_of s ≡ Ok sheet → (n : ℕ) → n ≤ sheet.nodes.count
     → ((k : ℕ) → k < n → Given s k) → Judged s sheet n
@@ -180,7 +180,7 @@ listing-case s small list = go (reading_of s) refl
 -- ---- refusals exclude each other, and lines
 
 accepted-refused : {X : Type 0} (s : List ℕ) {sheet : Sheet} {r : Refusal} → reading_of s ≡ Ok sheet → reading_of s ≡ Err r → X
-accepted-refused s e f = let q = sym e ∙ f in let z : ◌≡◌ {A = ℕ} 0 1 = cc in absurd (omega arith)
+accepted-refused s e f = let q = sym e ∙ f in cc
 
 same-sheet : (s : List ℕ) {a b : Sheet} → reading_of s ≡ Ok a → reading_of s ≡ Ok b → a ≡ b
 same-sheet s {a} {b} e f = let q = sym e ∙ f in cc
@@ -228,7 +228,7 @@ no-reason s list after sheet count j h (no_room sheet' j' count' line due short)
     omega (arith, few, short, h.room)
 
 lines-refused : {X : Type 0} {count number place : ℕ} → lines count ≡ refused_listing number place → X
-lines-refused e = let z : ◌≡◌ {A = ℕ} 0 1 = cc in absurd (omega arith)
+lines-refused e = cc
 
 -- ---- the theorems, for any bytes
 

@@ -76,7 +76,7 @@ held_same : {a b : Expr} → held a ≡ held b → a ≡ b
 held_same e = cc
 
 not_free : {X : Type 0} {a : Expr} → free ≡ held a → X
-not_free e = let z : ◌≡◌ {A = ℕ} 0 1 = cc in absurd (omega arith)
+not_free e = cc
 
 fitting-assigned : (v : ℕ) (e : Expr) (h : Table) → FittingTable h → Fitting e → FittingTable (assigned v e h)
 unfolding assigned kept
@@ -104,7 +104,7 @@ into-same : {a b : Expr} → into a ≡ into b → a ≡ b
 into-same q = cc
 
 too_long_lem : {X : Type 0} {a : Expr} → too_long ≡ into a → X
-too_long_lem q = let z : ◌≡◌ {A = ℕ} 0 1 = cc in absurd (omega arith)
+too_long_lem q = cc
 
 fitting-result : (statements : List Statement) → FittingAll statements → (h : Table) → FittingTable h → (c result : Expr) → Fitting c
     → substituted h statements c ≡ into result → Fitting result
@@ -201,15 +201,15 @@ numbered-fair s sheet small read number = go (dec_lt number (length (sheet_at s)
 numbers-meet : (v : Verdict) (value reason : ℕ) (went : Bool) → verdict_numbers v ≡ decision value reason
     → Meets v (cond went (Some true) (Some false)) → value ≡ cond went 1 0
 numbers-meet (Always r) value reason true e h = cc
-numbers-meet (Always r) value reason false e h = let z : ◌≡◌ {A = ℕ} 0 1 = cc in absurd (omega arith)
-numbers-meet (Never r) value reason true e h = let z : ◌≡◌ {A = ℕ} 0 1 = cc in absurd (omega arith)
+numbers-meet (Always r) value reason false e h = cc
+numbers-meet (Never r) value reason true e h = cc
 numbers-meet (Never r) value reason false e h = cc
-numbers-meet Undecided value reason went e h = let z : ◌≡◌ {A = ℕ} 0 1 = cc in absurd (omega arith)
-numbers-meet NoBranch value reason went e h = let z : ◌≡◌ {A = ℕ} 0 1 = cc in absurd (omega arith)
+numbers-meet Undecided value reason went e h = cc
+numbers-meet NoBranch value reason went e h = cc
 
 some-outcome : (went : Bool) (t : Option Bool) → t ≡ cond went (Some true) (Some false) → t ≡ None → ⊥
-some-outcome true t is none = let z : ◌≡◌ {A = ℕ} 0 1 = cc in omega arith
-some-outcome false t is none = let z : ◌≡◌ {A = ℕ} 0 1 = cc in omega arith
+some-outcome true t is none = cc
+some-outcome false t is none = cc
 
 -- The theorem: no run of a node goes against a decision on it.
 pub node-runs : (s : List ℕ) → Bytes s → (number value reason : ℕ) → node_answer s number ≡ decision value reason
@@ -246,13 +246,13 @@ node-decided s number equal a b is differ e = go (reading_of s) e
     c = binary (cond equal op_equal op_not_equal) a b
 
     not-undecided : {k at : ℕ} → refused k at ≡ undecided → ⊥
-    not-undecided e = let z : ◌≡◌ {A = ℕ} 0 1 = cc in omega arith
+    not-undecided e = cc
 
     verdict-undecided : (v : Verdict) → verdict_numbers v ≡ undecided → v ≡ Undecided
-    verdict-undecided (Always r) e = let z : ◌≡◌ {A = ℕ} 0 1 = cc in absurd (omega arith)
-    verdict-undecided (Never r) e = let z : ◌≡◌ {A = ℕ} 0 1 = cc in absurd (omega arith)
+    verdict-undecided (Always r) e = cc
+    verdict-undecided (Never r) e = cc
     verdict-undecided Undecided e = refl
-    verdict-undecided NoBranch e = let z : ◌≡◌ {A = ℕ} 0 1 = cc in absurd (omega arith)
+    verdict-undecided NoBranch e = cc
 
     on : (t : Bool) → answer_numbers (cond t (Ok (decide c)) (Err (refusal Terms (node_place s number)))) ≡ undecided → ⊥
     on true e = decided equal a b differ (verdict-undecided (decide c) e)

@@ -145,7 +145,7 @@ unfolding evaluation_answer
 outcome-bit s number values value e = go (reading_of s) e
   where
     refused-outcome : {X : Type 0} {k at : ℕ} → refused k at ≡ outcome value → X
-    refused-outcome e = let z : ◌≡◌ {A = ℕ} 0 1 = cc in absurd (omega arith)
+    refused-outcome e = cc
 
     bit : (a : Evaluation) → in_numbers a ≡ outcome value → value ≤ 1
     bit (Ok true) e = let is : 1 ≡ value = cc in omega (arith, is)

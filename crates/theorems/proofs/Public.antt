@@ -6,7 +6,6 @@ use mathlib.Core.Path.{◌≡◌, refl, sym, subst, ◌∙◌}
 use mathlib.Core.List.{List}
 use mathlib.Core.Logic.{◌↔◌}
 use mathlib.Core.Bool.{Bool, true, false, cond}
-use native.Mathlib.Omega.{arith}
 use borrow.Author.Tests.{ltb-true, lt-ltb}
 use lib.Dec.{ltb}
 use Rattle.std.specs.Prelude.{Ok, Err}
@@ -53,11 +52,11 @@ decided-by s number value reason e = go (reading_of s) refl e
 
 against : (v : Verdict) (value reason : ℕ) (went : Bool) → verdict_numbers v ≡ decision value reason → NotAgainst v (jumped went) → value ≡ cond went 1 0
 against (verdict.Always r) value reason true e h = cc
-against (verdict.Always r) value reason false e h = let z : ◌≡◌ {A = ℕ} 0 1 = cc in absurd (omega arith)
-against (verdict.Never r) value reason true e h = let z : ◌≡◌ {A = ℕ} 0 1 = cc in absurd (omega arith)
+against (verdict.Always r) value reason false e h = cc
+against (verdict.Never r) value reason true e h = cc
 against (verdict.Never r) value reason false e h = cc
-against verdict.Undecided value reason went e h = let z : ◌≡◌ {A = ℕ} 0 1 = cc in absurd (omega arith)
-against verdict.NoBranch value reason went e h = let z : ◌≡◌ {A = ℕ} 0 1 = cc in absurd (omega arith)
+against verdict.Undecided value reason went e h = cc
+against verdict.NoBranch value reason went e h = cc
 
 -- The theorem: no run of a block goes against a decision on it.
 pub block_runs : (s : List ℕ) (number value reason : ℕ) → block_answer s number ≡ decision value reason
@@ -83,8 +82,8 @@ saying-is : (v : Verdict) (b : Bool) → verdict_numbers v ≡ decision (cond b 
 saying-is v b e = same-verdict (answers-apart (Ok v) (Ok (saying b)) (e ∙ sym (saying-said b)))
 
 not-saying : {X : Type 0} (b : Bool) → verdict.NoBranch ≡ saying b → X
-not-saying true e = let z : ◌≡◌ {A = ℕ} 0 1 = cc in absurd (omega arith)
-not-saying false e = let z : ◌≡◌ {A = ℕ} 0 1 = cc in absurd (omega arith)
+not-saying true e = cc
+not-saying false e = cc
 
 -- what is known at a block's end
 ends_on : (s : List ℕ) (sheet : Sheet) → reading_of s ≡ Ok sheet → (number : ℕ) (before : List Instruction) (last : Instruction)

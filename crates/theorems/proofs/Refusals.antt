@@ -42,7 +42,7 @@ unfolding node_verdict
 own-number n place {r} e = go (with_assignments n.statements n.condition) e
   where
     on : (b : Bool) (v : Verdict) → cond b (Ok v) (Err (refusal Terms place)) ≡ Err r → (10 ≤ number_of r.fault) × (number_of r.fault ≤ 11)
-    on true v e = let z : ◌≡◌ {A = ℕ} 0 1 = cc in absurd (omega arith)
+    on true v e = cc
     on false v e = let same = answer-number e in (omega (arith, same), omega (arith, same))
 
     go : (d : Substituted) → on_substituted place d ≡ Err r → (10 ≤ number_of r.fault) × (number_of r.fault ≤ 11)
@@ -56,10 +56,10 @@ record RefusedAs (a : Answer) (k : ℕ) : Type 0 where
   number : number_of by.fault ≡ k
 
 as-refused : (a : Answer) {k at : ℕ} → answer_numbers a ≡ refused k at → RefusedAs a k
-as-refused (Ok (Always r)) e = let z : ◌≡◌ {A = ℕ} 0 1 = cc in absurd (omega arith)
-as-refused (Ok (Never r)) e = let z : ◌≡◌ {A = ℕ} 0 1 = cc in absurd (omega arith)
-as-refused (Ok Undecided) e = let z : ◌≡◌ {A = ℕ} 0 1 = cc in absurd (omega arith)
-as-refused (Ok NoBranch) e = let z : ◌≡◌ {A = ℕ} 0 1 = cc in absurd (omega arith)
+as-refused (Ok (Always r)) e = cc
+as-refused (Ok (Never r)) e = cc
+as-refused (Ok Undecided) e = cc
+as-refused (Ok NoBranch) e = cc
 as-refused (Err r) e = record { by = r; is = refl; number = cc }
 
 abbrev ByNode : ℕ → Type 0
@@ -85,7 +85,7 @@ listing-same : {a b k at : ℕ} → refused_listing a b ≡ refused_listing k at
 listing-same e = cc
 
 not-lines : {X : Type 0} {count k at : ℕ} → lines count ≡ refused_listing k at → X
-not-lines e = let z : ◌≡◌ {A = ℕ} 0 1 = cc in absurd (omega arith)
+not-lines e = cc
 
 -- A listing is refused as 1 to 12.
 pub listing-number : (s list : List ℕ) {k at : ℕ} → (listing_of s list).answer ≡ refused_listing k at → (1 ≤ k) × (k ≤ 12)

@@ -114,7 +114,7 @@ sentence-case s block text = go (reading_of s) refl
     go (Ok sheet) e = there sheet e (ltb block sheet.blocks.count) refl
 
 long-refused : {X : Type 0} {n number place : ℕ} → long n ≡ refused number place → X
-long-refused e = let z : ◌≡◌ {A = ℕ} 0 1 = cc in absurd (omega arith)
+long-refused e = cc
 
 same-long : {m n : ℕ} → long m ≡ long n → m ≡ n
 same-long e = cc
@@ -148,10 +148,10 @@ sentence-decided s block text = (λ e. there e (sentence-case s block text), λ 
     said v (inr e) = inr (ap verdict_numbers e)
 
     open-verdict : (v : Verdict) → NoVerdict (verdict_numbers v) → Open v
-    open-verdict (Always r) (inl e) = let z : ◌≡◌ {A = ℕ} 0 1 = cc in absurd (omega arith)
-    open-verdict (Always r) (inr e) = let z : ◌≡◌ {A = ℕ} 0 1 = cc in absurd (omega arith)
-    open-verdict (Never r) (inl e) = let z : ◌≡◌ {A = ℕ} 0 1 = cc in absurd (omega arith)
-    open-verdict (Never r) (inr e) = let z : ◌≡◌ {A = ℕ} 0 1 = cc in absurd (omega arith)
+    open-verdict (Always r) (inl e) = cc
+    open-verdict (Always r) (inr e) = cc
+    open-verdict (Never r) (inl e) = cc
+    open-verdict (Never r) (inr e) = cc
     open-verdict Undecided o = inl refl
     open-verdict NoBranch o = inr refl
 
@@ -164,8 +164,8 @@ sentence-decided s block text = (λ e. there e (sentence-case s block text), λ 
 
     refused-open : {number place : ℕ} → block_answer s block ≡ refused_block number place
         → NoVerdict (block_answer s block) → ⊥
-    refused-open e (inl f) = let q = sym e ∙ f in let z : ◌≡◌ {A = ℕ} 0 1 = cc in omega arith
-    refused-open e (inr f) = let q = sym e ∙ f in let z : ◌≡◌ {A = ℕ} 0 1 = cc in omega arith
+    refused-open e (inl f) = let q = sym e ∙ f in cc
+    refused-open e (inr f) = let q = sym e ∙ f in cc
 
     empty : {sheet : Sheet} → reading_of s ≡ Ok sheet → block < sheet.blocks.count
         → NoVerdict (block_answer s block) → sentence_on s block ≡ []
