@@ -37,7 +37,7 @@ ValidOperand (reg r) = ValidRegister r
 ValidOperand (imm v) = v < 256 ^ 8
 ValidOperand mem = Unit {0}
 
--- Ok most 8 written registers. (S11)
+-- At most 8 written registers. (S11)
 pub record ValidRegisters (l : List Register) : Type 0 where
   pub few : length l ≤ 8
   pub each : All ValidRegister l

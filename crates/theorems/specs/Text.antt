@@ -1,5 +1,5 @@
 -- What the listing program writes, said a second time: the text of a listing's answer and of the lines in its list, and whole inputs with their
--- texts, worked out by hand.
+-- texts, worked out by hand. `codes` of std gives a text's characters by number, which in ASCII are its bytes.
 use Rattle.std.specs.Prelude.{ℕ, zero, suc, ◌/◌, ◌%◌, List, [], ◌∷◌, ◌++◌, get_or}
 use Prim.Native.String.{String}
 use Rattle.verdict_lines.specs.Lines.{Line}
