@@ -46,8 +46,8 @@ module _ {E : Type 0} (place : ℕ) (e : Expr) {d : Result Verdict E} (t : E) (i
       by true q = cc
       by false q = refl
 
-pub variables-few : (s : List ℕ) (at : ℕ) → WentOn (node_at s (Ok at)).next → (node_at s (Ok at)).variables ≤ 32
-variables-few s at on = let whole = whole-node s (Ok at) on.1 in omega (arith, whole.few, whole.counted)
+pub variables_few : (s : List ℕ) (at : ℕ) {front : NodeFront} → WentOn (node_at s (Ok at)).next → front ≡ front_of (node_at s (Ok at)) → front.variables ≤ 32
+variables_few s at {front} on front-is = let whole = whole-node s (Ok at) on.1 in omega (arith, whole.few, whole.counted, ap (λ (f : NodeFront). f.variables) front-is)
 
 -- for the start of a node that was read whole
 module _ (s : List ℕ) (at : ℕ) (on : WentOn (node_at s (Ok at)).next) {front : NodeFront} (front-is : front ≡ front_of (node_at s (Ok at))) where

@@ -86,6 +86,7 @@ fn verdict_plain(s: &[u8], at: usize, front: NodeFront) -> Result<JudgedNode, Re
 }
 
 // The answer for the node that starts at a byte, in a sheet where it was read whole.
+#[tactic(auto, using(crate::proofs::Judged::variables_few))]
 pub fn verdict_at(s: &[u8], at: usize) -> Result<JudgedNode, Refusal>
     requires { WentOn (node_at s.now (Ok at)).next }
     ensures { JudgedIs result s.now (node_at s.now (Ok at)) at }

@@ -83,17 +83,6 @@ module _ (code : List Instruction) (l : List ℕ) (a : ℕ) (jump : Option ℕ) 
   pub jump-more : {r : Option ℕ} → r ≡ if_branch code (place_of (addresses_of code) a) jump → SiteIs code r (last_branch code (l ++ (a ∷ [])))
   jump-more is = rw is (by_place (place_of (addresses_of code) a) refl)
 
--- the cases of looking an address up
-module _ (addresses : List ℕ) (code : List Instruction) (address : ℕ) (otherwise : Option ℕ) {p : Option ℕ} (p-is : p ≡ place_of addresses address) where
-  pub branch-here : {k : ℕ} → p ≡ Some k → get_or (branches_of code) k false ≡ true → Some k ≡ if_branch code (place_of addresses address) otherwise
-  branch-here at mark = rw (← p-is, at, mark)
-
-  pub other-here : {k : ℕ} → p ≡ Some k → get_or (branches_of code) k false ≡ false → otherwise ≡ if_branch code (place_of addresses address) otherwise
-  other-here at mark = rw (← p-is, at, mark)
-
-  pub nothing-here : p ≡ None → otherwise ≡ if_branch code (place_of addresses address) otherwise
-  nothing-here nowhere = rw (← p-is, nowhere)
-
 -- the loop over a node's addresses, which were read whole
 module _ (s : List ℕ) (sites n : ℕ) (on : WentOn (addresses_from s (Ok sites) n).next) where
   -- where an address stands

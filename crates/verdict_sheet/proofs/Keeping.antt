@@ -6,8 +6,7 @@ use mathlib.Core.Bool.{Bool, true, false, cond}
 use mathlib.Core.Option.{Option as Site}
 use native.Mathlib.Omega.{arith}
 use lib.Dec.{eqb}
-use lib.ListN.{length, get_or, set, length-map}
-use lib.Seq.{set-get_or}
+use lib.ListN.{length, get_or, length-map}
 use borrow.Author.Tests.{eq-eqb, ne_eqb}
 use Rattle.isa.specs.declared.Instruction.{Instruction}
 use Rattle.verdict.specs.declared.Verdict.{Verdict}
@@ -114,11 +113,3 @@ module _ (code : List Instruction) {addresses : List ℕ} (up : Ascending addres
 
   pub block-silent : at ≡ None → after ≡ slots → after ≡ slots_of code (said ++ saying site w)
   block-silent at-is after_is = keep-saying code (rw (← are) up) w said None site (rw at-is at there) after_is is
-
--- where a verdict is kept already, keeping another changes nothing
-pub kept-already : (slots : List ℕ) (number : ℕ) (v : Verdict) → (get_or slots number 0 ≡ 0 → ⊥) → slots ≡ kept slots number v
-kept-already slots number v some = go (get_or slots number 0) refl
-  where
-    go : (x : ℕ) → get_or slots number 0 ≡ x → slots ≡ set slots number (kept_slot x (slot_of v))
-    go zero is = absurd (some is)
-    go (suc x) is = rw (← is) (sym (set-get_or slots number 0))

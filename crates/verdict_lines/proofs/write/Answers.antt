@@ -40,10 +40,6 @@ loop-i-preserved c =
     let more = decided-more slots i (omega (arith, below)) in
     (write-more sites targets slots i at list (omega (arith, below, each.each_site)) (omega (arith, below, each.each_target)) (omega (arith, below)) next put c.loop-i.invariant.0, (omega (arith, next, c.loop-i.invariant.1.0, long, more), long ∙ c.loop-i.invariant.1.1))
 
-pub shape_of-list : goal.shape_of-list
-shape_of-list c =
-    c.loop-i.invariant.1.1
-
 pub returns : goal.returns
 returns c =
     write_done c.args.code.now.addresses.now (targets_of (sheet_at c.args.code.now.bytes.now).instructions.list) c.args.slots.now c.loop-i.i c.loop-i.at c.loop-i.list (omega (arith, c.requires.each_site)) c.loop-i.invariant.0

@@ -5,7 +5,7 @@ use Rattle.expr.specs.Tree.{tree_of}
 use Rattle.substitution.specs.Substitution.{into}
 use Rattle.verdict_node.specs.NodeVerdict.{on_substituted}
 use Rattle.verdict_node.proofs.Judged.{plain-on, plain-few, plain-words, plain-sites, judged-plain}
-use Rattle.std.proofs.Common.{rules, length}
+use Rattle.std.proofs.Common.{rules}
 use Rattle.verdict_node.proofs.verdict_plain.Goals as goal
 
 pub expression_at-e-requires : goal.expression_at-e-requires
@@ -32,11 +32,6 @@ pub new-requires : goal.new-requires
 new-requires c =
     let f = c.requires.front_value in
     (plain-words c.args.s.now c.args.at c.requires.went_on f.0 f.1 c.expression_at-e.ensures).0
-
-pub judge-requires-clause-few : goal.judge-requires-clause-few
-judge-requires-clause-few c =
-    let f = c.requires.front_value in
-    omega (arith, ap length c.new.ensures, (plain-words c.args.s.now c.args.at c.requires.went_on f.0 f.1 c.expression_at-e.ensures).1)
 
 pub judge-requires-clause-inside : goal.judge-requires-clause-inside
 judge-requires-clause-inside c =

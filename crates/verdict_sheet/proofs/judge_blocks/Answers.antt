@@ -1,12 +1,10 @@
 use lib.ListN.{length}
-use mathlib.Core.List.{[]}
 use mathlib.Core.Path.{sym, ap, ◌∙◌}
-use native.Mathlib.Omega.{arith}
 use Rattle.sheet.specs.Sheet.{sheet_at}
 use Rattle.sheet.proofs.InCode.{code-addresses}
 use Rattle.verdict_sheet.specs.Said.{blocks_say}
 use Rattle.verdict_sheet.proofs.Keeping.{slots_length}
-use Rattle.verdict_sheet.proofs.Order.{blocks-done, blocks-none, blocks_more}
+use Rattle.verdict_sheet.proofs.Order.{blocks-none, blocks_more}
 use Rattle.verdict_sheet.proofs.judge_blocks.Goals as goal
 
 pub loop-i-init : goal.loop-i-init
@@ -23,13 +21,3 @@ pub loop-i-preserved : goal.loop-i-preserved
 loop-i-preserved c =
     let s = c.args.code.now.bytes.now in
     blocks_more s (sheet_at s).instructions.list c.loop-i.i (c.judge_block-guess.ensures (blocks_say s c.loop-i.i) c.loop-i.invariant)
-
-pub shape_of-slots : goal.shape_of-slots
-shape_of-slots c =
-    let s = c.args.code.now.bytes.now in
-    ap length c.loop-i.invariant ∙ slots_length (sheet_at s).instructions.list (blocks_say s c.loop-i.i) ∙ sym (ap length c.requires ∙ slots_length (sheet_at s).instructions.list [])
-
-pub returns : goal.returns
-returns c =
-    let s = c.args.code.now.bytes.now in
-    blocks-done s (sheet_at s).instructions.list (omega (arith, c.loop-i-test.false)) c.loop-i.invariant
