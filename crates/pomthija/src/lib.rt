@@ -73,5 +73,8 @@ pub fn pomthija_listing(s: &[u8], list: &mut [u8], out: &mut u64) -> u64
 pub fn pomthija_evaluation(s: &[u8], number: u64, values: &[u64], out: &mut u64) -> u64
     ensures { Returned result out.new (evaluation_answer s.now number values.now) }
 {
-    hand_out(answer_evaluation::evaluation(s, number, values).map(u64::from), out)
+    hand_out(
+        answer_evaluation::evaluation(s, number, values).map(u64::from),
+        out,
+    )
 }
