@@ -203,3 +203,18 @@ code-on limit s p e = let w = (code-at limit s p e).whole in (w.from, w.there)
 
 pub count-on : (least most : ℕ) (s : List ℕ) (p : Place) {a : ℕ} → (count_at least most s p).next ≡ Ok a → WentOn p
 count-on least most s p e = let w = (count_at_lem least most s p e).whole in (w.from, w.there)
+
+-- a check of a field that was read, and of one that was refused
+pub checked-taken : {ok : Bool} (fault : Fault) (at : ℕ) (f : FieldReading) {b : ℕ} → ok ≡ true → Ok b ≡ f.next
+    → (Ok b ≡ (check_field ok fault at f).next) × (f.value ≡ (check_field ok fault at f).value)
+unfolding check_field
+checked-taken fault at f o e = rw (o, ← e) (refl, refl)
+
+pub checked-failed : {ok : Bool} (fault : Fault) (at : ℕ) (f : FieldReading) {b : ℕ} → ok ≡ false → Ok b ≡ f.next
+    → Err (refused fault at) ≡ (check_field ok fault at f).next
+unfolding check_field
+checked-failed fault at f o e = rw (o, ← e) refl
+
+pub checked-stays : (ok : Bool) (fault : Fault) (at : ℕ) (f : FieldReading) {r : Refusal} → Err r ≡ f.next → Err r ≡ (check_field ok fault at f).next
+unfolding check_field
+checked-stays ok fault at f e = rw (← e) refl

@@ -2,8 +2,9 @@
 // way.
 #![tactic(auto)]
 
-ghost use Rattle.std.specs.Prelude.{◌≡◌, ◌+◌, ◌≤◌, length, Ok, ℕ, Bool};
+ghost use Rattle.std.specs.Prelude.{◌≡◌, ◌+◌, ◌≤◌, length, Ok, ℕ, Bool, IfOk};
 ghost use Rattle.sheet_field.specs.Field.{little, field_at, Answers, tested_at, code_at, count_at, answer_of};
+ghost use Rattle.sheet_field.specs.Reads.{Reads};
 
 use refusal::{Fault, Refusal};
 
@@ -74,4 +75,67 @@ pub fn count(s: &[u8], at: usize, least: u64, most: u64) -> Result<Field, Refusa
     ensures { result ≡ answer_of (count_at least most s.now (Ok at)) }
 {
     take_checked::<2, _>(s, at, Fault::Count, |x| (least <= x) & (x <= most))
+}
+
+// The bytes of a sheet, and the offset that reading has come to. After a refusal that offset means nothing.
+#[derive(Drop)]
+pub struct Reader<'a> {
+    pub bytes: &'a [u8],
+    pub at: usize,
+}
+
+impl<'a> Reader<'a> {
+    pub fn new(bytes: &'a [u8], at: usize) -> Reader<'a>
+        ensures bytes { result.bytes.now ≡ bytes.entry.now }
+        ensures at { result.at ≡ at }
+    {
+        Reader { bytes, at }
+    }
+
+    // A field of N bytes.
+    pub fn take_field<const N: usize>(&mut self) -> Result<u64, Refusal>
+        requires { N ≤ 8 }
+        ensures reads { Reads self.old self.new result (field_at N self.old.bytes.now (Ok self.old.at)).next }
+        ensures value { IfOk result (λ x. x ≡ (field_at N self.old.bytes.now (Ok self.old.at)).value) }
+    {
+        let at = self.at;
+        if at <= self.bytes.len() && N <= self.bytes.len() - at {
+            self.at = at + N;
+            Ok(number::<N>(self.bytes, at))
+        } else {
+            Err(Fault::Ends.at(at))
+        }
+    }
+
+    // A field of N bytes that passes the check.
+    pub fn take_checked<const N: usize, F: Fn(u64) -> bool>(
+        &mut self,
+        fault: Fault,
+        check: F,
+    ) -> Result<u64, Refusal>
+        requires width { N ≤ 8 }
+        requires callable { F.IsAlwaysCallable check }
+        ensures reads { (test : ℕ → Bool) → Answers (F.post check) test → Reads self.old self.new result (tested_at N test fault self.old.bytes.now (Ok self.old.at)).next }
+        ensures value { (test : ℕ → Bool) → Answers (F.post check) test → IfOk result (λ x. x ≡ (tested_at N test fault self.old.bytes.now (Ok self.old.at)).value) }
+    {
+        let at = self.at;
+        let x = self.take_field::<N>()?;
+        if check(x) { Ok(x) } else { Err(fault.at(at)) }
+    }
+
+    // A code byte below its table's end.
+    pub fn code(&mut self, limit: u64) -> Result<u64, Refusal>
+        ensures reads { Reads self.old self.new result (code_at limit self.old.bytes.now (Ok self.old.at)).next }
+        ensures value { IfOk result (λ x. x ≡ (code_at limit self.old.bytes.now (Ok self.old.at)).value) }
+    {
+        self.take_checked::<1, _>(Fault::Code, |x| x < limit)
+    }
+
+    // A count from least to most.
+    pub fn count(&mut self, least: u64, most: u64) -> Result<u64, Refusal>
+        ensures reads { Reads self.old self.new result (count_at least most self.old.bytes.now (Ok self.old.at)).next }
+        ensures value { IfOk result (λ x. x ≡ (count_at least most self.old.bytes.now (Ok self.old.at)).value) }
+    {
+        self.take_checked::<2, _>(Fault::Count, |x| (least <= x) & (x <= most))
+    }
 }
