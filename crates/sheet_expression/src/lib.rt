@@ -120,7 +120,8 @@ fn checked_type(tag: u64, types: &[u8], a: u64, b: u64) -> u64
         expr::EFFECT | expr::LOAD | expr::CAST => n,
         expr::BINARY => operator_type(n, a, b),
         expr::TERNARY => together(a, b),
-        _ => expr::SIGNED_32,
+        expr::TRUE | expr::FALSE => expr::SIGNED_32,
+        _ => unreachable!(),
     }
 }
 
