@@ -1,6 +1,6 @@
 -- Laws of one record: its argument is small, and the record from its parts.
 use Prim.Native.Nat.{ℕ, ◌≤◌}
-use mathlib.Core.Path.{◌≡◌, refl, ap}
+use mathlib.Core.Path.{◌≡◌, refl}
 use mathlib.Core.Logic.{◌⊎◌, inl, inr, ⊎_elim}
 use mathlib.Core.List.{List}
 use mathlib.Core.Bool.{Bool, true, false, ◌&&◌, ◌||◌}
@@ -8,10 +8,8 @@ use lib.Dec.{leb, ltb, eqb}
 use native.Mathlib.Omega.{arith}
 use borrow.Author.Tests.{ltb-true, eqb-true}
 use Rattle.refusal.specs.declared.Fault.TheVariants.{Code}
-use Rattle.sheet_field.specs.Field.{Place, FieldReading, field_at, start_of, code_at, answer_of}
-use Rattle.sheet_field.specs.declared.Field.{Field}
-use Rattle.sheet_field.proofs.Fields.{check-below, code-at, answer_ok}
-use Rattle.std.specs.Prelude.{Ok}
+use Rattle.sheet_field.specs.Field.{Place, field_at, start_of}
+use Rattle.sheet_field.proofs.Fields.{check-below}
 use Rattle.sheet_expression.specs.Expression.{has_argument, argument_ok, argument_at}
 use Rattle.laws.proofs.Booleans.{and_both}
 

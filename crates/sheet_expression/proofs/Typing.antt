@@ -13,7 +13,7 @@ use Rattle.sheet_field.specs.Field.{Place, field_at, start_of, code_at, count_at
 use Rattle.sheet_field.specs.Reads.{Reads}
 use Rattle.sheet_field.proofs.Fields.{judge-at, check-at, code-at, count_most}
 use Rattle.sheet_field.proofs.Counted.{stays}
-use Rattle.expr.specs.Tree.{parse, tree_of, Wf, arity_of, push}
+use Rattle.expr.specs.Tree.{parse, tree_of, arity_of, push}
 use Rattle.expr.specs.Types.{record_type, type_of}
 use Rattle.expr.proofs.Laws.{kind-of, argument-of, parse-snoc, wf-parse}
 use Rattle.expr.proofs.Stack.{Held, held-push}

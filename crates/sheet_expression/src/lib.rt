@@ -163,18 +163,26 @@ fn check_record(
     Ok(CheckedRecord { tag, depth: after })
 }
 
+// The types of a node's variables.
+#[derive(Clone, Copy)]
+pub struct Types<'a> {
+    pub bytes: &'a [u8],
+    ghost few: { length bytes.now ≤ 32 },
+    ghost in_table: { InTable bytes.now },
+}
+
 // The type of an expression, which is checked in one pass, with the types of the trees that are complete so far on a stack.
-pub fn check_expression(r: &mut Reader, types: &[u8]) -> Result<u64, Refusal>
-    requires { (length types.now ≤ 32) × InTable types.now }
-    ensures reads { Reads r.old r.new result (expression_at (length types.now) r.old.bytes.now (Ok r.old.at)).next }
-    ensures typing { IfOk result (λ t. t ≡ type_of types.now (tree_of (expression_at (length types.now) r.old.bytes.now (Ok r.old.at)).words)) }
+pub fn check_expression(r: &mut Reader, types: Types) -> Result<u64, Refusal>
+    ensures reads { Reads r.old r.new result (expression_at (length types.entry.bytes.now) r.old.bytes.now (Ok r.old.at)).next }
+    ensures typing { IfOk result (λ t. t ≡ type_of types.entry.bytes.now (tree_of (expression_at (length types.entry.bytes.now) r.old.bytes.now (Ok r.old.at)).words)) }
 {
     let n = r.count(1, 128)?;
+    let variables = types.bytes.len() as u64;
     let mut stack = Stack::new();
     for i in 0..n {
-        let one = check_record(r, types.len() as u64, stack.depth(), n - i - 1)?;
+        let one = check_record(r, variables, stack.depth(), n - i - 1)?;
         let (a, b) = stack.last_two();
-        stack.put(one.depth, checked_type(one.tag, types, a, b));
+        stack.put(one.depth, checked_type(one.tag, types.bytes, a, b));
     }
     Ok(stack.first())
 }

@@ -25,15 +25,15 @@ checked_type-requires c =
 
 pub put-requires : goal.put-requires
 put-requires c =
-    let few = count-few c.args.types.now c.args.r.now c.in_ok-n.ensures.value in let s = c.loop-i.stack in let one = c.in_ok-one.ensures in (
+    let few = count-few c.args.types.bytes.now c.args.r.now c.in_ok-n.ensures.value in let s = c.loop-i.stack in let one = c.in_ok-one.ensures in (
       depth_small _ _ c.in_ok-n.ensures.value c.loop-i.invariant c.depth.ensures one.reads one.record (omega arith),
       rw (c.checked_type.ensures, c.last_two-a.ensures.before, c.last_two-a.ensures.last)
-      (record-in _ _ _ _ c.requires.1 (tagged _ _ c.in_ok-n.ensures.value c.loop-i.invariant c.depth.ensures one.reads one.record) (s.in_table s.depth) (s.in_table (s.depth + 1))),
+      (record-in _ _ _ _ c.args.types.in_table (tagged _ _ c.in_ok-n.ensures.value c.loop-i.invariant c.depth.ensures one.reads one.record) (s.in_table s.depth) (s.in_table (s.depth + 1))),
     )
 
 pub loop-i-preserved : goal.loop-i-preserved
 loop-i-preserved c =
-    let few = count-few c.args.types.now c.args.r.now c.in_ok-n.ensures.value in let one = c.in_ok-one.ensures in
+    let few = count-few c.args.types.bytes.now c.args.r.now c.in_ok-n.ensures.value in let one = c.in_ok-one.ensures in
     checking-more _ _ c.in_ok-n.ensures.value c.loop-i.invariant c.depth.ensures one.reads one.record (omega arith)
     (rw (← c.last_two-a.ensures.before, ← c.last_two-a.ensures.last) c.checked_type.ensures) c.put.ensures.types c.put.ensures.depth
 
