@@ -1,22 +1,26 @@
-use mathlib.Core.Path.{sym, ◌∙◌}
-use Rattle.sheet.proofs.Sections.{count_few, indexed, read_whole, left_over}
+use native.Mathlib.Omega.{arith}
+use Rattle.sheet_field.proofs.Fields.{count_most}
+use Rattle.sheet.proofs.Sections.{indexed, read_whole, left_over}
 use Rattle.sheet.proofs.read_index.Goals as goal
 
-pub check_blocks-requires : goal.check_blocks-requires
-check_blocks-requires c =
-    count_few 0 1024 _ _ (sym c.count-2.ensures ∙ c.in_ok-b.was)
+pub overflow_mul-blocks : goal.overflow_mul-blocks
+overflow_mul-blocks c = record { fits = omega (arith, c.in_ok-blocks.ensures.count, count_most 0 1024 _ _) }
 
-pub returns-then-s-end-clause-reading : goal.returns-then-s-end-clause-reading
-returns-then-s-end-clause-reading c =
-    read_whole _ (sym c.count.ensures ∙ c.in_ok-i.was) (sym c.read_instructions.ensures.place ∙ c.in_ok-code.was) (sym c.count-2.ensures ∙ c.in_ok-b.was)
-    (sym c.check_blocks.ensures ∙ c.in_ok-ranges.was) (sym c.count-3.ensures ∙ c.in_ok-n.was) (sym c.read_nodes.ensures.place ∙ c.in_ok-end.was) c.if-s-end.true
+pub returns-then-s-r-clause-reading : goal.returns-then-s-r-clause-reading
+returns-then-s-r-clause-reading c =
+    let new = c.new-r.ensures in let i = c.in_ok-instructions.ensures in let b = c.in_ok-blocks.ensures in let n = c.in_ok-graph.ensures in
+    read_whole _ new.bytes new.at i.reads i.count i.at c.in_ok-read_instructions.ensures.reads b.reads b.count b.at c.in_ok-take_words.ensures n.reads n.count n.at
+    c.in_ok-read_nodes.ensures.reads c.if-s-r.true
 
-pub returns-then-s-end-clause-index : goal.returns-then-s-end-clause-index
-returns-then-s-end-clause-index c =
-    indexed _ (sym c.count.ensures ∙ c.in_ok-i.was) (sym c.read_instructions.ensures.place ∙ c.in_ok-code.was) (sym c.count-2.ensures ∙ c.in_ok-b.was)
-    (sym c.check_blocks.ensures ∙ c.in_ok-ranges.was) (sym c.count-3.ensures ∙ c.in_ok-n.was) c.in_ok-code.ensures.noted c.in_ok-end.ensures.noted
+pub returns-then-s-r-clause-index : goal.returns-then-s-r-clause-index
+returns-then-s-r-clause-index c =
+    let new = c.new-r.ensures in let i = c.in_ok-instructions.ensures in let b = c.in_ok-blocks.ensures in let n = c.in_ok-graph.ensures in
+    let code = c.in_ok-read_instructions.ensures in let graph = c.in_ok-read_nodes.ensures in
+    indexed _ new.bytes new.at i.reads i.count i.at code.reads b.reads b.count b.at c.in_ok-take_words.ensures n.reads n.count n.at code.noted graph.noted
 
-pub returns-else-s-end-clause-reading : goal.returns-else-s-end-clause-reading
-returns-else-s-end-clause-reading c =
-    rw c.at.ensures (left_over _ (sym c.count.ensures ∙ c.in_ok-i.was) (sym c.read_instructions.ensures.place ∙ c.in_ok-code.was) (sym c.count-2.ensures ∙ c.in_ok-b.was)
-    (sym c.check_blocks.ensures ∙ c.in_ok-ranges.was) (sym c.count-3.ensures ∙ c.in_ok-n.was) (sym c.read_nodes.ensures.place ∙ c.in_ok-end.was) c.if-s-end.false)
+pub returns-else-s-r-clause-reading : goal.returns-else-s-r-clause-reading
+returns-else-s-r-clause-reading c =
+    let new = c.new-r.ensures in let i = c.in_ok-instructions.ensures in let b = c.in_ok-blocks.ensures in let n = c.in_ok-graph.ensures in
+    rw c.at.ensures
+    (left_over _ new.bytes new.at i.reads i.count i.at c.in_ok-read_instructions.ensures.reads b.reads b.count b.at c.in_ok-take_words.ensures n.reads n.count n.at
+    c.in_ok-read_nodes.ensures.reads c.if-s-r.false)
