@@ -5,11 +5,32 @@
 ghost use Rattle.std.specs.Prelude.{◌≡◌, true, false, ◌+◌, ◌<◌, ◌≤◌, length, Ok};
 ghost use Rattle.sheet_field.specs.Field.{answer_of};
 ghost use Rattle.sheet_instruction.specs.Instruction.{register_at, operand_at, registers_from, registers_at, bit_of, map_ok, map_at, address_at, head_at, tail_at, instruction_at};
+ghost use Rattle.sheet_instruction.specs.MapBit.{unit_of};
 ghost use Rattle.sheet_instruction.specs.Promises.{part_of, operands_at, operands_of, head_of, tail_of};
 
 use isa::{Mnemonic, Operand, Register};
 use refusal::{Fault, Refusal};
 use sheet_field::{Field, Place};
+
+// The bits of an instruction's map: what the record has, and that it is call-like.
+#[derive(Clone, Copy, PartialEq, Eq, Debug)]
+pub enum MapBit {
+    Target = 1,
+    Call = 2,
+    First = 4,
+    Second = 8,
+    Written = 16,
+    Flags = 32,
+}
+
+impl MapBit {
+    // Whether it stands in that map.
+    pub fn is_in(self, map: u64) -> bool
+        ensures { result ≡ bit_of map (unit_of self) }
+    {
+        isa::has_bit(map, self as u64)
+    }
+}
 
 // An operand, and the offset after it.
 #[derive(Clone, Copy)]
@@ -116,7 +137,7 @@ fn check_operands(s: &[u8], at: usize, map: u64) -> Result<Operands, Refusal>
 {
     let absent = Operand::Absent;
     let one = optional(
-        bit(map, 4),
+        MapBit::First.is_in(map),
         Part {
             operand: absent,
             end: at,
@@ -124,7 +145,7 @@ fn check_operands(s: &[u8], at: usize, map: u64) -> Result<Operands, Refusal>
         || check_operand(s, at),
     )?;
     let two = optional(
-        bit(map, 8),
+        MapBit::Second.is_in(map),
         Part {
             operand: absent,
             end: one.end,
@@ -165,8 +186,12 @@ fn check_tail(s: &[u8], at: usize, map: u64) -> Result<TailCheck, Refusal>
 {
     let both = check_operands(s, at, map)?;
     let behind = both.end;
-    let end = optional(bit(map, 16), behind, || check_written(s, behind))?;
-    let f = optional(bit(map, 32), Field { value: 0, end }, || {
+    let end = optional(
+        MapBit::Written.is_in(map),
+        behind,
+        || check_written(s, behind),
+    )?;
+    let f = optional(MapBit::Flags.is_in(map), Field { value: 0, end }, || {
         sheet_field::code(s, end, 32)
     })?;
     Ok(TailCheck {
@@ -177,18 +202,12 @@ fn check_tail(s: &[u8], at: usize, map: u64) -> Result<TailCheck, Refusal>
     })
 }
 
-// Whether the bit whose value is `unit` stands in the map.
-pub fn bit(map: u64, unit: u64) -> bool
-    requires { 0 < unit }
-    ensures { result ≡ bit_of map unit }
-{
-    map / unit % 2 == 1
-}
-
 fn map_ok(map: u64) -> bool
     ensures { result ≡ map_ok map }
 {
-    (map < 64) & !(bit(map, 1) & bit(map, 2)) & (!bit(map, 8) | bit(map, 4))
+    (map < 64)
+        & !(MapBit::Target.is_in(map) & MapBit::Call.is_in(map))
+        & (!MapBit::Second.is_in(map) | MapBit::First.is_in(map))
 }
 
 fn check_map(s: &[u8], at: usize) -> Result<Field, Refusal>
@@ -212,9 +231,11 @@ fn check_head(s: &[u8], at: usize, opens: bool, last: u64) -> Result<HeadCheck, 
     let address = check_address(s, map.end, opens, last)?;
     let number = sheet_field::code(s, address.end, 35)?;
     let end = number.end;
-    let target = optional(bit(map.value, 1), Field { value: 0, end }, || {
-        sheet_field::take_field::<8>(s, end)
-    })?;
+    let target = optional(
+        MapBit::Target.is_in(map.value),
+        Field { value: 0, end },
+        || { sheet_field::take_field::<8>(s, end) },
+    )?;
     Ok(HeadCheck {
         map: map.value,
         mnemonic: isa::mnemonic_of(number.value),
@@ -230,7 +251,7 @@ pub fn check_instruction(s: &[u8], at: usize, opens: bool, last: u64) -> Place
 {
     let head = check_head(s, at, opens, last)?;
     let tail = check_tail(s, head.end, head.map)?;
-    let call = bit(head.map, 2);
+    let call = MapBit::Call.is_in(head.map);
     if isa::is_at_fault(head.mnemonic, call, tail.first, tail.second, tail.flags) {
         Err(Fault::Instruction.at(at))
     } else {
