@@ -2,5 +2,3 @@
 pub mod Instructions
 pub mod Accepted
 pub mod Stages
-pub mod Checks
-pub mod Composed
