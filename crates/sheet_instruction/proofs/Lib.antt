@@ -2,3 +2,5 @@
 pub mod Instructions
 pub mod Accepted
 pub mod Stages
+pub mod Checks
+pub mod Composed

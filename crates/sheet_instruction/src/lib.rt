@@ -2,9 +2,9 @@
 // before ended, and the first refusal is the record's.
 #![tactic(auto)]
 
-ghost use Rattle.std.specs.Prelude.{◌≡◌, ◌+◌, ◌≤◌, length, Ok, IfOk, is_none, unwrap_or};
+ghost use Rattle.std.specs.Prelude.{◌≡◌, ◌+◌, ◌≤◌, ◌||◌, length, ltb, Ok, IfOk, is_none, unwrap_or};
 ghost use Rattle.sheet_field.specs.Reads.{Reads};
-ghost use Rattle.sheet_instruction.specs.Instruction.{register_at, operand_at, registers_at, optional_operand, bit_of, map_ok, map_at, address_at, head_at, tail_at, instruction_at};
+ghost use Rattle.sheet_instruction.specs.Instruction.{register_at, operand_at, registers_at, optional_registers, optional_operand, bit_of, map_ok, map_at, address_at, head_at, tail_at, instruction_at};
 ghost use Rattle.sheet_instruction.specs.MapBit.{unit_of};
 ghost use Rattle.sheet_instruction.specs.Promises.{head_of, tail_of};
 
@@ -61,6 +61,7 @@ pub fn register_at(s: &[u8], at: usize) -> Register
     }
 }
 
+#[tactic(auto, using(crate::proofs::Checks::register_cut, crate::proofs::Checks::register_taken, crate::proofs::Checks::register_failed))]
 fn check_register(r: &mut Reader) -> Result<Register, Refusal>
     requires { r.old.at ≤ length r.old.bytes.now }
     ensures reads { Reads r.old r.new result (register_at r.old.bytes.now (Ok r.old.at)).next }
@@ -79,6 +80,7 @@ fn check_register(r: &mut Reader) -> Result<Register, Refusal>
     }
 }
 
+#[tactic(auto, using(crate::proofs::Checks::kind_refused, crate::proofs::Checks::kind_inside, crate::proofs::Checks::register_refused, crate::proofs::Checks::register_there, crate::proofs::Checks::register_is, crate::proofs::Checks::immediate_refused, crate::proofs::Checks::immediate_there, crate::proofs::Checks::immediate_is, crate::proofs::Checks::memory_there, crate::proofs::Checks::memory_is))]
 fn check_operand(r: &mut Reader) -> Result<Operand, Refusal>
     ensures reads { Reads r.old r.new result (operand_at r.old.bytes.now (Ok r.old.at)).next }
     ensures value { IfOk result (λ x. x ≡ (operand_at r.old.bytes.now (Ok r.old.at)).operand) }
@@ -90,7 +92,7 @@ fn check_operand(r: &mut Reader) -> Result<Operand, Refusal>
     }
 }
 
-fn check_optional(r: &mut Reader, there: bool) -> Result<Operand, Refusal>
+fn check_optional_operand(r: &mut Reader, there: bool) -> Result<Operand, Refusal>
     ensures reads { Reads r.old r.new result (optional_operand there r.old.bytes.now (Ok r.old.at)).next }
     ensures value { IfOk result (λ x. x ≡ (optional_operand there r.old.bytes.now (Ok r.old.at)).operand) }
 {
@@ -101,6 +103,7 @@ fn check_optional(r: &mut Reader, there: bool) -> Result<Operand, Refusal>
     }
 }
 
+#[tactic(auto, using(crate::proofs::Checks::count_refused, crate::proofs::Checks::count_inside, crate::proofs::Checks::registers_none, crate::proofs::Checks::list_refused, crate::proofs::Checks::register_end, crate::proofs::Checks::registers_more, crate::proofs::Checks::registers_all))]
 fn check_written(r: &mut Reader) -> Result<(), Refusal>
     ensures { Reads r.old r.new result (registers_at r.old.bytes.now (Ok r.old.at)).next }
 {
@@ -111,15 +114,21 @@ fn check_written(r: &mut Reader) -> Result<(), Refusal>
     Ok(())
 }
 
+#[tactic(auto, using(crate::proofs::Composed::none_written))]
+fn check_optional_written(r: &mut Reader, there: bool) -> Result<(), Refusal>
+    ensures { Reads r.old r.new result (optional_registers there r.old.bytes.now (Ok r.old.at)).next }
+{
+    if there { check_written(r) } else { Ok(()) }
+}
+
+#[tactic(auto, using(crate::proofs::Composed::operand_stays, crate::proofs::Composed::written_stays, crate::proofs::Composed::flags_stay), unfolding(crate::specs::Instruction::tail_at))]
 fn check_tail(r: &mut Reader, map: u64) -> Result<Tail, Refusal>
     ensures reads { Reads r.old r.new result (tail_at map r.old.bytes.now (Ok r.old.at)).next }
     ensures value { IfOk result (λ x. x ≡ tail_of (tail_at map r.old.bytes.now (Ok r.old.at))) }
 {
-    let first = check_optional(r, MapBit::First.is_in(map))?;
-    let second = check_optional(r, MapBit::Second.is_in(map))?;
-    if MapBit::Written.is_in(map) {
-        check_written(r)?;
-    }
+    let first = check_optional_operand(r, MapBit::First.is_in(map))?;
+    let second = check_optional_operand(r, MapBit::Second.is_in(map))?;
+    check_optional_written(r, MapBit::Written.is_in(map))?;
     let flags = if MapBit::Flags.is_in(map) {
         r.code(32)?
     } else {
@@ -147,32 +156,40 @@ fn check_map(r: &mut Reader) -> Result<u64, Refusal>
     r.take_checked::<1, _>(Fault::Code, |map| map_ok(map))
 }
 
-// An address above `last`, or any where there is none before it.
+// Whether an address is above the one before it, if there is one.
+fn is_above(address: u64, last: Option<u64>) -> bool
+    ensures { result ≡ (is_none last || ltb (unwrap_or last 0) address) }
+{
+    last.is_none_or(|last| last < address)
+}
+
 fn check_address(r: &mut Reader, last: Option<u64>) -> Result<u64, Refusal>
     ensures reads { Reads r.old r.new result (address_at (is_none last) (unwrap_or last 0) r.old.bytes.now (Ok r.old.at)).next }
     ensures value { IfOk result (λ x. x ≡ (address_at (is_none last) (unwrap_or last 0) r.old.bytes.now (Ok r.old.at)).value) }
 {
-    r.take_checked::<8, _>(Fault::Address, |address| last.is_none_or(|last| last < address))
+    r.take_checked::<8, _>(Fault::Address, |address| is_above(address, last))
 }
 
+#[tactic(auto, using(crate::proofs::Composed::address_stays, sheet_field::proofs::Steps::code_stays, crate::proofs::Composed::target_stays, crate::proofs::Composed::number_below), unfolding(crate::specs::Instruction::head_at))]
 fn check_head(r: &mut Reader, last: Option<u64>) -> Result<Head, Refusal>
     ensures reads { Reads r.old r.new result (head_at (is_none last) (unwrap_or last 0) r.old.bytes.now (Ok r.old.at)).next }
     ensures value { IfOk result (λ x. x ≡ head_of (head_at (is_none last) (unwrap_or last 0) r.old.bytes.now (Ok r.old.at))) }
 {
     let map = check_map(r)?;
     let address = check_address(r, last)?;
-    let number = r.code(35)?;
+    let mnemonic = isa::mnemonic_of(r.code(35)?);
     if MapBit::Target.is_in(map) {
         r.take_field::<8>()?;
     }
     Ok(Head {
         map,
         address,
-        mnemonic: isa::mnemonic_of(number),
+        mnemonic,
     })
 }
 
 // The address of the instruction record at the reader. `last` is the address before it, none where it opens the sheet.
+#[tactic(auto, using(crate::proofs::Composed::tail_stays), unfolding(crate::specs::Instruction::instruction_at))]
 pub fn check_instruction(r: &mut Reader, last: Option<u64>) -> Result<u64, Refusal>
     ensures reads { Reads r.old r.new result (instruction_at (is_none last) (unwrap_or last 0) r.old.bytes.now (Ok r.old.at)).next }
     ensures address { IfOk result (λ x. x ≡ (instruction_at (is_none last) (unwrap_or last 0) r.old.bytes.now (Ok r.old.at)).instruction.address) }
