@@ -33,7 +33,3 @@ number-named k small = row 0 table numbered k small ∙ zero-add k
 pub named-number : (m : Mnemonic) → named (number_of m) ≡ m
 unfolding number_of named table
 named-number m = grind arith
-
-pub number-below : (m : Mnemonic) → number_of m < 35
-unfolding number_of
-number-below m = grind arith

@@ -5,7 +5,7 @@
 ghost use Rattle.std.specs.Prelude.{◌≡◌, ◌<◌};
 ghost use Rattle.isa.specs.Register.{well_formed};
 ghost use Rattle.isa.specs.Mnemonics.{named};
-ghost use Rattle.isa.specs.FlagBits.{declares};
+ghost use Rattle.isa.specs.FlagBits.{has_bit, flag_bit, declares};
 ghost use Rattle.isa.specs.Modelled.{is_register, is_absent, takes, modelled, sizes_differ, outside, is_mov, declares_result, declares_own, undeclared};
 ghost use Rattle.isa.specs.Promises.{is_size, is_unary, fault_of};
 
@@ -160,23 +160,29 @@ pub fn mnemonic_of(number: u64) -> Mnemonic
     }
 }
 
-// The bits of the declared flags.
-pub const CF: u64 = 1;
+// The flags, with the bits that stand for them in a set of declared ones.
+#[derive(Clone, Copy, PartialEq, Eq, Debug)]
+pub enum Flag {
+    Cf = 1,
+    Pf = 2,
+    Zf = 4,
+    Sf = 8,
+    Of = 16,
+}
 
-pub const PF: u64 = 2;
-
-pub const ZF: u64 = 4;
-
-pub const SF: u64 = 8;
-
-pub const OF: u64 = 16;
+// Whether a set of bits has that one, a power of two.
+pub fn has_bit(set: u64, bit: u64) -> bool
+    requires { 0 < bit }
+    ensures { result ≡ has_bit set bit }
+{
+    set / bit % 2 == 1
+}
 
 // Whether that flag is among the declared ones.
-pub fn is_declared(flags: u64, flag: u64) -> bool
-    requires { 0 < flag }
-    ensures { result ≡ declares flags flag }
+pub fn is_declared(flags: u64, flag: Flag) -> bool
+    ensures { result ≡ declares flags (flag_bit flag) }
 {
-    flags / flag % 2 == 1
+    has_bit(flags, flag as u64)
 }
 
 fn is_size(size: u8) -> bool
@@ -256,10 +262,10 @@ fn is_mov(m: Mnemonic) -> bool
 fn declares_result(flags: u64) -> bool
     ensures { result ≡ declares_result flags }
 {
-    is_declared(flags, PF)
-        & is_declared(flags, ZF)
-        & is_declared(flags, SF)
-        & is_declared(flags, OF)
+    is_declared(flags, Flag::Pf)
+        & is_declared(flags, Flag::Zf)
+        & is_declared(flags, Flag::Sf)
+        & is_declared(flags, Flag::Of)
 }
 
 // Whether the flags that the operation sets are declared.
@@ -269,7 +275,7 @@ fn declares_own(op: Unary, flags: u64) -> bool
     let four = declares_result(flags);
     match op {
         Unary::Inc | Unary::Dec => four,
-        Unary::Neg => four & is_declared(flags, CF),
+        Unary::Neg => four & is_declared(flags, Flag::Cf),
     }
 }
 

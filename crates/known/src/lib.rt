@@ -9,7 +9,7 @@ ghost use Rattle.known.specs.Operations.{carry_rule, complement, operation_of, i
 ghost use Rattle.known.specs.Conditions.{flag_condition, is_zero};
 
 use alu::{Flags, Operation, Performed, Width};
-use isa::{Binary, CarryChange, Condition, Unary};
+use isa::{Binary, CarryChange, Condition, Flag, Unary};
 
 // What is known of a register: its marks, which are all set where it is known and else 0; and its value, which means nothing
 // where it is not known; then it is 0. It is not an Option, as a mark stands for a byte and may come to be set by itself.
@@ -337,11 +337,11 @@ pub fn forget_flags(declared: u64, f: Flags) -> Flags
     ensures { result ≡ forget_flags declared f }
 {
     Flags {
-        cf: forget_flag(isa::is_declared(declared, isa::CF), f.cf),
-        pf: forget_flag(isa::is_declared(declared, isa::PF), f.pf),
-        zf: forget_flag(isa::is_declared(declared, isa::ZF), f.zf),
-        sf: forget_flag(isa::is_declared(declared, isa::SF), f.sf),
-        of: forget_flag(isa::is_declared(declared, isa::OF), f.of),
+        cf: forget_flag(isa::is_declared(declared, Flag::Cf), f.cf),
+        pf: forget_flag(isa::is_declared(declared, Flag::Pf), f.pf),
+        zf: forget_flag(isa::is_declared(declared, Flag::Zf), f.zf),
+        sf: forget_flag(isa::is_declared(declared, Flag::Sf), f.sf),
+        of: forget_flag(isa::is_declared(declared, Flag::Of), f.of),
     }
 }
 

@@ -9,7 +9,7 @@ ghost use Rattle.sheet_accepted.specs.Promises.{number_if, content_at};
 
 use isa::{Instruction, Mnemonic, Operand, Register};
 use sheet_field::Field;
-use sheet_instruction::Part;
+use sheet_instruction::{MapBit, Part};
 
 // What stands behind a record's target.
 #[derive(Clone, Copy)]
@@ -99,12 +99,12 @@ fn content_at(s: &[u8], at: usize, map: u64) -> Content
     requires { WentOn (tail_at map s.now (Ok at)).next }
     ensures { result ≡ content_at map s.now (Ok at) }
 {
-    let first = operand_if(sheet_instruction::bit(map, 4), s, at);
-    let second = operand_if(sheet_instruction::bit(map, 8), s, first.end);
-    let n = number_if::<2>(sheet_instruction::bit(map, 16), s, second.end);
+    let first = operand_if(MapBit::First.is_in(map), s, at);
+    let second = operand_if(MapBit::Second.is_in(map), s, first.end);
+    let n = number_if::<2>(MapBit::Written.is_in(map), s, second.end);
     let written = registers_at(s, n.end, n.value);
     let end = n.end + 4 * (n.value as usize);
-    let flags = number_if::<1>(sheet_instruction::bit(map, 32), s, end);
+    let flags = number_if::<1>(MapBit::Flags.is_in(map), s, end);
     Content {
         first: first.operand,
         second: second.operand,
@@ -149,7 +149,7 @@ impl Record<'_> {
     pub fn is_branch(&self) -> bool
         ensures { result ≡ (recorded self.now.bytes.now self.now.at).branch }
     {
-        sheet_instruction::bit(self.map(), 1)
+        MapBit::Target.is_in(self.map())
     }
 
     // The target, 0 where it is no conditional branch, and the offset after it.
@@ -179,7 +179,7 @@ impl Record<'_> {
             mnemonic: self.mnemonic(),
             branch: self.is_branch(),
             target: target.value,
-            call: sheet_instruction::bit(map, 2),
+            call: MapBit::Call.is_in(map),
             first: content.first,
             second: content.second,
             written,

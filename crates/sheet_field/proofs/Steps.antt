@@ -6,7 +6,7 @@ use Rattle.std.specs.Prelude.{Result, Ok, Err, IsErrAnd}
 use Rattle.std.proofs.lemmas.Result.{err_from_is_err_and}
 use Rattle.refusal.specs.declared.Refusal.{Refusal}
 use Rattle.sheet_field.specs.declared.Reader.{Reader}
-use Rattle.sheet_field.specs.Field.{Place}
+use Rattle.sheet_field.specs.Field.{Place, field_at, check_field, code_at, count_at}
 use Rattle.sheet_field.specs.Reads.{Reads}
 
 module _ {A : Type 0} {old mid : Reader} {x : A} {p : Place} (first : Reads old mid (Ok x) p) where
@@ -24,3 +24,17 @@ pub handed_on : {A B : Type 0} {old new : Reader} {result : Result B Refusal} {r
 handed_on {result = result} is reads stays =
     let e = err_from_is_err_and result is in
     rw (e.1, e.2) (record { same = reads.same; place = sym (stays (sym reads.place)) })
+
+-- a refusal made before a field stays
+module _ (s : List ℕ) {p : Place} {r : Refusal} (e : Err r ≡ p) where
+  pub field_stays : (n : ℕ) → Err r ≡ (field_at n s p).next
+  unfolding field_at
+  field_stays n = rw (← e)
+
+  pub code_stays : (limit : ℕ) → Err r ≡ (code_at limit s p).next
+  unfolding code_at check_field field_at
+  code_stays limit = rw (← e)
+
+  pub count_stays : (least most : ℕ) → Err r ≡ (count_at least most s p).next
+  unfolding count_at check_field field_at
+  count_stays least most = rw (← e)

@@ -1,4 +1,4 @@
--- A record by its stages, each behind the one before: a refusal at one of them is the record's.
+-- Registers, operands and lists of registers by their stages: a refusal at one of these is the record's.
 use Prim.Native.Nat.{ℕ, zero, suc, ◌+◌, ◌-◌, ◌≤◌, ◌<◌}
 use mathlib.Core.Path.{◌≡◌, refl, ap, sym, ◌∙◌}
 use mathlib.Core.List.{List}
@@ -14,37 +14,15 @@ use Rattle.refusal.specs.Numbers.{refused}
 use Rattle.isa.specs.declared.Register.{Register}
 use Rattle.isa.specs.declared.Operand.TheVariants.{Reg, Imm, Mem}
 use Rattle.isa.specs.Register.{well_formed}
-use Rattle.sheet_field.specs.declared.Field.{Field}
-use Rattle.sheet_field.specs.Field.{Place, FieldReading, field_at, judge, check_field, code_at, count_at, answer_of}
-use Rattle.sheet_field.proofs.Fields.{field_cut, field-refused, code-at, count_at_lem, answer_ok, answer_err, read_err}
+use Rattle.sheet_field.specs.declared.Reader.{Reader}
+use Rattle.sheet_field.specs.Field.{Place, field_at, judge, check_field, code_at, count_at}
+use Rattle.sheet_field.specs.Reads.{Reads}
+use Rattle.sheet_field.proofs.Fields.{field_cut, field-refused, code-at, count_at_lem}
 use Rattle.sheet_field.proofs.Counted.{stays}
-use Rattle.sheet_instruction.specs.declared.Part.{Part}
-use Rattle.sheet_instruction.specs.Instruction.{OperandReading, register_at, operand_at, registers_from, registers_at, optional_registers, optional_operand, optional_field, optional_code, bit_of}
-use Rattle.sheet_instruction.specs.Promises.{part_of, operands_at, operands_of}
+use Rattle.sheet_instruction.specs.Instruction.{OperandReading, register_at, operand_at, registers_from, registers_at}
 use Rattle.sheet_instruction.proofs.Instructions.{registers-next}
 use Rattle.sheet_instruction.proofs.Accepted.{registers-keep}
 use Rattle.sheet_instruction.proofs.Stages.{byte-is, register-room}
-
--- a refusal stays
-pub operand-stays : (there : Bool) (s : List ℕ) {p : Place} {r : Refusal} → p ≡ Err r → (optional_operand there s p).next ≡ Err r
-unfolding operand_at register_at code_at check_field field_at
-operand-stays true s e = rw e
-operand-stays false s e = e
-
-pub written-stays : (there : Bool) (s : List ℕ) {p : Place} {r : Refusal} → p ≡ Err r → (optional_registers there s p).next ≡ Err r
-unfolding registers_at registers_from count_at check_field field_at
-written-stays true s e = rw e
-written-stays false s e = e
-
-pub code_stays : (there : Bool) (limit : ℕ) (s : List ℕ) {p : Place} {r : Refusal} → p ≡ Err r → (optional_code there limit s p).next ≡ Err r
-unfolding code_at check_field field_at
-code_stays true limit s e = rw e
-code_stays false limit s e = e
-
-pub field-stays : (there : Bool) (s : List ℕ) {p : Place} {r : Refusal} → p ≡ Err r → (optional_field there s p).next ≡ Err r
-unfolding field_at
-field-stays true s e = rw e
-field-stays false s e = e
 
 -- a register
 module _ (s : List ℕ) (at : ℕ) where
@@ -73,8 +51,8 @@ module _ (s : List ℕ) (at : ℕ) where
       (ap ended e)
   cut-after (suc (suc (suc (suc d)))) e few = absurd (omega arith)
 
-  pub register_cut : at ≤ length s → length s < at + 4 → (register_at s (Ok at)).next ≡ Err (refused fault.Ends (length s))
-  register_cut starts short = sym (cut-after (length s - at) (omega arith) (omega arith))
+  pub register_cut : at ≤ length s → length s < at + 4 → Err (refused fault.Ends (length s)) ≡ (register_at s (Ok at)).next
+  register_cut starts short = cut-after (length s - at) (omega arith) (omega arith)
 
   register-judged : {r : Register} → at + 4 ≤ length s → r ≡ (register_at s (Ok at)).register
       → judge (well_formed r) fault.Register at (Ok (at + 4)) ≡ (register_at s (Ok at)).next
@@ -87,15 +65,15 @@ module _ (s : List ℕ) (at : ℕ) where
       rw (r-is, class, index, size, offset)
 
   pub register_taken : {r : Register} → at + 4 ≤ length s → r ≡ (register_at s (Ok at)).register → well_formed r ≡ true
-      → (register_at s (Ok at)).next ≡ Ok (at + 4)
-  register_taken room r-is well = sym (rw well at (register-judged room r-is))
+      → Ok (at + 4) ≡ (register_at s (Ok at)).next
+  register_taken room r-is well = rw well at (register-judged room r-is)
 
   pub register_failed : {r : Register} → at + 4 ≤ length s → r ≡ (register_at s (Ok at)).register → well_formed r ≡ false
-      → (register_at s (Ok at)).next ≡ Err (refused fault.Register at)
-  register_failed room r-is ill = sym (rw ill at (register-judged room r-is))
+      → Err (refused fault.Register at) ≡ (register_at s (Ok at)).next
+  register_failed room r-is ill = rw ill at (register-judged room r-is)
 
-pub register_inside : (s : List ℕ) (at : ℕ) {b : ℕ} → (register_at s (Ok at)).next ≡ Ok b → at + 4 ≤ length s
-register_inside s at e = let r = register-room s at e in omega (arith, r.0, r.1)
+pub register_end : {s t : List ℕ} (at : ℕ) {b : ℕ} → t ≡ s → Ok b ≡ (register_at t (Ok at)).next → b ≤ length s
+register_end {s} at same went = (register-room s at (sym (rw same at went))).1
 
 -- whatever an operand's code is, a refusal at it stays
 kind-stays : (s : List ℕ) (r : Refusal) (z o : Bool)
@@ -108,92 +86,78 @@ kind-stays s r false true = refl
 kind-stays s r false false = refl
 
 -- an operand, by its code
-pub operand_err : (s : List ℕ) (at : ℕ) {r : Refusal} → answer_of (code_at 3 s (Ok at)) ≡ Err r → part_of (operand_at s (Ok at)) ≡ Err r
+pub kind_refused : (s : List ℕ) (p : Place) {r : Refusal} → Err r ≡ (code_at 3 s p).next → Err r ≡ (operand_at s p).next
 unfolding operand_at
-operand_err s at {r} e =
-    let code = code_at 3 s (Ok at) in
-    rw (answer_err code e) (rw (kind-stays s r (eqb code.value 0) (eqb code.value 1)) refl)
+kind_refused s p {r} e = rw (← e) (sym (kind-stays s r (eqb (code_at 3 s p).value 0) (eqb (code_at 3 s p).value 1)))
 
-module _ (s : List ℕ) (at : ℕ) {kind : Field} (k : answer_of (code_at 3 s (Ok at)) ≡ Ok kind) where
-  code : code_at 3 s (Ok at) ≡ record { value = kind.value; next = Ok kind.end }
-  code = answer_ok (code_at 3 s (Ok at)) k
+pub kind_inside : (s : List ℕ) (p : Place) {b : ℕ} → Ok b ≡ (code_at 3 s p).next → b ≤ length s
+kind_inside s p e = let w = (code-at 3 s p (sym e)).whole in omega (arith, w.after, w.inside)
 
-  pub kind_inside : kind.end ≤ length s
-  kind_inside = let w = (code-at 3 s (Ok at) (ap (λ (f : FieldReading). f.next) code)).whole in omega (arith, w.after, w.inside)
-
-  register-kind : kind.value ≡ 0
-      → operand_at s (Ok at) ≡ record { operand = Reg (register_at s (Ok kind.end)).register; next = (register_at s (Ok kind.end)).next }
+module _ (s : List ℕ) (p : Place) {t : List ℕ} {kind m : ℕ} (same : t ≡ s) (at : Ok m ≡ (code_at 3 s p).next) (is : kind ≡ (code_at 3 s p).value) where
+  register-operand : kind ≡ 0 → operand_at s p ≡ record { operand = Reg (register_at t (Ok m)).register; next = (register_at t (Ok m)).next }
   unfolding operand_at
-  register-kind zero_is = rw (code, eq-eqb _ _ zero_is)
+  register-operand z = rw (same, at, ← is, z)
 
-  immediate-kind : (kind.value ≡ 0 → ⊥) → kind.value ≡ 1
-      → operand_at s (Ok at) ≡ record { operand = Imm (field_at 8 s (Ok kind.end)).value; next = (field_at 8 s (Ok kind.end)).next }
+  immediate-operand : kind ≡ 1 → operand_at s p ≡ record { operand = Imm (field_at 8 t (Ok m)).value; next = (field_at 8 t (Ok m)).next }
   unfolding operand_at
-  immediate-kind not-zero one-is = rw (code, ne_eqb _ _ not-zero, eq-eqb _ _ one-is)
+  immediate-operand o = rw (same, at, ← is, o)
 
-  pub register_err : {r : Refusal} → kind.value ≡ 0 → (register_at s (Ok kind.end)).next ≡ Err r → part_of (operand_at s (Ok at)) ≡ Err r
-  register_err z e = rw (register-kind z, e) refl
-
-  pub register_ok : {b : ℕ} {x : Register} → kind.value ≡ 0 → (register_at s (Ok kind.end)).next ≡ Ok b → x ≡ (register_at s (Ok kind.end)).register
-      → part_of (operand_at s (Ok at)) ≡ Ok (record { operand = Reg x; end = b })
-  register_ok z e x-is = rw (register-kind z, e, x-is) refl
-
-  pub immediate_err : {r : Refusal} → (kind.value ≡ 0 → ⊥) → kind.value ≡ 1 → answer_of (field_at 8 s (Ok kind.end)) ≡ Err r → part_of (operand_at s (Ok at)) ≡ Err r
-  immediate_err n o e = rw (immediate-kind n o, answer_err (field_at 8 s (Ok kind.end)) e) refl
-
-  pub immediate_ok : {f : Field} → (kind.value ≡ 0 → ⊥) → kind.value ≡ 1 → answer_of (field_at 8 s (Ok kind.end)) ≡ Ok f
-      → part_of (operand_at s (Ok at)) ≡ Ok (record { operand = Imm f.value; end = f.end })
-  immediate_ok n o e = rw (immediate-kind n o, answer_ok (field_at 8 s (Ok kind.end)) e) refl
-
-  pub memory_ok : (kind.value ≡ 0 → ⊥) → (kind.value ≡ 1 → ⊥) → part_of (operand_at s (Ok at)) ≡ Ok (record { operand = Mem; end = kind.end })
+  memory-operand : (kind ≡ 0 → ⊥) → (kind ≡ 1 → ⊥) → operand_at s p ≡ record { operand = Mem; next = Ok m }
   unfolding operand_at
-  memory_ok not-zero not-one = rw (code, ne_eqb _ _ not-zero, ne_eqb _ _ not-one) refl
+  memory-operand not-zero not-one = rw (at, ← is, ne_eqb _ _ not-zero, ne_eqb _ _ not-one)
 
--- both operands
-pub operands_err : (map : ℕ) (s : List ℕ) (at : ℕ) {r : Refusal} → part_of (optional_operand (bit_of map 4) s (Ok at)) ≡ Err r
-    → operands_of (operands_at map s (Ok at)) ≡ Err r
-operands_err map s at e =
-    let one = optional_operand (bit_of map 4) s (Ok at) in
-    rw (operand-stays (bit_of map 8) s (read_err one.next (λ (end : ℕ). the-part one end) e)) refl
-  where
-    the-part : OperandReading → ℕ → Part
-    the-part o end = record { operand = o.operand; end = end }
+  pub register_refused : {r : Refusal} → kind ≡ 0 → Err r ≡ (register_at t (Ok m)).next → Err r ≡ (operand_at s p).next
+  register_refused z e = rw (register-operand z) e
 
--- none of the registers, one refused, and one more
-pub registers_none : (s : List ℕ) (at : ℕ) → Ok at ≡ (registers_from s (Ok at) 0).next
-unfolding registers_from
-registers_none s at = refl
+  pub register_there : {b : ℕ} → kind ≡ 0 → Ok b ≡ (register_at t (Ok m)).next → Ok b ≡ (operand_at s p).next
+  register_there z e = rw (register-operand z) e
 
-pub registers_refused : (s : List ℕ) (at n i : ℕ) {p : ℕ} {r : Refusal} → Ok p ≡ (registers_from s (Ok at) i).next
-    → (register_at s (Ok p)).next ≡ Err r → i < n → (registers_from s (Ok at) n).next ≡ Err r
-registers_refused s at n i here e less =
-    stays (λ j. (registers_from s (Ok at) j).next) (registers-keep s (Ok at)) n (i + 1) _ (sym (registers-next s (Ok at) i) ∙ rw (← here) e) (omega arith)
+  pub register_is : {r : Register} → kind ≡ 0 → r ≡ (register_at t (Ok m)).register → Reg r ≡ (operand_at s p).operand
+  register_is z e = rw (register-operand z, e)
 
-pub registers_end : (s : List ℕ) (p : ℕ) {b : ℕ} → (register_at s (Ok p)).next ≡ Ok b → b ≤ length s
-registers_end s p went = (register-room s p went).1
+  pub immediate_refused : {r : Refusal} → kind ≡ 1 → Err r ≡ (field_at 8 t (Ok m)).next → Err r ≡ (operand_at s p).next
+  immediate_refused o e = rw (immediate-operand o) e
 
-pub registers_more : (s : List ℕ) (at i : ℕ) {p b : ℕ} → Ok p ≡ (registers_from s (Ok at) i).next → (register_at s (Ok p)).next ≡ Ok b
-    → Ok b ≡ (registers_from s (Ok at) (i + 1)).next
-registers_more s at i here went = sym went ∙ rw here (registers-next s (Ok at) i)
+  pub immediate_there : {b : ℕ} → kind ≡ 1 → Ok b ≡ (field_at 8 t (Ok m)).next → Ok b ≡ (operand_at s p).next
+  immediate_there o e = rw (immediate-operand o) e
 
--- their count, then the registers
-registers-start : (s : List ℕ) (p : Place) → (registers_from s p 0).next ≡ p
-unfolding registers_from
-registers-start s p = refl
+  pub immediate_is : {v : ℕ} → kind ≡ 1 → v ≡ (field_at 8 t (Ok m)).value → Imm v ≡ (operand_at s p).operand
+  immediate_is o e = rw (immediate-operand o, e)
 
-pub count_err : (s : List ℕ) (at : ℕ) {r : Refusal} → answer_of (count_at 0 8 s (Ok at)) ≡ Err r → (registers_at s (Ok at)).next ≡ Err r
-unfolding registers_at
-count_err s at {r} e =
-    let n = count_at 0 8 s (Ok at) in
-    stays (λ j. (registers_from s n.next j).next) (registers-keep s n.next) n.value 0 r (registers-start s n.next ∙ answer_err n e) (omega arith)
+  pub memory_there : (kind ≡ 0 → ⊥) → (kind ≡ 1 → ⊥) → Ok m ≡ (operand_at s p).next
+  memory_there not-zero not-one = rw (memory-operand not-zero not-one)
 
-module _ (s : List ℕ) (at : ℕ) {n : Field} (n-is : answer_of (count_at 0 8 s (Ok at)) ≡ Ok n) where
-  count-read : count_at 0 8 s (Ok at) ≡ record { value = n.value; next = Ok n.end }
-  count-read = answer_ok (count_at 0 8 s (Ok at)) n-is
+  pub memory_is : (kind ≡ 0 → ⊥) → (kind ≡ 1 → ⊥) → Mem ≡ (operand_at s p).operand
+  memory_is not-zero not-one = rw (memory-operand not-zero not-one)
 
-  pub count_inside : n.end ≤ length s
-  count_inside = let w = (count_at_lem 0 8 s (Ok at) (ap (λ (f : FieldReading). f.next) count-read)).whole in omega (arith, w.after, w.inside)
+-- a list of registers: their count, none of them yet, one refused, one more, and all
+module _ (s : List ℕ) (p : Place) where
+  registers-start : (q : Place) → (registers_from s q 0).next ≡ q
+  unfolding registers_from
+  registers-start q = refl
 
-  pub written_from : {q : Place} → q ≡ (registers_from s (Ok n.end) n.value).next → q ≡ (registers_at s (Ok at)).next
+  pub count_refused : {r : Refusal} → Err r ≡ (count_at 0 8 s p).next → Err r ≡ (registers_at s p).next
   unfolding registers_at
-  written_from e = rw (e, count-read) refl
+  count_refused {r} e =
+      let n = count_at 0 8 s p in
+      sym (stays (λ j. (registers_from s n.next j).next) (registers-keep s n.next) n.value 0 r (registers-start n.next ∙ sym e) (omega arith))
+
+  pub count_inside : {b : ℕ} → Ok b ≡ (count_at 0 8 s p).next → b ≤ length s
+  count_inside e = let w = (count_at_lem 0 8 s p (sym e)).whole in omega (arith, w.after, w.inside)
+
+  pub registers_none : {b : ℕ} → Ok b ≡ (count_at 0 8 s p).next → Ok b ≡ (registers_from s (count_at 0 8 s p).next 0).next
+  registers_none e = e ∙ sym (registers-start (count_at 0 8 s p).next)
+
+  module _ (i : ℕ) {t : List ℕ} {m : ℕ} (same : t ≡ s) (here : Ok m ≡ (registers_from s (count_at 0 8 s p).next i).next) where
+    pub list_refused : {n : ℕ} {r : Refusal} → n ≡ (count_at 0 8 s p).value → i < n → Err r ≡ (register_at t (Ok m)).next → Err r ≡ (registers_at s p).next
+    unfolding registers_at
+    list_refused {n} n-is less e =
+        let q = (count_at 0 8 s p).next in
+        rw (← n-is) (sym (stays (λ j. (registers_from s q j).next) (registers-keep s q) n (i + 1) _ (sym (rw (same, here) at e ∙ registers-next s q i)) (omega arith)))
+
+    pub registers_more : {b : ℕ} → Ok b ≡ (register_at t (Ok m)).next → Ok b ≡ (registers_from s (count_at 0 8 s p).next (i + 1)).next
+    registers_more e = rw (same, here) at e ∙ registers-next s (count_at 0 8 s p).next i
+
+  pub registers_all : {n m : ℕ} → n ≡ (count_at 0 8 s p).value → Ok m ≡ (registers_from s (count_at 0 8 s p).next n).next → Ok m ≡ (registers_at s p).next
+  unfolding registers_at
+  registers_all n-is here = rw (← n-is) here

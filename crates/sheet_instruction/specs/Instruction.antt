@@ -1,11 +1,12 @@
 -- Instruction records, field by field in reading order.
-use Rattle.std.specs.Prelude.{ℕ, zero, suc, ◌+◌, ◌/◌, ◌%◌, List, Bool, cond, not, ◌&&◌, ◌||◌, set, replicate, ltb, eqb}
+use Rattle.std.specs.Prelude.{ℕ, zero, suc, ◌+◌, List, Bool, cond, not, ◌&&◌, ◌||◌, set, replicate, ltb, eqb}
 use Rattle.refusal.specs.declared.Fault.TheVariants as fault
 use Rattle.isa.specs.declared.Register.{Register}
 use Rattle.isa.specs.declared.Operand.{Operand}
 use Rattle.isa.specs.declared.Operand.TheVariants.{Absent, Reg, Imm, Mem}
 use Rattle.isa.specs.declared.Mnemonic.{Mnemonic}
 use Rattle.isa.specs.declared.Instruction.{Instruction}
+use Rattle.isa.specs.FlagBits.{has_bit}
 use Rattle.isa.specs.Mnemonics.{named}
 use Rattle.isa.specs.Register.{well_formed}
 use Rattle.isa.specs.Modelled.{at_fault}
@@ -83,7 +84,7 @@ optional_code there limit s p = cond there (code_at limit s p) (record { value =
 
 -- whether the bit of value `unit` (1, 2, 4, ..) stands in a map
 abbrev pub bit_of : ℕ → ℕ → Bool
-bit_of map unit = eqb (map / unit % 2) 1
+bit_of map unit = has_bit map unit
 
 -- What a map may not have: bit 6 or 7; bit 0 together with bit 1; bit 3 without bit 2 (S13).
 abbrev pub map_ok : ℕ → Bool

@@ -1,2 +1,3 @@
+pub mod MapBit
 pub mod Instruction
 pub mod Promises

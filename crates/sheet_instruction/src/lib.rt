@@ -1,46 +1,51 @@
-// Instruction records: a reader that checks one and keeps nothing of it. Each of its stages starts where the one before ended,
-// and the first refusal is the record's.
+// Instruction records: a reader that checks one and keeps nothing of it but its address. Each of its stages starts where the one
+// before ended, and the first refusal is the record's.
 #![tactic(auto)]
 
-ghost use Rattle.std.specs.Prelude.{◌≡◌, true, false, ◌+◌, ◌<◌, ◌≤◌, length, Ok};
-ghost use Rattle.sheet_field.specs.Field.{answer_of};
-ghost use Rattle.sheet_instruction.specs.Instruction.{register_at, operand_at, registers_from, registers_at, bit_of, map_ok, map_at, address_at, head_at, tail_at, instruction_at};
-ghost use Rattle.sheet_instruction.specs.Promises.{part_of, operands_at, operands_of, head_of, tail_of};
+ghost use Rattle.std.specs.Prelude.{◌≡◌, ◌+◌, ◌≤◌, ◌||◌, length, ltb, Ok, IfOk, is_none, unwrap_or};
+ghost use Rattle.sheet_field.specs.Reads.{Reads};
+ghost use Rattle.sheet_instruction.specs.Instruction.{register_at, operand_at, registers_at, optional_registers, optional_operand, bit_of, map_ok, map_at, address_at, head_at, tail_at, instruction_at};
+ghost use Rattle.sheet_instruction.specs.MapBit.{unit_of};
+ghost use Rattle.sheet_instruction.specs.Promises.{head_of, tail_of};
 
 use isa::{Mnemonic, Operand, Register};
 use refusal::{Fault, Refusal};
-use sheet_field::{Field, Place};
+use sheet_field::Reader;
 
-// An operand, and the offset after it.
-#[derive(Clone, Copy)]
-pub struct Part {
-    pub operand: Operand,
-    pub end: usize,
+// The bits of an instruction's map: what the record has, and that it is call-like.
+#[derive(Clone, Copy, PartialEq, Eq, Debug)]
+pub enum MapBit {
+    Target = 1,
+    Call = 2,
+    First = 4,
+    Second = 8,
+    Written = 16,
+    Flags = 32,
 }
 
-// Both operands, and the offset after them.
-#[derive(Clone, Copy)]
-struct Operands {
-    first: Operand,
-    second: Operand,
-    end: usize,
+impl MapBit {
+    // Whether it stands in that map.
+    pub fn is_in(self, map: u64) -> bool
+        ensures { result ≡ bit_of map (unit_of self) }
+    {
+        isa::has_bit(map, self as u64)
+    }
 }
 
-// What the checks of a record need of its head, and the offset after it.
+// What the checks of a record need of its head.
 #[derive(Clone, Copy)]
-struct HeadCheck {
+struct Head {
     map: u64,
+    address: u64,
     mnemonic: Mnemonic,
-    end: usize,
 }
 
-// What the checks of a record need of its tail, and the offset after it.
+// What the checks of a record need of its tail.
 #[derive(Clone, Copy)]
-struct TailCheck {
+struct Tail {
     first: Operand,
     second: Operand,
     flags: u64,
-    end: usize,
 }
 
 // The register in the four bytes from an offset on.
@@ -56,184 +61,146 @@ pub fn register_at(s: &[u8], at: usize) -> Register
     }
 }
 
-// The offset after a register.
 #[tactic(auto, using(crate::proofs::Checks::register_cut, crate::proofs::Checks::register_taken, crate::proofs::Checks::register_failed))]
-fn check_register(s: &[u8], at: usize) -> Place
-    requires { at ≤ length s.now }
-    ensures { result ≡ (register_at s.now (Ok at)).next }
+fn check_register(r: &mut Reader) -> Result<Register, Refusal>
+    requires { r.old.at ≤ length r.old.bytes.now }
+    ensures reads { Reads r.old r.new result (register_at r.old.bytes.now (Ok r.old.at)).next }
+    ensures value { IfOk result (λ x. x ≡ (register_at r.old.bytes.now (Ok r.old.at)).register) }
 {
-    if s.len() - at < 4 {
-        return Err(Fault::Ends.at(s.len()));
+    let at = r.at;
+    if r.bytes.len() - at < 4 {
+        return Err(Fault::Ends.at(r.bytes.len()));
     }
-    if isa::well_formed(register_at(s, at)) {
-        Ok(at + 4)
+    let register = register_at(r.bytes, at);
+    if isa::well_formed(register) {
+        r.at = at + 4;
+        Ok(register)
     } else {
         Err(Fault::Register.at(at))
     }
 }
 
-#[tactic(auto, using(crate::proofs::Checks::operand_err, crate::proofs::Checks::kind_inside, crate::proofs::Checks::register_err, crate::proofs::Checks::register_inside, crate::proofs::Checks::register_ok, crate::proofs::Checks::immediate_err, crate::proofs::Checks::immediate_ok, crate::proofs::Checks::memory_ok))]
-fn check_operand(s: &[u8], at: usize) -> Result<Part, Refusal>
-    ensures { result ≡ part_of (operand_at s.now (Ok at)) }
+#[tactic(auto, using(crate::proofs::Checks::kind_refused, crate::proofs::Checks::kind_inside, crate::proofs::Checks::register_refused, crate::proofs::Checks::register_there, crate::proofs::Checks::register_is, crate::proofs::Checks::immediate_refused, crate::proofs::Checks::immediate_there, crate::proofs::Checks::immediate_is, crate::proofs::Checks::memory_there, crate::proofs::Checks::memory_is))]
+fn check_operand(r: &mut Reader) -> Result<Operand, Refusal>
+    ensures reads { Reads r.old r.new result (operand_at r.old.bytes.now (Ok r.old.at)).next }
+    ensures value { IfOk result (λ x. x ≡ (operand_at r.old.bytes.now (Ok r.old.at)).operand) }
 {
-    let kind = sheet_field::code(s, at, 3)?;
-    if kind.value == 0 {
-        let end = check_register(s, kind.end)?;
-        let operand = Operand::Reg(register_at(s, kind.end));
-        return Ok(Part { operand, end });
+    match r.code(3)? {
+        0 => Ok(Operand::Reg(check_register(r)?)),
+        1 => Ok(Operand::Imm(r.take_field::<8>()?)),
+        _ => Ok(Operand::Mem),
     }
-    if kind.value == 1 {
-        let f = sheet_field::take_field::<8>(s, kind.end)?;
-        let operand = Operand::Imm(f.value);
-        return Ok(Part {
-            operand,
-            end: f.end,
-        });
+}
+
+fn check_optional_operand(r: &mut Reader, there: bool) -> Result<Operand, Refusal>
+    ensures reads { Reads r.old r.new result (optional_operand there r.old.bytes.now (Ok r.old.at)).next }
+    ensures value { IfOk result (λ x. x ≡ (optional_operand there r.old.bytes.now (Ok r.old.at)).operand) }
+{
+    if there {
+        check_operand(r)
+    } else {
+        Ok(Operand::Absent)
     }
-    Ok(Part {
-        operand: Operand::Mem,
-        end: kind.end,
-    })
 }
 
-// What is read only where its bit stands in the map.
-fn optional<T: Copy, F: FnOnce() -> Result<T, Refusal>>(
-    there: bool,
-    absent: T,
-    read: F,
-) -> Result<T, Refusal>
-    requires { F.IsAlwaysCallable read }
-    ensures present { there ≡ true → F.post read result }
-    ensures missing { there ≡ false → result ≡ Ok absent }
+#[tactic(auto, using(crate::proofs::Checks::count_refused, crate::proofs::Checks::count_inside, crate::proofs::Checks::registers_none, crate::proofs::Checks::list_refused, crate::proofs::Checks::register_end, crate::proofs::Checks::registers_more, crate::proofs::Checks::registers_all))]
+fn check_written(r: &mut Reader) -> Result<(), Refusal>
+    ensures { Reads r.old r.new result (registers_at r.old.bytes.now (Ok r.old.at)).next }
 {
-    if there { read() } else { Ok(absent) }
-}
-
-// The first operand where bit 2 is set, the second where bit 3 is.
-#[tactic(auto, using(crate::proofs::Checks::operands_err))]
-fn check_operands(s: &[u8], at: usize, map: u64) -> Result<Operands, Refusal>
-    ensures { result ≡ operands_of (operands_at map s.now (Ok at)) }
-{
-    let absent = Operand::Absent;
-    let one = optional(
-        bit(map, 4),
-        Part {
-            operand: absent,
-            end: at,
-        },
-        || check_operand(s, at),
-    )?;
-    let two = optional(
-        bit(map, 8),
-        Part {
-            operand: absent,
-            end: one.end,
-        },
-        || check_operand(s, one.end),
-    )?;
-    Ok(Operands {
-        first: one.operand,
-        second: two.operand,
-        end: two.end,
-    })
-}
-
-// The offset after n registers.
-#[tactic(auto, using(crate::proofs::Checks::registers_none, crate::proofs::Checks::registers_refused, crate::proofs::Checks::registers_end, crate::proofs::Checks::registers_more))]
-fn check_registers(s: &[u8], at: usize, n: u64) -> Place
-    requires { at ≤ length s.now }
-    ensures { result ≡ (registers_from s.now (Ok at) n).next }
-{
-    let mut end = at;
+    let n = r.count(0, 8)?;
     for _ in 0..n {
-        end = check_register(s, end)?;
+        check_register(r)?;
     }
-    Ok(end)
+    Ok(())
 }
 
-#[tactic(auto, using(crate::proofs::Checks::count_err, crate::proofs::Checks::count_inside, crate::proofs::Checks::written_from))]
-fn check_written(s: &[u8], at: usize) -> Place
-    ensures { result ≡ (registers_at s.now (Ok at)).next }
+#[tactic(auto, using(crate::proofs::Composed::none_written))]
+fn check_optional_written(r: &mut Reader, there: bool) -> Result<(), Refusal>
+    ensures { Reads r.old r.new result (optional_registers there r.old.bytes.now (Ok r.old.at)).next }
 {
-    let n = sheet_field::count(s, at, 0, 8)?;
-    check_registers(s, n.end, n.value)
+    if there { check_written(r) } else { Ok(()) }
 }
 
-#[tactic(auto, using(crate::proofs::Composed::operands_refused, crate::proofs::Composed::written_refused, crate::proofs::Composed::flags_refused, crate::proofs::Composed::tail_ok))]
-fn check_tail(s: &[u8], at: usize, map: u64) -> Result<TailCheck, Refusal>
-    ensures { result ≡ tail_of (tail_at map s.now (Ok at)) }
+#[tactic(auto, using(crate::proofs::Composed::operand_stays, crate::proofs::Composed::written_stays, crate::proofs::Composed::flags_stay), unfolding(crate::specs::Instruction::tail_at))]
+fn check_tail(r: &mut Reader, map: u64) -> Result<Tail, Refusal>
+    ensures reads { Reads r.old r.new result (tail_at map r.old.bytes.now (Ok r.old.at)).next }
+    ensures value { IfOk result (λ x. x ≡ tail_of (tail_at map r.old.bytes.now (Ok r.old.at))) }
 {
-    let both = check_operands(s, at, map)?;
-    let behind = both.end;
-    let end = optional(bit(map, 16), behind, || check_written(s, behind))?;
-    let f = optional(bit(map, 32), Field { value: 0, end }, || {
-        sheet_field::code(s, end, 32)
-    })?;
-    Ok(TailCheck {
-        first: both.first,
-        second: both.second,
-        flags: f.value,
-        end: f.end,
+    let first = check_optional_operand(r, MapBit::First.is_in(map))?;
+    let second = check_optional_operand(r, MapBit::Second.is_in(map))?;
+    check_optional_written(r, MapBit::Written.is_in(map))?;
+    let flags = if MapBit::Flags.is_in(map) {
+        r.code(32)?
+    } else {
+        0
+    };
+    Ok(Tail {
+        first,
+        second,
+        flags,
     })
-}
-
-// Whether the bit whose value is `unit` stands in the map.
-pub fn bit(map: u64, unit: u64) -> bool
-    requires { 0 < unit }
-    ensures { result ≡ bit_of map unit }
-{
-    map / unit % 2 == 1
 }
 
 fn map_ok(map: u64) -> bool
     ensures { result ≡ map_ok map }
 {
-    (map < 64) & !(bit(map, 1) & bit(map, 2)) & (!bit(map, 8) | bit(map, 4))
+    (map < 64)
+        & !(MapBit::Target.is_in(map) & MapBit::Call.is_in(map))
+        & (!MapBit::Second.is_in(map) | MapBit::First.is_in(map))
 }
 
-fn check_map(s: &[u8], at: usize) -> Result<Field, Refusal>
-    ensures { result ≡ answer_of (map_at s.now (Ok at)) }
+fn check_map(r: &mut Reader) -> Result<u64, Refusal>
+    ensures reads { Reads r.old r.new result (map_at r.old.bytes.now (Ok r.old.at)).next }
+    ensures value { IfOk result (λ x. x ≡ (map_at r.old.bytes.now (Ok r.old.at)).value) }
 {
-    sheet_field::take_checked::<1, _>(s, at, Fault::Code, |map| map_ok(map))
+    r.take_checked::<1, _>(Fault::Code, |map| map_ok(map))
 }
 
-// An address above `last`, or any where the instruction opens the sheet.
-fn check_address(s: &[u8], at: usize, opens: bool, last: u64) -> Result<Field, Refusal>
-    ensures { result ≡ answer_of (address_at opens last s.now (Ok at)) }
+// Whether an address is above the one before it, if there is one.
+fn is_above(address: u64, last: Option<u64>) -> bool
+    ensures { result ≡ (is_none last || ltb (unwrap_or last 0) address) }
 {
-    sheet_field::take_checked::<8, _>(s, at, Fault::Address, |address| opens | (last < address))
+    last.is_none_or(|last| last < address)
 }
 
-#[tactic(auto, using(crate::proofs::Composed::map_refused, crate::proofs::Composed::address_refused, crate::proofs::Composed::number_refused, crate::proofs::Composed::target_refused, crate::proofs::Composed::head_ok, crate::proofs::Composed::number_below))]
-fn check_head(s: &[u8], at: usize, opens: bool, last: u64) -> Result<HeadCheck, Refusal>
-    ensures { result ≡ head_of (head_at opens last s.now (Ok at)) }
+fn check_address(r: &mut Reader, last: Option<u64>) -> Result<u64, Refusal>
+    ensures reads { Reads r.old r.new result (address_at (is_none last) (unwrap_or last 0) r.old.bytes.now (Ok r.old.at)).next }
+    ensures value { IfOk result (λ x. x ≡ (address_at (is_none last) (unwrap_or last 0) r.old.bytes.now (Ok r.old.at)).value) }
 {
-    let map = check_map(s, at)?;
-    let address = check_address(s, map.end, opens, last)?;
-    let number = sheet_field::code(s, address.end, 35)?;
-    let end = number.end;
-    let target = optional(bit(map.value, 1), Field { value: 0, end }, || {
-        sheet_field::take_field::<8>(s, end)
-    })?;
-    Ok(HeadCheck {
-        map: map.value,
-        mnemonic: isa::mnemonic_of(number.value),
-        end: target.end,
+    r.take_checked::<8, _>(Fault::Address, |address| is_above(address, last))
+}
+
+#[tactic(auto, using(crate::proofs::Composed::address_stays, sheet_field::proofs::Steps::code_stays, crate::proofs::Composed::target_stays, crate::proofs::Composed::number_below), unfolding(crate::specs::Instruction::head_at))]
+fn check_head(r: &mut Reader, last: Option<u64>) -> Result<Head, Refusal>
+    ensures reads { Reads r.old r.new result (head_at (is_none last) (unwrap_or last 0) r.old.bytes.now (Ok r.old.at)).next }
+    ensures value { IfOk result (λ x. x ≡ head_of (head_at (is_none last) (unwrap_or last 0) r.old.bytes.now (Ok r.old.at))) }
+{
+    let map = check_map(r)?;
+    let address = check_address(r, last)?;
+    let mnemonic = isa::mnemonic_of(r.code(35)?);
+    if MapBit::Target.is_in(map) {
+        r.take_field::<8>()?;
+    }
+    Ok(Head {
+        map,
+        address,
+        mnemonic,
     })
 }
 
-// The offset after the instruction record at an offset. It opens the sheet where none stands before it; else `last` is the
-// address before.
-#[tactic(auto, using(crate::proofs::Composed::head_refused, crate::proofs::Composed::tail_refused, crate::proofs::Composed::instruction_taken, crate::proofs::Composed::instruction_failed))]
-pub fn check_instruction(s: &[u8], at: usize, opens: bool, last: u64) -> Place
-    ensures { result ≡ (instruction_at opens last s.now (Ok at)).next }
+// The address of the instruction record at the reader. `last` is the address before it, none where it opens the sheet.
+#[tactic(auto, using(crate::proofs::Composed::tail_stays), unfolding(crate::specs::Instruction::instruction_at))]
+pub fn check_instruction(r: &mut Reader, last: Option<u64>) -> Result<u64, Refusal>
+    ensures reads { Reads r.old r.new result (instruction_at (is_none last) (unwrap_or last 0) r.old.bytes.now (Ok r.old.at)).next }
+    ensures address { IfOk result (λ x. x ≡ (instruction_at (is_none last) (unwrap_or last 0) r.old.bytes.now (Ok r.old.at)).instruction.address) }
 {
-    let head = check_head(s, at, opens, last)?;
-    let tail = check_tail(s, head.end, head.map)?;
-    let call = bit(head.map, 2);
+    let at = r.at;
+    let head = check_head(r, last)?;
+    let tail = check_tail(r, head.map)?;
+    let call = MapBit::Call.is_in(head.map);
     if isa::is_at_fault(head.mnemonic, call, tail.first, tail.second, tail.flags) {
         Err(Fault::Instruction.at(at))
     } else {
-        Ok(tail.end)
+        Ok(head.address)
     }
 }
