@@ -5,6 +5,7 @@ use mathlib.Core.List.{List, [], ◌∷◌, ◌++◌, map}
 use mathlib.Core.Bool.{true}
 use native.Mathlib.Omega.{arith}
 use native.Mathlib.Numerals.{add-one}
+use borrow.Author.Tests.{ne_eqb}
 use lib.Dec.{eqb}
 use lib.ListN.{length, get_or, set, take, length-map}
 use Rattle.std.specs.Prelude.{Ok, Err, Option, Some, None, is_none, unwrap_or}
@@ -152,7 +153,7 @@ module _ (first : Reader) where
     noting-more {address} taken address_is a-is p-is =
         let the : address ≡ read.instruction.address = rw read_is at address_is in
         record {
-          opens = rw (add-one k) refl;
+          opens = sym (ne_eqb (k + 1) 0 (λ (z : k + 1 ≡ 0). omega arith));
           before = rw (add-one k) the;
           same = taken.same ∙ f.same;
           place = rw read_is at taken.place ∙ sym after;

@@ -169,7 +169,7 @@ module _ (s : List ℕ) {start : Reader} (bytes : start.bytes.now ≡ s) (zero-a
               unfolding reading_of sheet_at
               reading-is =
                   let after_nodes : (sheet_at s).nodes.next ≡ Ok last.at = rw nodes-are (sym nodes-next.place) in
-                  rw (first-read, second-read, third-read, after_nodes) (at_end (leb (length s) last.at) last.at the_sheet)
+                  rw (after_nodes, third-read, second-read, first-read) (at_end (leb (length s) last.at) last.at the_sheet)
 
               pub read_whole : length s ≤ last.at → Ok the_sheet ≡ reading_of s
               read_whole le = sym (rw (le-leb (length s) last.at le) at reading-is)

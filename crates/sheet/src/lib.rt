@@ -5,8 +5,6 @@
 ghost use Rattle.std.specs.Prelude.{◌≡◌, ◌≤◌, set, OnOk, IfOk, Ok};
 ghost use Rattle.sheet_field.specs.Field.{count_at};
 ghost use Rattle.sheet_field.specs.Reads.{Reads};
-ghost use Rattle.sheet_instruction.specs.Instruction.{instruction_at};
-ghost use Rattle.std.specs.Prelude.{is_none, unwrap_or};
 ghost use Rattle.sheet.specs.Sheet.{instructions_from, nodes_from, sheet_at, reading_of};
 ghost use Rattle.sheet.specs.Index.{over, Noted, Indexed};
 ghost use Rattle.sheet.specs.Promises.{found_on};
@@ -47,18 +45,6 @@ fn note(list: &mut [u64], i: usize, x: u64)
     }
 }
 
-// TEMP
-fn check_instruction(r: &mut Reader, last: Option<u64>) -> Result<u64, Refusal>
-    ensures reads { Reads r.old r.new result (instruction_at (is_none last) (unwrap_or last 0) r.old.bytes.now (Ok r.old.at)).next }
-    ensures address { IfOk result (λ x. x ≡ (instruction_at (is_none last) (unwrap_or last 0) r.old.bytes.now (Ok r.old.at)).instruction.address) }
-{
-    let at = r.at;
-    let l = last.unwrap_or(0);
-    let end = sheet_instruction::check_instruction(r.bytes, at, last.is_none(), l)?;
-    r.at = end;
-    Ok(0)
-}
-
 // n instructions, with the address and the offset of each at the start of the borrowed lists, as far as these reach.
 fn read_instructions(
     r: &mut Reader,
@@ -72,7 +58,7 @@ fn read_instructions(
     let mut last = None;
     for i in 0..n {
         let at = r.at;
-        let address = check_instruction(r, last)?;
+        let address = sheet_instruction::check_instruction(r, last)?;
         note(addresses, i as usize, address);
         note(places, i as usize, at as u64);
         last = Some(address);

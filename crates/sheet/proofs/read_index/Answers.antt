@@ -1,10 +1,13 @@
+use Prim.Native.Nat.{◌≤◌}
 use native.Mathlib.Omega.{arith}
 use Rattle.sheet_field.proofs.Fields.{count_most}
 use Rattle.sheet.proofs.Sections.{indexed, read_whole, left_over}
 use Rattle.sheet.proofs.read_index.Goals as goal
 
 pub overflow_mul-blocks : goal.overflow_mul-blocks
-overflow_mul-blocks c = record { fits = omega (arith, c.in_ok-blocks.ensures.count, count_most 0 1024 _ _) }
+overflow_mul-blocks c =
+    let few : c.in_ok-blocks.blocks.count ≤ 1024 = rw c.in_ok-blocks.ensures.count (count_most 0 1024 _ _) in
+    record { fits = omega (arith, few) }
 
 pub returns-then-s-r-clause-reading : goal.returns-then-s-r-clause-reading
 returns-then-s-r-clause-reading c =
