@@ -1,13 +1,10 @@
 -- Blocks: one whose bytes are there, and that they are numbers of 8 bytes.
-use Prim.Native.Nat.{ℕ, zero, suc, ◌+◌, ◌*◌, ◌-◌, ◌/◌, ◌≤◌, ◌<◌}
-use mathlib.Core.Path.{◌≡◌, refl, sym, ap, ◌∙◌}
+use Prim.Native.Nat.{ℕ, zero, suc, ◌+◌, ◌*◌, ◌≤◌}
+use mathlib.Core.Path.{◌≡◌, refl, ap}
 use mathlib.Core.List.{List}
-use native.Mathlib.Decide.{dec_lt}
 use native.Mathlib.Omega.{arith}
 use lib.ListN.{length}
-use Rattle.std.specs.Prelude.{Ok, Err}
-use Rattle.refusal.specs.declared.Fault.TheVariants.{Ends}
-use Rattle.refusal.specs.Numbers.{refused}
+use Rattle.std.specs.Prelude.{Ok}
 use Rattle.sheet_field.specs.Field.{Place, little, field_at, words_from}
 use Rattle.sheet_field.proofs.Fields.{field-whole}
 use Rattle.sheet_field.proofs.Words.{words-more}

@@ -91,7 +91,6 @@ fn take_section(r: &mut Reader, most: u64) -> Result<Section, Refusal>
 
 // Any bytes: accepted, or the first refusal. Of an accepted sheet the index stands at the start of the borrowed lists, as far
 // as these reach: address and offset of each instruction, the offset of each node.
-#[tactic(auto, using(crate::proofs::Sections::first_refused, crate::proofs::Sections::instructions_refused, crate::proofs::Sections::second_refused, crate::proofs::Sections::blocks_refused, crate::proofs::Sections::third_refused, crate::proofs::Sections::nodes_refused))]
 pub fn read_index(
     s: &[u8],
     addresses: &mut [u64],

@@ -1,6 +1,6 @@
 use native.Mathlib.Omega.{arith}
 use mathlib.Core.Path.{◌≡◌}
-use Rattle.std.proofs.lemmas.Result.{err_from_is_err_and}
+use Rattle.sheet_field.proofs.Steps.{handed}
 use Rattle.sheet.proofs.Fronts.{noting-none, noting-refused, noting-more}
 use Rattle.sheet.proofs.read_instructions.Goals as goal
 
@@ -8,9 +8,7 @@ pub loop-i-init : goal.loop-i-init
 loop-i-init c = noting-none _ _ _
 
 pub returns-in_err-address-clause-reads : goal.returns-in_err-address-clause-reads
-returns-in_err-address-clause-reads c =
-    let e = err_from_is_err_and c.from_residual.result c.from_residual.ensures.1 in
-    rw (e.1, e.2) (noting-refused _ _ c.loop-i.invariant c.in_err-address.ensures.reads (omega arith))
+returns-in_err-address-clause-reads c = handed c.from_residual.ensures.1 (noting-refused _ _ c.loop-i.invariant c.in_err-address.ensures.reads (omega arith))
 
 pub loop-i-preserved : goal.loop-i-preserved
 loop-i-preserved c =

@@ -1,6 +1,6 @@
 use native.Mathlib.Omega.{arith}
 use mathlib.Core.Path.{◌≡◌, refl}
-use Rattle.std.proofs.lemmas.Result.{err_from_is_err_and}
+use Rattle.sheet_field.proofs.Steps.{handed}
 use Rattle.sheet.specs.Sheet.{nodes_from}
 use Rattle.sheet.proofs.Fronts.{nodes-none, node-read, node-noted, node-refused}
 use Rattle.sheet.proofs.read_nodes.Goals as goal
@@ -10,9 +10,7 @@ unfolding nodes_from
 loop-i-init c = (record { same = refl; place = refl }, nodes-none c.args.r.now _)
 
 pub returns-in_err-check_node-clause-reads : goal.returns-in_err-check_node-clause-reads
-returns-in_err-check_node-clause-reads c =
-    let e = err_from_is_err_and c.from_residual.result c.from_residual.ensures.1 in
-    rw (e.1, e.2) (node-refused _ _ c.loop-i.invariant.0 c.in_err-check_node.ensures (omega arith))
+returns-in_err-check_node-clause-reads c = handed c.from_residual.ensures.1 (node-refused _ _ c.loop-i.invariant.0 c.in_err-check_node.ensures (omega arith))
 
 pub loop-i-preserved : goal.loop-i-preserved
 loop-i-preserved c = (node-read _ _ c.loop-i.invariant.0 c.in_ok-check_node.ensures, node-noted _ _ c.loop-i.invariant.0 _ c.loop-i.invariant.1 c.note.ensures)

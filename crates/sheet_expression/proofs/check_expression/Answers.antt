@@ -1,22 +1,18 @@
 use Rattle.sheet_expression.proofs.Typing.{count-refused, count-few, checking-none, record-refused, tagged, depth_small, checking-more, expression-next, expression-type}
 use Rattle.sheet_expression.proofs.Tables.{record-in}
-use Rattle.std.proofs.lemmas.Result.{err_from_is_err_and}
+use Rattle.sheet_field.proofs.Steps.{handed}
 use Prim.Native.Nat.{◌+◌}
 use native.Mathlib.Omega.{arith}
 use Rattle.sheet_expression.proofs.check_expression.Goals as goal
 
 pub returns-in_err-n-clause-reads : goal.returns-in_err-n-clause-reads
-returns-in_err-n-clause-reads c =
-    let e = err_from_is_err_and c.from_residual.result c.from_residual.ensures.1 in
-    rw (e.1, e.2) (count-refused _ _ c.in_err-n.ensures.reads)
+returns-in_err-n-clause-reads c = handed c.from_residual.ensures.1 (count-refused _ _ c.in_err-n.ensures.reads)
 
 pub loop-i-init : goal.loop-i-init
 loop-i-init c = checking-none _ _ c.in_ok-n.ensures.reads c.new-stack.ensures.types c.new-stack.ensures.depth
 
 pub returns-in_err-one-clause-reads : goal.returns-in_err-one-clause-reads
-returns-in_err-one-clause-reads c =
-    let e = err_from_is_err_and c.from_residual-in_err-one.result c.from_residual-in_err-one.ensures.1 in
-    rw (e.1, e.2) (record-refused _ _ c.in_ok-n.ensures.value c.loop-i.invariant c.depth.ensures c.in_err-one.ensures.reads (omega arith))
+returns-in_err-one-clause-reads c = handed c.from_residual-in_err-one.ensures.1 (record-refused _ _ c.in_ok-n.ensures.value c.loop-i.invariant c.depth.ensures c.in_err-one.ensures.reads (omega arith))
 
 pub checked_type-requires : goal.checked_type-requires
 checked_type-requires c =

@@ -1,24 +1,20 @@
 use Rattle.sheet_expression.proofs.Checks.{kind-refused, kind-small, argument-refused, argument-small, constant-refused, child-lacking, trees-left, constant_wide, record-checked, record-is}
-use Rattle.std.proofs.lemmas.Result.{err_from_is_err_and}
+use Rattle.sheet_field.proofs.Steps.{handed}
 use native.Mathlib.Omega.{arith}
 use Rattle.sheet_expression.proofs.check_record.Goals as goal
 
 pub returns-in_err-kind-clause-reads : goal.returns-in_err-kind-clause-reads
-returns-in_err-kind-clause-reads c =
-    let e = err_from_is_err_and c.from_residual.result c.from_residual.ensures.1 in
-    rw (e.1, e.2) (kind-refused _ _ _ _ c.in_err-kind.ensures.reads)
+returns-in_err-kind-clause-reads c = handed c.from_residual.ensures.1 (kind-refused _ _ _ _ c.in_err-kind.ensures.reads)
 
 pub returns-in_err-argument-clause-reads : goal.returns-in_err-argument-clause-reads
 returns-in_err-argument-clause-reads c =
-    let e = err_from_is_err_and c.from_residual-in_err-argument.result c.from_residual-in_err-argument.ensures.1 in
     let kind = c.in_ok-kind.ensures in
-    rw (e.1, e.2) (argument-refused _ _ _ _ kind.reads kind.value c.in_err-argument.ensures.reads)
+    handed c.from_residual-in_err-argument.ensures.1 (argument-refused _ _ _ _ kind.reads kind.value c.in_err-argument.ensures.reads)
 
 pub returns-in_err-value-clause-reads : goal.returns-in_err-value-clause-reads
 returns-in_err-value-clause-reads c =
-    let e = err_from_is_err_and c.from_residual-in_err-value.result c.from_residual-in_err-value.ensures.1 in
     let kind = c.in_ok-kind.ensures in let argument = c.in_ok-argument.ensures in
-    rw (e.1, e.2) (constant-refused _ _ _ _ kind.reads kind.value argument.reads argument.value c.in_err-value.ensures.reads)
+    handed c.from_residual-in_err-value.ensures.1 (constant-refused _ _ _ _ kind.reads kind.value argument.reads argument.value c.in_err-value.ensures.reads)
 
 pub overflow_mul-tag : goal.overflow_mul-tag
 overflow_mul-tag c =

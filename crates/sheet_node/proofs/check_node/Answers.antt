@@ -1,29 +1,24 @@
-use Rattle.std.proofs.lemmas.Result.{err_from_is_err_and}
+use Rattle.sheet_field.proofs.Steps.{handed}
 use Rattle.sheet_node.proofs.Checks.{types-stop, statements-count-ends, statements-stop, condition-ends, node-ends}
 use Rattle.sheet_node.proofs.check_node.Goals as goal
 
 pub returns-in_err-types : goal.returns-in_err-types
-returns-in_err-types c =
-    let e = err_from_is_err_and c.from_residual.result c.from_residual.ensures.1 in
-    rw (e.1, e.2) (types-stop _ c.in_err-types.ensures.reads)
+returns-in_err-types c = handed c.from_residual.ensures.1 (types-stop _ c.in_err-types.ensures.reads)
 
 pub returns-in_err-statements : goal.returns-in_err-statements
 returns-in_err-statements c =
-    let e = err_from_is_err_and c.from_residual-in_err-statements.result c.from_residual-in_err-statements.ensures.1 in
     let types = c.in_ok-types.ensures in
-    rw (e.1, e.2) (statements-count-ends _ types.reads types.types c.in_err-statements.ensures.reads)
+    handed c.from_residual-in_err-statements.ensures.1 (statements-count-ends _ types.reads types.types c.in_err-statements.ensures.reads)
 
 pub returns-in_err-check_statements : goal.returns-in_err-check_statements
 returns-in_err-check_statements c =
-    let e = err_from_is_err_and c.from_residual-in_err-check_statements.result c.from_residual-in_err-check_statements.ensures.1 in
     let types = c.in_ok-types.ensures in let n = c.in_ok-statements.ensures in
-    rw (e.1, e.2) (statements-stop _ types.reads types.types n.reads n.value c.in_err-check_statements.ensures)
+    handed c.from_residual-in_err-check_statements.ensures.1 (statements-stop _ types.reads types.types n.reads n.value c.in_err-check_statements.ensures)
 
 pub returns-in_err-check_expression : goal.returns-in_err-check_expression
 returns-in_err-check_expression c =
-    let e = err_from_is_err_and c.from_residual-in_err-check_expression.result c.from_residual-in_err-check_expression.ensures.1 in
     let types = c.in_ok-types.ensures in let n = c.in_ok-statements.ensures in
-    rw (e.1, e.2) (condition-ends _ types.reads types.types n.reads n.value c.in_ok-check_statements.ensures c.in_err-check_expression.ensures.reads)
+    handed c.from_residual-in_err-check_expression.ensures.1 (condition-ends _ types.reads types.types n.reads n.value c.in_ok-check_statements.ensures c.in_err-check_expression.ensures.reads)
 
 pub returns : goal.returns
 returns c =

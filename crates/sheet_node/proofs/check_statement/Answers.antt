@@ -1,11 +1,9 @@
 use Rattle.sheet_node.proofs.Checks.{map-ends, other-ends, variable-ends, value-ends, value-declared, types-differ, types_same}
-use Rattle.std.proofs.lemmas.Result.{err_from_is_err_and}
+use Rattle.sheet_field.proofs.Steps.{handed}
 use Rattle.sheet_node.proofs.check_statement.Goals as goal
 
 pub returns-in_err-map : goal.returns-in_err-map
-returns-in_err-map c =
-    let e = err_from_is_err_and c.from_residual.result c.from_residual.ensures.1 in
-    rw (e.1, e.2) (map-ends _ _ c.in_err-map.ensures.reads)
+returns-in_err-map c = handed c.from_residual.ensures.1 (map-ends _ _ c.in_err-map.ensures.reads)
 
 pub returns-then-map-ne3 : goal.returns-then-map-ne3
 returns-then-map-ne3 c =
@@ -14,15 +12,13 @@ returns-then-map-ne3 c =
 
 pub returns-in_err-v : goal.returns-in_err-v
 returns-in_err-v c =
-    let e = err_from_is_err_and c.from_residual-in_err-v.result c.from_residual-in_err-v.ensures.1 in
     let map = c.in_ok-map.ensures in
-    rw (e.1, e.2) (variable-ends _ _ map.reads map.value c.if-map-ne3.false c.in_err-v.ensures.reads)
+    handed c.from_residual-in_err-v.ensures.1 (variable-ends _ _ map.reads map.value c.if-map-ne3.false c.in_err-v.ensures.reads)
 
 pub returns-in_err-t : goal.returns-in_err-t
 returns-in_err-t c =
-    let e = err_from_is_err_and c.from_residual-in_err-t.result c.from_residual-in_err-t.ensures.1 in
     let map = c.in_ok-map.ensures in let v = c.in_ok-v.ensures in
-    rw (e.1, e.2) (value-ends _ _ map.reads map.value c.if-map-ne3.false v.reads v.value c.in_err-t.ensures.reads)
+    handed c.from_residual-in_err-t.ensures.1 (value-ends _ _ map.reads map.value c.if-map-ne3.false v.reads v.value c.in_err-t.ensures.reads)
 
 pub bounds-types-v : goal.bounds-types-v
 bounds-types-v c =

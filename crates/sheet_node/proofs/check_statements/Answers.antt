@@ -1,5 +1,5 @@
 use Rattle.std.proofs.Common.{refl, ◌≡◌, arith}
-use Rattle.std.proofs.lemmas.Result.{err_from_is_err_and}
+use Rattle.sheet_field.proofs.Steps.{handed}
 use Rattle.sheet_node.specs.Node.{statements_from}
 use Rattle.sheet_node.proofs.Checks.{statement-read, statement-refused}
 use Rattle.sheet_node.proofs.check_statements.Goals as goal
@@ -9,9 +9,7 @@ unfolding statements_from
 loop-init c = record { same = refl; place = refl }
 
 pub returns-in_err-check_statement : goal.returns-in_err-check_statement
-returns-in_err-check_statement c =
-    let e = err_from_is_err_and c.from_residual.result c.from_residual.ensures.1 in
-    rw (e.1, e.2) (statement-refused _ _ _ c.loop.invariant c.in_err-check_statement.ensures (omega arith))
+returns-in_err-check_statement c = handed c.from_residual.ensures.1 (statement-refused _ _ _ c.loop.invariant c.in_err-check_statement.ensures (omega arith))
 
 pub loop-preserved : goal.loop-preserved
 loop-preserved c = statement-read _ _ _ c.loop.invariant c.in_ok-check_statement.ensures

@@ -1,22 +1,18 @@
 use Rattle.std.proofs.Common.{arith}
-use Rattle.std.proofs.lemmas.Result.{err_from_is_err_and}
+use Rattle.sheet_field.proofs.Steps.{handed}
 use Rattle.sheet_node.specs.Node.{types_from}
 use Rattle.sheet_node.proofs.Checks.{types-count-ends, type-read, type-refused, types-inside, part-few, part-table, types-next, types-are}
 use Rattle.sheet_node.proofs.check_types.Goals as goal
 
 pub returns-in_err-n-clause-reads : goal.returns-in_err-n-clause-reads
-returns-in_err-n-clause-reads c =
-    let e = err_from_is_err_and c.from_residual.result c.from_residual.ensures.1 in
-    rw (e.1, e.2) (types-count-ends _ c.in_err-n.ensures.reads)
+returns-in_err-n-clause-reads c = handed c.from_residual.ensures.1 (types-count-ends _ c.in_err-n.ensures.reads)
 
 pub loop-init : goal.loop-init
 unfolding types_from
 loop-init c = c.in_ok-n.ensures.reads
 
 pub returns-in_err-code-clause-reads : goal.returns-in_err-code-clause-reads
-returns-in_err-code-clause-reads c =
-    let e = err_from_is_err_and c.from_residual-in_err-code.result c.from_residual-in_err-code.ensures.1 in
-    rw (e.1, e.2) (type-refused _ _ c.loop.invariant c.in_err-code.ensures.reads c.in_ok-n.ensures.value (omega arith))
+returns-in_err-code-clause-reads c = handed c.from_residual-in_err-code.ensures.1 (type-refused _ _ c.loop.invariant c.in_err-code.ensures.reads c.in_ok-n.ensures.value (omega arith))
 
 pub loop-preserved : goal.loop-preserved
 loop-preserved c = type-read _ _ c.loop.invariant c.in_ok-code.ensures.reads
