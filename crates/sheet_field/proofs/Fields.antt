@@ -30,6 +30,12 @@ little-add s at zero n = rw (zero-add, add-zero) (omega arith)
 little-add s at (suc m) n =
     rw (suc-add, little-add s (suc at) m n, suc-add, ← add-suc, pow-suc) (omega arith)
 
+-- n bytes spell a number below 256 to the n
+pub little-small : (s : List ℕ) (n at : ℕ) → ((i : ℕ) → get_or s i 0 < 256) → little s at n < 256 ^ n
+unfolding little
+little-small s zero at bytes = omega arith
+little-small s (suc n) at bytes = rw pow-suc (omega (arith, bytes at, little-small s n (suc at) bytes))
+
 -- the cases of `field_at`: a whole field, one that the sheet's end cuts, and none where reading was refused
 pub field-whole : (n : ℕ) (s : List ℕ) {p : Place} {at v m : ℕ}
     → p ≡ Ok at → at + n ≤ length s → v ≡ little s at n → m ≡ n
