@@ -11,7 +11,7 @@ use lib.Dec.{leb}
 use Rattle.std.specs.Prelude.{cond}
 use borrow.Author.Tests.{leb-true, ltb-true}
 use Rattle.sheet_field.specs.Field.{Place, FieldReading, little, field_at, check_field, count_at, judge, keep, start_of, code_at, WentOn, read_as, answer_of}
-use Rattle.std.specs.Prelude.{Ok, Err}
+use Rattle.std.specs.Prelude.{Ok, Err, IsOk}
 use Rattle.std.specs.Int.{from_le_bytes, w64}
 use Rattle.refusal.specs.declared.Fault.{Fault}
 use Rattle.refusal.specs.declared.Fault.TheVariants.{Ends, Code, Count}
@@ -224,3 +224,11 @@ checked-failed fault at f o e = rw (o, ← e) refl
 pub checked-stays : (ok : Bool) (fault : Fault) (at : ℕ) (f : FieldReading) {r : Refusal} → Err r ≡ f.next → Err r ≡ (check_field ok fault at f).next
 unfolding check_field
 checked-stays ok fault at f e = rw (← e) refl
+
+-- reading went on, as a test and with the offset
+pub went-on : (p : Place) → IsOk p → WentOn p
+went-on (Ok b) e = (b, refl)
+went-on (Err r) e = absurd cc
+
+pub went-ok : {p : Place} → WentOn p → IsOk p
+went-ok on = rw on.1 refl
