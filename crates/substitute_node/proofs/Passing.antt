@@ -16,6 +16,8 @@ use Rattle.expr.specs.Statement.{Statement}
 use Rattle.expr.specs.Statement.Statement.{other}
 use Rattle.sheet_expression.specs.Expression.{Taken, expression_at}
 use Rattle.sheet_expression.specs.Promises.{TookTree}
+use Rattle.sheet_node.specs.declared.node.Assignment.{Assignment}
+use Rattle.sheet_node.specs.Promises.{TookStatement}
 use Rattle.sheet_node.specs.Node.{StatementRead, statement_at, statement_of, statements_from}
 use Rattle.sheet_node.proofs.Nodes.{statements-more}
 use Rattle.sheet_node.proofs.Statements.{statement-whole}
@@ -45,6 +47,12 @@ module _ (h : Table) (r : StatementRead) (is : r.assigned ≡ true) {v : ℕ} {w
   pub stepped_by : {A : Type 0} (result : Option A) (after : Table) {at : ℕ} → Ok at ≡ r.next → Assigned result v (tree_of ws) h after → Stepped result at h after r
   stepped_by (Some x) after place made = (place, stepped_assigned made.0 made.1)
   stepped_by None after place made = stepped_long made.1
+
+-- an assignment that was taken
+pub stepped_taken : (h : Table) (types s : List ℕ) (at : ℕ) {f : Assignment} {end : ℕ} → TookStatement (Some f) end (statement_at types s (Ok at))
+    → {A : Type 0} (result : Option A) (after : Table) → Assigned result f.variable (tree_of f.value.words.now) h after → Stepped result end h after (statement_at types s (Ok at))
+stepped_taken h types s at took result after made =
+    let own = took.assignment in stepped_by h (statement_at types s (Ok at)) own.assigned own.variable own.words result after took.place made
 
 -- the first i statements are passed
 pub record Passing (types s : List ℕ) (from n : ℕ) (h : Table) (at i : ℕ) : Type 0 where

@@ -36,6 +36,7 @@ impl<const N: usize> Room<N> {
 
     // The next statement, which was read whole: an assignment's value is substituted and assigned, any other statement ends all that is held. None where the
     // substituted value is too long.
+    #[tactic(auto, using(crate::proofs::Passing::stepped_taken))]
     fn take_statement(&mut self, r: &mut Reader, types: &[u8]) -> Option<()>
         requires few { length types.now ≤ N }
         requires went_on { WentOn (statement_at types.now r.old.bytes.now (Ok r.old.at)).next }

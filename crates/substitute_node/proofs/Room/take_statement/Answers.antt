@@ -1,5 +1,5 @@
 use Rattle.std.specs.Prelude.{Ok}
-use Rattle.substitute_node.proofs.Passing.{stepped_other, stepped_by}
+use Rattle.substitute_node.proofs.Passing.{stepped_other}
 use Rattle.sheet_node.specs.Node.{statement_at}
 use Rattle.sheet_node.proofs.Statements.{took-declared}
 use native.Mathlib.Omega.{arith}
@@ -12,12 +12,6 @@ take_assignment-requires g c =
     let took = c.in-Some.ensures.took c.args.types.now c.requires.went_on in
     let declared = took-declared c.args.types.now c.args.r.now.bytes.now (Ok c.args.r.now.at) took.assignment c.requires.went_on in
     (search rules, (omega (arith, declared, c.requires.few), omega (arith, took.assignment.few, ap length took.assignment.words)))
-
-pub returns-clause-stepped : goal.returns-clause-stepped
-returns-clause-stepped g c =
-    let took = c.in-Some.ensures.took c.args.types.now c.requires.went_on in
-    let own = took.assignment in
-    stepped_by _ (statement_at c.args.types.now c.args.r.now.bytes.now (Ok c.args.r.now.at)) own.assigned own.variable own.words c.take_assignment.result _ took.place c.take_assignment.ensures
 
 pub returns-then-not-self-clause-stepped : goal.returns-then-not-self-clause-stepped
 returns-then-not-self-clause-stepped g c =
