@@ -1,29 +1,26 @@
 -- Laws of plain statements and of fitting values.
 use Rattle.std.specs.Prelude.{Option, Some, None, Ok}
-use Prim.Native.Nat.{ℕ, suc, ◌+◌, ◌*◌, ◌≤◌, ◌<◌}
+use Prim.Native.Nat.{ℕ, suc, ◌+◌, ◌≤◌, ◌<◌}
 use mathlib.Core.Path.{◌≡◌, refl, sym, ap, ◌∙◌}
-use mathlib.Core.List.{List, [], ◌∷◌, ◌++◌}
+use mathlib.Core.List.{List, [], ◌∷◌}
 use mathlib.Core.Bool.{Bool, true, false}
 use native.Mathlib.Omega.{arith}
 use native.Mathlib.Numerals.{add-one}
-use native.Mathlib.Nat.{zero-add}
-use lib.ListN.{length, get_or, drop, take, drop_of_length-le}
-use lib.Seq.{drop-cons, paste, take-length, length-take-le}
-use Rattle.sheet_node.proofs.Statements.{took-words, took-assigned}
-use Rattle.sheet_field.specs.Field.{Place, WentOn}
+use lib.ListN.{length, get_or, drop, drop_of_length-le}
+use lib.Seq.{drop-cons}
+use Rattle.sheet_field.specs.Field.{Place}
 use Rattle.expr.specs.Tree.{tree_of}
 use Rattle.expr.specs.Scan.{plain_expr}
 use Rattle.arith.specs.Numbers.{fits}
 use Rattle.expr.specs.Statement.{Statement}
 use Rattle.expr.specs.Statement.Statement.{assignment, other}
-use Rattle.sheet_node.specs.declared.Assignment.{Assignment}
-use Rattle.sheet_node.specs.Node.{statement_at, statement_of, statements_from}
+use Rattle.sheet_node.specs.declared.node.Assignment.{Assignment}
+use Rattle.sheet_node.specs.Node.{StatementRead, statement_at, statement_of, statements_from}
 use Rattle.sheet_node.specs.Promises.{TookAssignment}
 use Rattle.sheet_node.proofs.Accepted.{statements-nth, statements-length}
 use Rattle.evaluate_node.specs.Evaluate.{plain_statement, plain_all, unfit_from}
 use Rattle.evaluate_node.specs.Promises.{After, state_of, go_on, after_statement, assigned_all, StateIs, Stepped}
 use Rattle.evaluate_node.specs.Promises.After.{went, stopped}
-use Rattle.evaluate_node.specs.declared.Step.{Step}
 use Rattle.value.specs.Evaluation.{evaluated}
 
 -- ---- values
@@ -51,37 +48,25 @@ module _ (types values : List ℕ) (v : ℕ) (kept : unfit_from 0 types values �
   unfolding unfit_from
   unfit-none out = sym (kept ∙ rw (drop_of_length-le types out))
 
--- the first n of the values, copied to the start
-pub copied-front : (values before after : List ℕ) (n : ℕ) → n ≤ length values → after ≡ paste before 0 (take n values) (length (take n values))
-    → after ≡ take n values ++ drop n before
-copied-front values before after n enough is =
-    let long : length (take n values) ≡ n = length-take-le n values enough in
-    is ∙ rw (take-length, zero-add, long)
-
 -- ---- statements
 
 pub none-next : (types s : List ℕ) (p : Place) → p ≡ (statements_from types s p 0).next
 unfolding statements_from
 none-next types s p = refl
 
-module _ (types s : List ℕ) (p : Place) {f : Assignment} {before after : List ℕ} (took : TookAssignment f before after (statement_at types s p)) where
-  pub plain-taken : {plain : Bool} → plain ≡ plain_expr (tree_of (take (2 * f.records) after)) → plain ≡ plain_statement (statement_of (statement_at types s p))
-  plain-taken is = rw (took.assigned, ← took-words took) is
+-- an assignment that was read whole
+pub plain-taken : {x : StatementRead} {f : Assignment} → TookAssignment f x → {plain : Bool} → plain ≡ plain_expr (tree_of f.value.words.now) → plain ≡ plain_statement (statement_of x)
+plain-taken took is = rw (took.assigned, ← took.words) is
 
 -- nothing is made after the run stopped
 pub rests : (types : List ℕ) (x : Statement) (values : List ℕ) → after_statement types x (stopped values) ≡ stopped values
 rests types (assignment v e) values = refl
 rests types other values = refl
 
-module _ (types s : List ℕ) (p : Place) {f : Assignment} {before after : List ℕ} (took : TookAssignment f before after (statement_at types s p))
-    (on : WentOn (statement_at types s p).next) where
-  -- an assignment that is made
-  pub made : (values : List ℕ) {v : Option ℕ} → v ≡ evaluated types values (tree_of (take (2 * f.records) after))
-      → after_statement types (statement_of (statement_at types s p)) (went values) ≡ go_on v f.variable values
-  made values is = rw (took.assigned, took.variable, is, took-words took)
-
-  pub in-range : f.variable < length types
-  in-range = (took-assigned types s p took on).declared
+-- an assignment that is made
+pub made : (types : List ℕ) {x : StatementRead} {f : Assignment} → TookAssignment f x → (values : List ℕ) {v : Option ℕ} → v ≡ evaluated types values (tree_of f.value.words.now)
+    → after_statement types (statement_of x) (went values) ≡ go_on v f.variable values
+made types took values is = rw (took.assigned, took.variable, is, took.words)
 
 -- ---- the loop
 
@@ -102,7 +87,7 @@ none_passed types s from n start = record { within = omega arith; place = none-n
 module _ (types s : List ℕ) (from n i : ℕ) (start : After) {at : ℕ} {state : After} (h : Passed types s from n i start at state) where
   -- past the last one
   pub all-passed : n ≤ i → (going : Bool) (values : List ℕ) → state ≡ state_of going values
-      → StateIs (Some going) values (plain_all (statements_from types s (Ok from) n).list) (assigned_all types (statements_from types s (Ok from) n).list start)
+      → StateIs (Some (tt {0})) going values (plain_all (statements_from types s (Ok from) n).list) (assigned_all types (statements_from types s (Ok from) n).list start)
   unfolding plain_all assigned_all
   all-passed past going values is =
       let none : drop i (statements_from types s (Ok from) n).list ≡ [] = drop_of_length-le (statements_from types s (Ok from) n).list {i = i} (rw (statements-length types s (Ok from) n) past) in
@@ -119,17 +104,17 @@ module _ (types s : List ℕ) (from n i : ℕ) (start : After) {at : ℕ} {state
     unfolding plain_all
     refused-here q = h.plain ∙ rw (here, q)
 
-    pub passed-more : (r : Step) (values : List ℕ) → Stepped (Some r) values types state (statement_at types s (Ok at))
-        → Passed types s from n (i + 1) start r.end (state_of r.going values)
+    pub passed-more : (end : ℕ) (going : Bool) (values : List ℕ) → Stepped (Some (tt {0})) end going values types state (statement_at types s (Ok at))
+        → Passed types s from n (i + 1) start end (state_of going values)
     unfolding plain_all assigned_all statements_from
-    passed-more r values stepped =
+    passed-more end going values stepped =
         record {
           within = omega arith;
-          place = stepped.1 ∙ rw (add-one i, h.place);
-          plain = h.plain ∙ rw (here, stepped.0.0, add-one i);
+          place = stepped.2 ∙ rw (add-one i, h.place);
+          plain = h.plain ∙ rw (here, stepped.0, add-one i);
           made =
               h.made
               ∙ ap (λ (l : List Statement). assigned_all types l state) here
-              ∙ ap (assigned_all types (drop (suc i) (statements_from types s (Ok from) n).list)) stepped.0.1
-              ∙ ap (λ (j : ℕ). assigned_all types (drop j (statements_from types s (Ok from) n).list) (state_of r.going values)) (sym (add-one i));
+              ∙ ap (assigned_all types (drop (suc i) (statements_from types s (Ok from) n).list)) stepped.1
+              ∙ ap (λ (j : ℕ). assigned_all types (drop j (statements_from types s (Ok from) n).list) (state_of going values)) (sym (add-one i));
         }

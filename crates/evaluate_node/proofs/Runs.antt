@@ -1,9 +1,9 @@
 -- A plain node's run on borrowed values is what the assignments and the condition give.
-use Rattle.std.specs.Prelude.{Option, Some, None, Ok, Err}
+use Rattle.std.specs.Prelude.{Option, Some, None, Ok, Err, is_some}
 use Prim.Native.Nat.{ℕ, zero, suc, ◌≤◌, ◌<◌}
 use mathlib.Core.Path.{◌≡◌, refl, sym, ap, ◌∙◌}
 use mathlib.Core.List.{List, [], ◌∷◌, ◌++◌}
-use mathlib.Core.Bool.{Bool, true, false, cond, ◌&&◌}
+use mathlib.Core.Bool.{Bool, true, false, cond, not, ◌&&◌}
 use native.Mathlib.Omega.{arith}
 use lib.ListN.{length, set, take, drop, replicate, length-set, length-append, length-take, get_or-append}
 use lib.Seq.{length-take-le, get_or-take}
@@ -16,15 +16,15 @@ use Rattle.expr.specs.Statement.{Statement}
 use Rattle.expr.specs.Statement.Statement.{assignment, other}
 use Rattle.sheet_node.specs.Node.{NodeReading, statement_at, statement_of, statements_from, node_of}
 use Rattle.sheet_node.proofs.Accepted.{statement-on, assigned}
-use Rattle.value.specs.Evaluation.{evaluated, settled}
+use Rattle.value.specs.Evaluation.{evaluated}
 use Rattle.value.specs.Run.{Choices, run_from, run}
 use Rattle.value.proofs.Steps.{lent, assigns, stops, ends}
 use Rattle.evaluate_node.specs.Evaluate.{Evaluation, plain_all, unfit_from, on_values, on_fit, on_truth, evaluation_of}
-use Rattle.evaluate_node.specs.Promises.{After, state_of, assigned_all, Started, Running}
+use Rattle.evaluate_node.specs.Promises.{After, state_of, assigned_all, finish, Started, Running}
 use Rattle.evaluate_node.specs.Promises.After.{went, stopped}
 use Rattle.evaluate_node.proofs.Laws.{rests}
 use Rattle.evaluate_node.proofs.Same.{is_plain, same-run}
-use Rattle.evaluate_node.proofs.Whole.{fit-enough}
+use Rattle.evaluate_node.proofs.Whole.{fit-enough, none_is}
 use Rattle.sheet_node.proofs.Variables.{Below, AllBelow, ReadsDeclared, reads-declared}
 use Rattle.laws.proofs.Booleans.{and_left, and_right}
 
@@ -60,11 +60,6 @@ declared-all types s p zero e = tt
 declared-all types s p (suc k) e =
     let t = statements_from types s p k in
     declared-append (length types) t.list _ (declared-all types s p k (statement-on types s t.next e).1) (declared-one types s t.next e)
-
--- what is left to decide after the assignments
-abbrev finish : List ℕ → Expr → After → Option Bool
-finish types condition (went values) = settled types values condition
-finish types condition (stopped values) = None
 
 -- a run that stopped stays so
 pub stays : (types : List ℕ) (l : List Statement) (values : List ℕ) → assigned_all types l (stopped values) ≡ stopped values
@@ -126,28 +121,24 @@ module _ (s : List ℕ) (node : NodeReading) (place : ℕ) (types values words :
         ∙ run-from types (on_values values) C 0 L start p
         (declared-more (length types) _ L long (declared-all types s node.body node.statements r.statements.1)) plain
 
-    module _ {fit : Option ℕ} (fit_is : fit ≡ unfit_from 0 types values) (fits : Bool) (start : List ℕ)
-        (started : Started fits fit (length types) values (replicate 32 0) start) where
+    module _ {fit : Option ℕ} (fit_is : fit ≡ unfit_from 0 types values) {fits : Bool} (fits_is : is_some fit ≡ not fits) (going : Bool) (start : List ℕ)
+        (started : Started fits (length types) values going start) where
       -- a value does not fit
       pub node-unfit : {v : ℕ} → fit ≡ Some v → Err (refused fault.Value v) ≡ evaluation_of (node_of s node) place values
       node-unfit {v} q = sym (plain-is ∙ rw (← fit_is, q))
 
       module _ (all : fit ≡ None) where
-        filled : (fits ≡ true) × (start ≡ take (length types) values ++ drop (length types) (replicate 32 0))
-        filled = rw all at started
+        filled : (going ≡ true) × (start ≡ take (length types) values ++ drop (length types) (replicate 32 0))
+        filled = let f = (none_is fit fits fits_is).1 all in (started.0 ∙ f, started.1 f)
 
         fit-all : unfit_from 0 types values ≡ None
         fit-all = sym fit_is ∙ all
 
-        from-run : {after : After} {t : Option Bool} → assigned_all types L (state_of fits start) ≡ after → finish types C after ≡ t
+        from-run : {after : After} {t : Option Bool} → assigned_all types L (state_of going start) ≡ after → finish types C after ≡ t
             → on_truth place t ≡ evaluation_of (node_of s node) place values
         from-run {after} {t} out t-is =
             sym (plain-is ∙ rw (fit-all, the-run filled.1 (fit-enough 0 types values fit-all), ← (ap (λ (b : Bool). state_of b start) filled.0), out, t-is))
 
-        pub node-stopped : {after : List ℕ} → assigned_all types L (state_of fits start) ≡ stopped after
-            → Err (refused fault.Division place) ≡ evaluation_of (node_of s node) place values
-        node-stopped out = from-run out refl
-
-        pub node-went : {after : List ℕ} → assigned_all types L (state_of fits start) ≡ went after → {t : Option Bool} {e : Evaluation} → t ≡ settled types after C
+        pub node-went : {after : After} → assigned_all types L (state_of going start) ≡ after → {t : Option Bool} {e : Evaluation} → t ≡ finish types C after
             → e ≡ on_truth place t → e ≡ evaluation_of (node_of s node) place values
         node-went on t-is e-is = e-is ∙ from-run on (sym t-is)

@@ -1,12 +1,12 @@
 -- What the contracts of the evaluation's parts ask and give.
-use Rattle.std.specs.Prelude.{ℕ, ◌≤◌, ◌≡◌, List, [], ◌∷◌, ◌++◌, Bool, true, false, length, set, take, drop, Option, Some, None, Ok}
+use Rattle.std.specs.Prelude.{ℕ, ◌≤◌, ◌≡◌, List, [], ◌∷◌, ◌++◌, Bool, true, false, length, set, take, drop, replicate, Option, Some, None, Ok}
 use Rattle.expr.specs.Statement.{Statement}
 use Rattle.expr.specs.Statement.Statement.{assignment, other}
 use Rattle.sheet_field.specs.Field.{Place, start_of, WentOn}
 use Rattle.sheet_expression.specs.Expression.{expression_at}
 use Rattle.sheet_node.specs.Node.{NodeReading, StatementRead, statement_of, statements_from, node_at}
-use Rattle.value.specs.Evaluation.{evaluated}
-use Rattle.evaluate_node.specs.declared.Step.{Step}
+use Rattle.expr.specs.Tree.{Expr}
+use Rattle.value.specs.Evaluation.{evaluated, settled}
 use Rattle.evaluate_node.specs.Evaluate.{plain_statement}
 
 -- the values of a run that goes on, or at which it stopped
@@ -32,21 +32,25 @@ unfoldable pub assigned_all : List ℕ → List Statement → After → After
 assigned_all types [] a = a
 assigned_all types (x ∷ rest) a = assigned_all types rest (after_statement types x a)
 
--- what statements leave in the borrowed values: that they are plain, and the state after them; or that they are not
-abbrev pub StateIs : Option Bool → List ℕ → Bool → After → Type 0
-StateIs (Some going) values plain a = (plain ≡ true) × (a ≡ state_of going values)
-StateIs None values plain a = plain ≡ false
+-- what is left to decide after the assignments
+abbrev pub finish : List ℕ → Expr → After → Option Bool
+finish types condition (went values) = settled types values condition
+finish types condition (stopped values) = None
+
+-- what statements leave of a run: that they are plain, and the state after them; or that they are not
+abbrev pub StateIs : {A : Type 0} → Option A → Bool → List ℕ → Bool → After → Type 0
+StateIs (Some _) going values plain a = (plain ≡ true) × (a ≡ state_of going values)
+StateIs None going values plain a = plain ≡ false
 
 -- what one statement leaves, and the offset after it
-abbrev pub Stepped : Option Step → List ℕ → List ℕ → After → StatementRead → Type 0
-Stepped (Some r) values types before x =
-    StateIs (Some r.going) values (plain_statement (statement_of x)) (after_statement types (statement_of x) before) × (Ok r.end ≡ x.next)
-Stepped None values types before x = plain_statement (statement_of x) ≡ false
+abbrev pub Stepped : {A : Type 0} → Option A → ℕ → Bool → List ℕ → List ℕ → After → StatementRead → Type 0
+Stepped (Some _) at going values types before x =
+    (plain_statement (statement_of x) ≡ true) × (after_statement types (statement_of x) before ≡ state_of going values) × (Ok at ≡ x.next)
+Stepped None at going values types before x = plain_statement (statement_of x) ≡ false
 
--- what a run starts from in borrowed buffers: the values, where they fit
-abbrev pub Started : Bool → Option ℕ → ℕ → List ℕ → List ℕ → List ℕ → Type 0
-Started r None n values before after = (r ≡ true) × (after ≡ take n values ++ drop n before)
-Started r (Some v) n values before after = r ≡ false
+-- what a run starts from, in 32 places: the first n of the values, where they fit
+abbrev pub Started : Bool → ℕ → List ℕ → Bool → List ℕ → Type 0
+Started fits n values going start = (going ≡ fits) × (fits ≡ true → start ≡ take n values ++ drop n (replicate 32 0))
 
 -- a node that was read whole, with its types, and its condition's words, which are plain
 pub record Running (s : List ℕ) (node : NodeReading) (types words : List ℕ) : Type 0 where

@@ -1,27 +1,23 @@
 // A node of an accepted sheet run on the caller's values: which nodes can be run, which values fit, and the run itself.
 #![tactic(auto)]
 
-ghost use Rattle.std.specs.Prelude.{◌≡◌, ◌≤◌, ◌++◌, length, take, drop, IsNone, Some, None, Ok};
+ghost use Rattle.std.specs.Prelude.{◌≡◌, ◌≤◌, true, length, Ok};
+ghost use Rattle.expr.specs.Tree.{tree_of};
 ghost use Rattle.sheet_field.specs.Field.{WentOn};
-ghost use Rattle.sheet_node.specs.Node.{statement_at, statements_from, node_of};
-ghost use Rattle.sheet_node.specs.Promises.{ReadNode, reading_of};
+ghost use Rattle.sheet_expression.specs.Expression.{expression_at};
+ghost use Rattle.sheet_node.specs.Node.{statement_at, statements_from, node_at, node_of};
 ghost use Rattle.evaluate_node.specs.Evaluate.{plain_all, unfit_from, on_truth, evaluation_of};
-ghost use Rattle.evaluate_node.specs.Promises.{state_of, assigned_all, StateIs, Stepped, Started, Running};
+ghost use Rattle.evaluate_node.specs.Promises.{state_of, assigned_all, finish, StateIs, Stepped, Started};
 
-use expr::Tree;
 use refusal::{Fault, Refusal};
-use sheet_node::NodeParts;
+use sheet_expression::words;
+use sheet_field::Reader;
+use sheet_node::node;
+use sheet_node::node::Node;
 use value::Plain;
 
 // A node's evaluation: whether its condition holds.
 pub type Evaluation = Result<bool, Refusal>;
-
-// Whether the run goes on after a statement, and the offset after it.
-#[derive(Clone, Copy)]
-pub struct Step {
-    pub going: bool,
-    pub end: usize,
-}
 
 // The first variable, by number, whose value is missing or does not fit its type.
 fn first_unfit(types: &[u8], values: &[u64]) -> Option<usize>
@@ -38,58 +34,79 @@ fn first_unfit(types: &[u8], values: &[u64]) -> Option<usize>
     None
 }
 
-// The statement at an offset, which was read whole: checked, and made in the values where the run goes on. None where it is not an assignment of a plain
-// value.
-fn run_statement(
-    s: &[u8],
-    at: usize,
-    types: &[u8],
+// A run of a node: the types of its variables, their values as they are now, whether it goes on, and a buffer for the words of the records that are read.
+#[derive(Drop)]
+struct Run<'a> {
+    types: &'a [u8],
+    values: [u64; 32],
     going: bool,
-    values: &mut [u64],
-    words: &mut [u64],
-) -> Option<Step>
-    requires types_len_bound { (length types.now ≤ 32) × (length types.now ≤ length values.old) × (256 ≤ length words.old) }
-    requires went_on { WentOn (statement_at types.now s.now (Ok at)).next }
-    ensures { Stepped result values.new types.now (state_of going values.old) (statement_at types.now s.now (Ok at)) }
-{
-    let r = sheet_node::statement_at(s, at, words);
-    let end = r.end;
-    let a = r.assignment?;
-    let n = 2 * (a.records as usize);
-    let plain = Plain::of(Tree::new(&words[..n]))?;
-    if !going {
-        return Some(Step { going, end });
-    }
-    let Some(k) = plain.integer(types, values).value else {
-        return Some(Step { going: false, end });
-    };
-    values[a.variable as usize] = k;
-    Some(Step { going, end })
+    words: [u64; 256],
 }
 
-// The n statements from an offset on, which were read whole: each is checked, and made in the values while the run goes on. Whether it went through; none
-// where a statement is not an assignment of a plain value.
-fn run_statements(
-    s: &[u8],
-    from: usize,
-    types: &[u8],
-    n: u64,
-    runs: bool,
-    values: &mut [u64],
-    words: &mut [u64],
-) -> Option<bool>
-    requires types_len_bound { (length types.now ≤ 32) × (length types.now ≤ length values.old) × (256 ≤ length words.old) }
-    requires went_on { WentOn (statements_from types.now s.now (Ok from) n).next }
-    ensures { StateIs result values.new (plain_all (statements_from types.now s.now (Ok from) n).list) (assigned_all types.now (statements_from types.now s.now (Ok from) n).list (state_of runs values.old)) }
-{
-    let mut going = runs;
-    let mut at = from;
-    for _ in 0..n {
-        let step = run_statement(s, at, types, going, values, words)?;
-        going = step.going;
-        at = step.end;
+impl<'a> Run<'a> {
+    // The run from the caller's values, where they fit; else one that does not go on.
+    fn new(types: &'a [u8], values: &[u64], fits: bool) -> Run<'a>
+        requires few { length types.now ≤ 32 }
+        requires enough { fits ≡ true → length types.now ≤ length values.now }
+        ensures types { result.types.now ≡ types.entry.now }
+        ensures started { Started fits (length types.now) values.now result.going result.values }
+    {
+        let mut start = [0; 32];
+        if fits {
+            let n = types.len();
+            start[..n].copy_from_slice(&values[..n]);
+        }
+        Run {
+            types,
+            values: start,
+            going: fits,
+            words: [0; 256],
+        }
     }
-    Some(going)
+
+    // The next statement, which was read whole: checked, and made in the values where the run goes on. None where it is not an assignment of a plain value.
+    fn statement(&mut self, r: &mut Reader) -> Option<()>
+        requires few { length self.old.types.now ≤ 32 }
+        requires went_on { WentOn (statement_at self.old.types.now r.old.bytes.now (Ok r.old.at)).next }
+        ensures types { self.new.types.now ≡ self.old.types.now }
+        ensures same { r.new.bytes.now ≡ r.old.bytes.now }
+        ensures stepped { Stepped result r.new.at self.new.going self.new.values self.old.types.now (state_of self.old.going self.old.values) (statement_at self.old.types.now r.old.bytes.now (Ok r.old.at)) }
+    {
+        let a = node::take_statement(r, &mut self.words)?;
+        let value = Plain::of(a.value)?;
+        if self.going {
+            match value.integer(self.types, &self.values).value {
+                Some(k) => self.values[a.variable as usize] = k,
+                None => self.going = false,
+            }
+        }
+        Some(())
+    }
+
+    // The next n statements, which were read whole: each is checked, and made in the values while the run goes on. None where a statement is not an
+    // assignment of a plain value.
+    fn statements(&mut self, r: &mut Reader, n: u64) -> Option<()>
+        requires few { length self.old.types.now ≤ 32 }
+        requires went_on { WentOn (statements_from self.old.types.now r.old.bytes.now (Ok r.old.at) n).next }
+        ensures types { self.new.types.now ≡ self.old.types.now }
+        ensures state { StateIs result self.new.going self.new.values (plain_all (statements_from self.old.types.now r.old.bytes.now (Ok r.old.at) n).list) (assigned_all self.old.types.now (statements_from self.old.types.now r.old.bytes.now (Ok r.old.at) n).list (state_of self.old.going self.old.values)) }
+    {
+        for _ in 0..n {
+            self.statement(r)?;
+        }
+        Some(())
+    }
+
+    // Whether the condition holds at the end of the run; none where the run stopped, or stops there.
+    fn condition(&self, condition: Plain) -> Option<bool>
+        ensures { result ≡ finish self.now.types.now (tree_of condition.entry.tree.words.now) (state_of self.now.going self.now.values) }
+    {
+        if self.going {
+            condition.condition(self.types, &self.values)
+        } else {
+            None
+        }
+    }
 }
 
 fn outcome(t: Option<bool>, place: usize) -> Evaluation
@@ -98,60 +115,33 @@ fn outcome(t: Option<bool>, place: usize) -> Evaluation
     t.ok_or(Fault::Division.at(place))
 }
 
-// The values that a run starts from, where they fit; whether they do.
-fn start(unfit: Option<usize>, values: &[u64], n: usize, room: &mut [u64]) -> bool
-    requires n_in_bounds { unfit ≡ None → n ≤ length values.now }
-    requires n_in_bounds_2 { n ≤ length room.old }
-    ensures { Started result unfit n values.now room.old room.new }
+// The node, read whole, whose condition is plain.
+fn run_node(node: &Node, values: &[u64], condition: Plain) -> Evaluation
+    requires { condition.tree.words.now ≡ (expression_at (node_at node.now.bytes.now (Ok node.now.at)).variables node.now.bytes.now (node_at node.now.bytes.now (Ok node.now.at)).condition).words }
+    ensures { result ≡ evaluation_of (node_of node.now.bytes.now (node_at node.now.bytes.now (Ok node.now.at))) node.now.at values.now }
 {
-    let fits = unfit.is_none();
-    if fits {
-        slice::copy_to(&values[..n], room, 0);
-    }
-    fits
-}
-
-// The node, whose condition's words are plain.
-fn run_node(
-    s: &[u8],
-    node: NodeParts,
-    place: usize,
-    types: &[u8],
-    values: &[u64],
-    condition: Plain,
-) -> Evaluation
-    requires { Running s.now (reading_of node) types.now condition.tree.words.now }
-    ensures { result ≡ evaluation_of (node_of s.now (reading_of node)) place values.now }
-{
+    let types = node.types();
     let unfit = first_unfit(types, values);
-    let mut room = [0u64; 32];
-    let fits = start(unfit, values, types.len(), &mut room);
-    let mut words = [0u64; 256];
-    let front = node.front;
-    let n = front.statements;
-    let Some(went) = run_statements(s, front.body, types, n, fits, &mut room, &mut words) else {
-        return Err(Fault::NotPlain.at(place));
+    let mut run = Run::new(types, values, unfit.is_none());
+    let mut r = Reader::new(node.bytes, node.front.body);
+    let Some(()) = run.statements(&mut r, node.front.statements) else {
+        return Err(Fault::NotPlain.at(node.at));
     };
     if let Some(v) = unfit {
         return Err(Fault::Value.at(v));
     }
-    if !went {
-        return Err(Fault::Division.at(place));
-    }
-    outcome(condition.condition(types, &room), place)
+    outcome(run.condition(condition), node.at)
 }
 
-// The node, read whole, that starts at an offset.
-pub fn evaluate_node(s: &[u8], node: NodeParts, place: usize, values: &[u64]) -> Evaluation
-    requires { ReadNode s.now (reading_of node) }
-    ensures { result ≡ evaluation_of (node_of s.now (reading_of node)) place values.now }
+// The node, read whole.
+pub fn evaluate_node(node: &Node, values: &[u64]) -> Evaluation
+    ensures { result ≡ evaluation_of (node_of node.now.bytes.now (node_at node.now.bytes.now (Ok node.now.at))) node.now.at values.now }
 {
-    let types = sheet_node::types_in(s, node.front);
     let mut words = [0u64; 256];
-    let e = sheet_expression::expression_at(s, node.condition, &mut words);
-    let m = 2 * (e.records as usize);
-    let Some(plain) = Plain::of(Tree::new(&words[..m])) else {
-        return Err(Fault::NotPlain.at(place));
+    let parts = node.parts(&mut words);
+    let mut r = Reader::new(node.bytes, parts.condition);
+    let Some(condition) = Plain::of(words::take_expression(&mut r, &mut words)) else {
+        return Err(Fault::NotPlain.at(node.at));
     };
-    run_node(s, node, place, types, values, plain)
+    run_node(node, values, condition)
 }

@@ -11,7 +11,6 @@ use Rattle.refusal.specs.declared.Fault.TheVariants.{Code, Count, Tree, Constant
 use Rattle.sheet_field.specs.Field.{Place, FieldReading, little, field_at, start_of, code_at, count_at, WentOn}
 use Rattle.sheet_field.proofs.Fields.{field-whole, field-at, judge-at, check-at, code-at, count_most}
 use Rattle.sheet_field.proofs.Counted.{back}
-use Rattle.sheet_expression.specs.declared.Record.{Record}
 use Rattle.sheet_expression.specs.Expression.{has_argument, argument_at, constant_at, record_at, Taken, taken_more, taken_from, expression_at}
 use Rattle.sheet_expression.specs.Promises.{Took, RecordIs}
 use Rattle.sheet_expression.proofs.Lists.{Stored, stored_more, taken_next, taken-keep, took-all}
@@ -79,8 +78,8 @@ module _ (variables depth left : ℕ) (s : List ℕ) (at : ℕ) (on : WentOn (re
 
   -- a record from its argument and its value
   read_is : {argument value : FieldReading} → argument ≡ argument_at variables (little s at 1) s (Ok (at + 1)) → value ≡ constant_at (little s at 1) s argument.next
-      → {r : Record} → r.tag ≡ little s at 1 + 16 * argument.value → r.value ≡ value.value → Ok r.end ≡ value.next
-      → RecordIs r (record_at variables depth left s (Ok at))
+      → {r : ℕ × ℕ} {end : ℕ} → r.0 ≡ little s at 1 + 16 * argument.value → r.1 ≡ value.value → Ok end ≡ value.next
+      → RecordIs r end (record_at variables depth left s (Ok at))
   unfolding record_at
   read_is argument_is value-is tag_is r-value end_is =
       record {
@@ -104,12 +103,12 @@ module _ (variables depth left : ℕ) (s : List ℕ) (at : ℕ) (on : WentOn (re
       pub argument-inside : at + 1 + 1 ≤ length s
       argument-inside = argument-read.0
 
-      pub argument-record : {r : Record} {x : ℕ} → (kind ≡ 1 → ⊥) → x ≡ little s (at + 1) 1 → r ≡ record { tag = kind + 16 * x; value = 0; end = at + 2 }
-          → RecordIs r (record_at variables depth left s (Ok at))
-      argument-record {r} {x} other x-is r-is =
+      pub argument-record : {r : ℕ × ℕ} {x end : ℕ} → (kind ≡ 1 → ⊥) → x ≡ little s (at + 1) 1 → r ≡ (kind + 16 * x, 0) → end ≡ at + 1 + 1
+          → RecordIs r end (record_at variables depth left s (Ok at))
+      argument-record {r} {x} other x-is r-is end-is =
           read_is {argument = record { value = x; next = Ok (at + 1 + 1) }} {value = record { value = 0; next = Ok (at + 1 + 1) }}
           (rw (← kind-is, argument-read.1, x-is)) (rw (← kind-is, constant-bare kind s (Ok (at + 1 + 1)) other))
-          (rw (r-is, ← kind-is)) (rw r-is) (rw r-is (ap Ok (omega arith)))
+          (rw (r-is, ← kind-is)) (rw r-is) (rw end-is)
 
     -- a constant
     module _ (one : kind ≡ 1) where
@@ -119,24 +118,23 @@ module _ (variables depth left : ℕ) (s : List ℕ) (at : ℕ) (on : WentOn (re
       constant-read : (at + 1 + 1 + 8 ≤ length s) × (constant_at 1 s (Ok (at + 1 + 1)) ≡ record { value = little s (at + 1 + 1) 8; next = Ok (at + 1 + 1 + 8) })
       constant-read = constant-from s (at + 1 + 1) (rw (width_read.1, one) at value_there)
 
-      pub constant-inside : at + 10 ≤ length s
-      constant-inside = omega (arith, constant-read.0)
+      pub constant-inside : at + 1 + 1 + 8 ≤ length s
+      constant-inside = constant-read.0
 
-      pub constant-record : {r : Record} {x v : ℕ} → x ≡ little s (at + 1) 1 → v ≡ little s (at + 2) 8 → r ≡ record { tag = kind + 16 * x; value = v; end = at + 10 }
-          → RecordIs r (record_at variables depth left s (Ok at))
-      constant-record {r} {x} {v} x-is v-is r-is =
-          let two : at + 1 + 1 ≡ at + 2 = omega arith in
+      pub constant-record : {r : ℕ × ℕ} {x v end : ℕ} → x ≡ little s (at + 1) 1 → v ≡ little s (at + 1 + 1) 8 → r ≡ (kind + 16 * x, v) → end ≡ at + 1 + 1 + 8
+          → RecordIs r end (record_at variables depth left s (Ok at))
+      constant-record {r} {x} {v} x-is v-is r-is end-is =
           read_is {argument = record { value = x; next = Ok (at + 1 + 1) }} {value = record { value = v; next = Ok (at + 1 + 1 + 8) }}
-          (rw (← kind-is, width_read.1, x-is)) (rw (← kind-is, one, constant-read.1, v-is, two))
-          (rw (r-is, ← kind-is)) (rw r-is) (rw r-is (ap Ok (omega arith)))
+          (rw (← kind-is, width_read.1, x-is)) (rw (← kind-is, one, constant-read.1, v-is))
+          (rw (r-is, ← kind-is)) (rw r-is) (rw end-is)
 
-    pub bare-record : {r : Record} → has_argument kind ≡ false → r ≡ record { tag = kind; value = 0; end = at + 1 }
-        → RecordIs r (record_at variables depth left s (Ok at))
-    bare-record {r} none r-is =
+    pub bare-record : {r : ℕ × ℕ} {end : ℕ} → has_argument kind ≡ false → r ≡ (kind, 0) → end ≡ at + 1
+        → RecordIs r end (record_at variables depth left s (Ok at))
+    bare-record {r} none r-is end-is =
         let other : kind ≡ 1 → ⊥ = λ one. let has : has_argument 1 ≡ false = rw one at none in false≢true (sym has) in
         read_is {argument = record { value = 0; next = Ok (at + 1) }} {value = record { value = 0; next = Ok (at + 1) }}
         (rw (← kind-is, argument-bare variables kind s (at + 1) none)) (rw (← kind-is, constant-bare kind s (Ok (at + 1)) other))
-        (rw (r-is, ← kind-is) (omega arith)) (rw r-is) (rw r-is)
+        (rw (r-is, ← kind-is) (omega arith)) (rw r-is) (rw end-is)
 
 -- the first k records of an expression whose count stands at an offset
 abbrev pub up_to : ℕ → List ℕ → ℕ → ℕ → Taken
@@ -173,15 +171,15 @@ module _ (variables : ℕ) (s : List ℕ) (from : ℕ) (on : WentOn (expression_
         let w = back (λ j. (taken_from variables n s (Ok (from + 2)) j).next) (taken-keep variables n s (Ok (from + 2))) n (k + 1) (ap (λ (t : Taken). t.next) (sym expression-is) ∙ on.1) (omega arith) in
         (w.0, rw stored.place (ap (λ (t : Taken). t.next) (sym (taken_next variables n s (Ok (from + 2)) k)) ∙ w.1))
 
-    pub stored-record : {r : Record} → RecordIs r (record_at variables (up_to variables s from k).depth (little s from 2 - k - 1) s (Ok at)) → 2 * k + 2 ≤ length before
-        → Stored (up_to variables s from (k + 1)).depth (Ok r.end) before (set (set after (2 * k) r.tag) (2 * k + 1) r.value) (up_to variables s from (k + 1))
+    pub stored-record : {r : ℕ × ℕ} {end : ℕ} → RecordIs r end (record_at variables (up_to variables s from k).depth (little s from 2 - k - 1) s (Ok at)) → 2 * k + 2 ≤ length before
+        → Stored (up_to variables s from (k + 1)).depth (Ok end) before (set (set after (2 * k) r.0) (2 * k + 1) r.1) (up_to variables s from (k + 1))
     stored-record is fits =
         let more = stored_more variables (little s from 2) s (Ok (from + 2)) k stored refl fits in
         record { trees = refl; place = is.place ∙ more.place; list = rw (is.tag, is.value) more.list }
 
   pub took-whole : (k : ℕ) {next : Place} {before after : List ℕ} → k ≡ little s from 2
-      → Stored (up_to variables s from k).depth next before after (up_to variables s from k) → Took (little s from 2) next before after (expression_at variables s (Ok from))
-  took-whole k all stored = rw expression-is (took-all variables (little s from 2) s (Ok (from + 2)) (rw all at stored) count-few)
+      → Stored (up_to variables s from k).depth next before after (up_to variables s from k) → Took k next before after (expression_at variables s (Ok from))
+  took-whole k all stored = rw (all, expression-is) (took-all variables (little s from 2) s (Ok (from + 2)) (rw all at stored) count-few)
 
 pub stored-first : (variables : ℕ) (s : List ℕ) (from : ℕ) (before : List ℕ) → Stored (up_to variables s from 0).depth (Ok (from + 2)) before before (up_to variables s from 0)
 unfolding taken_from

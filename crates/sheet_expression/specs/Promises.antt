@@ -1,10 +1,13 @@
 -- What the contracts of the readers give.
-use Rattle.std.specs.Prelude.{ℕ, ◌*◌, ◌≤◌, true, List, ◌++◌, ◌≡◌, length, drop, Ok}
-use Rattle.sheet_field.specs.Field.{Place, WentOn}
+use Rattle.std.specs.Prelude.{ℕ, ◌*◌, ◌≤◌, true, List, ◌++◌, ◌≡◌, length, drop, Ok, Result}
+use Rattle.sheet_field.specs.Field.{Place, WentOn, read_as}
+use Rattle.refusal.specs.declared.Refusal.{Refusal}
+use Rattle.expr.specs.declared.Tree.{Tree}
 use Rattle.expr.specs.Codes.{kind_ternary}
 use Rattle.expr.specs.Tree.{kind_of, argument_of}
 use Rattle.sheet_expression.specs.declared.CheckedRecord.{CheckedRecord}
 use Rattle.sheet_expression.specs.declared.Record.{Record}
+use Rattle.sheet_expression.specs.declared.Checked.{Checked}
 use Rattle.sheet_expression.specs.Expression.{has_argument, argument_ok, RecordReading, record_at, Taken, expression_at}
 
 -- What a reader of records leaves: how many they are, the offset, and a borrowed list that was `before` and is `after`: where
@@ -14,6 +17,12 @@ pub record Took (records : ℕ) (next : Place) (before after : List ℕ) (t : Ta
   pub few : records ≤ 128
   pub place : next ≡ t.next
   pub list : WentOn t.next → after ≡ t.words ++ drop (2 * records) before
+
+-- what a reader of an expression that was read whole gives: the tree, and the offset after it
+pub record TookTree (tree : Tree) (at : ℕ) (t : Taken) : Type 0 where
+  pub words : tree.words.now ≡ t.words
+  pub few : length t.words ≤ 256
+  pub place : Ok at ≡ t.next
 
 -- a tag word whose kind and argument are in their tables, with that many variables
 pub record Tagged (variables tag : ℕ) : Type 0 where
@@ -36,7 +45,7 @@ pub record WholeExpression (s : List ℕ) (from : ℕ) : Type 0 where
   pub on : WentOn (expression_at variables s (Ok from)).next
 
 -- what a record that was read whole holds, and the offset after it
-pub record RecordIs (r : Record) (read : RecordReading) : Type 0 where
-  pub tag : r.tag ≡ read.tag
-  pub value : r.value ≡ read.value
-  pub place : Ok r.end ≡ read.next
+pub record RecordIs (r : ℕ × ℕ) (at : ℕ) (read : RecordReading) : Type 0 where
+  pub tag : r.0 ≡ read.tag
+  pub value : r.1 ≡ read.value
+  pub place : Ok at ≡ read.next

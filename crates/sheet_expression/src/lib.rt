@@ -3,19 +3,21 @@
 #![tactic(auto)]
 
 ghost use Rattle.std.specs.Prelude.{◌≡◌, true, ℕ, ◌*◌, ◌≤◌, ◌<◌, length, Ok, IfOk};
-ghost use Rattle.sheet_field.specs.Field.{WentOn};
+ghost use Rattle.sheet_field.specs.Field.{WentOn, answer_of};
 ghost use Rattle.sheet_field.specs.Reads.{Reads};
 ghost use Rattle.expr.specs.Admission.{InTable};
 ghost use Rattle.expr.specs.Tree.{tree_of};
 ghost use Rattle.expr.specs.Types.{together, binary_type, record_type, type_of};
 ghost use Rattle.sheet_expression.specs.Expression.{has_argument, argument_ok, argument_at, constant_at, fits_width, record_at, expression_at};
-ghost use Rattle.sheet_expression.specs.Promises.{Took, Tagged, checked_record, WholeRecord, RecordIs, WholeExpression};
+ghost use Rattle.sheet_expression.specs.Promises.{Took, Tagged, checked_record, WholeRecord, RecordIs, WholeExpression, checked_expression};
 
 use refusal::{Fault, Refusal};
 use sheet_field::Reader;
 use stack::Stack;
 
 mod stack;
+
+pub mod words;
 
 fn has_argument(kind: u64) -> bool
     ensures { result ≡ has_argument kind }
@@ -185,63 +187,4 @@ pub fn check_expression(r: &mut Reader, types: Types) -> Result<u64, Refusal>
         stack.put(one.depth, checked_type(one.tag, types.bytes, a, b));
     }
     Ok(stack.first())
-}
-
-// A record's two words, and the offset after it.
-#[derive(Clone, Copy)]
-struct Record {
-    tag: u64,
-    value: u64,
-    end: usize,
-}
-
-// The record at an offset where one was read whole: what it holds, with nothing checked again.
-fn record_at(s: &[u8], at: usize) -> Record
-    requires { WholeRecord s.now at }
-    ensures { (variables depth left : ℕ) → WentOn (record_at variables depth left s.now (Ok at)).next → RecordIs result (record_at variables depth left s.now (Ok at)) }
-{
-    let kind = sheet_field::number::<1>(s, at);
-    if !has_argument(kind) {
-        return Record {
-            tag: kind,
-            value: 0,
-            end: at + 1,
-        };
-    }
-    let tag = kind + 16 * sheet_field::number::<1>(s, at + 1);
-    if kind == expr::CONSTANT {
-        return Record {
-            tag,
-            value: sheet_field::number::<8>(s, at + 2),
-            end: at + 10,
-        };
-    }
-    Record {
-        tag,
-        value: 0,
-        end: at + 2,
-    }
-}
-
-// How many records an expression has that was read whole, and the offset after it.
-#[derive(Clone, Copy)]
-pub struct Whole {
-    pub records: u64,
-    pub end: usize,
-}
-
-// The expression at an offset where one was read whole: its records as words at the start of `out`, with nothing checked again.
-pub fn expression_at(s: &[u8], from: usize, out: &mut [u64]) -> Whole
-    requires { WholeExpression s.now from × (256 ≤ length out.old) }
-    ensures { (variables : ℕ) → WentOn (expression_at variables s.now (Ok from)).next → Took result.records (Ok result.end) out.old out.new (expression_at variables s.now (Ok from)) }
-{
-    let records = sheet_field::number::<2>(s, from);
-    let mut end = from + 2;
-    for i in 0..records as usize {
-        let r = record_at(s, end);
-        out[2 * i] = r.tag;
-        out[2 * i + 1] = r.value;
-        end = r.end;
-    }
-    Whole { records, end }
 }

@@ -11,7 +11,7 @@ use lib.Dec.{leb}
 use Rattle.std.specs.Prelude.{cond}
 use borrow.Author.Tests.{leb-true, ltb-true}
 use Rattle.sheet_field.specs.Field.{Place, FieldReading, little, field_at, check_field, count_at, judge, keep, start_of, code_at, WentOn, read_as, answer_of}
-use Rattle.std.specs.Prelude.{Ok, Err}
+use Rattle.std.specs.Prelude.{Ok, Err, IsOk}
 use Rattle.std.specs.Int.{from_le_bytes, w64}
 use Rattle.refusal.specs.declared.Fault.{Fault}
 use Rattle.refusal.specs.declared.Fault.TheVariants.{Ends, Code, Count}
@@ -29,6 +29,12 @@ unfolding little
 little-add s at zero n = rw (zero-add, add-zero) (omega arith)
 little-add s at (suc m) n =
     rw (suc-add, little-add s (suc at) m n, suc-add, ← add-suc, pow-suc) (omega arith)
+
+-- n bytes spell a number below 256 to the n
+pub little-small : (s : List ℕ) (n at : ℕ) → ((i : ℕ) → get_or s i 0 < 256) → little s at n < 256 ^ n
+unfolding little
+little-small s zero at bytes = omega arith
+little-small s (suc n) at bytes = rw pow-suc (omega (arith, bytes at, little-small s n (suc at) bytes))
 
 -- the cases of `field_at`: a whole field, one that the sheet's end cuts, and none where reading was refused
 pub field-whole : (n : ℕ) (s : List ℕ) {p : Place} {at v m : ℕ}
@@ -222,3 +228,11 @@ checked-stays ok fault at f e = rw (← e) refl
 -- the field that a reader has taken
 pub field-taken : (f : FieldReading) {v b : ℕ} → Ok b ≡ f.next → v ≡ f.value → f ≡ record { value = v; next = Ok b }
 field-taken f e q = rw (e, q) refl
+
+-- reading went on, as a test and with the offset
+pub went-on : (p : Place) → IsOk p → WentOn p
+went-on (Ok b) e = (b, refl)
+went-on (Err r) e = absurd cc
+
+pub went-ok : {p : Place} → WentOn p → IsOk p
+went-ok on = rw on.1 refl

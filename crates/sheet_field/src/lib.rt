@@ -2,7 +2,7 @@
 // way.
 #![tactic(auto)]
 
-ghost use Rattle.std.specs.Prelude.{◌≡◌, ◌+◌, ◌≤◌, length, Ok, ℕ, Bool, IfOk};
+ghost use Rattle.std.specs.Prelude.{◌≡◌, ◌+◌, ◌≤◌, length, Ok, ℕ, Bool, IfOk, ◌^◌, ◌<◌};
 ghost use Rattle.sheet_field.specs.Field.{little, field_at, Answers, tested_at, code_at, count_at, words_from, answer_of};
 ghost use Rattle.sheet_field.specs.Reads.{Reads};
 
@@ -18,15 +18,25 @@ pub struct Field {
     pub end: usize,
 }
 
+// The number in the N bytes from an offset on, below 256 to the N.
+fn bounded<const N: usize>(s: &[u8], at: usize) -> u64
+    requires width { N ≤ 8 }
+    requires inside { at + N ≤ length s.now }
+    ensures value { result ≡ little s.now at N }
+    ensures small { result < 256 ^ N }
+{
+    let mut bytes = [0; 8];
+    bytes[..N].copy_from_slice(&s[at..at + N]);
+    u64::from_le_bytes(bytes)
+}
+
 // The number in the N bytes from an offset on.
 pub fn number<const N: usize>(s: &[u8], at: usize) -> u64
     requires width { N ≤ 8 }
     requires inside { at + N ≤ length s.now }
     ensures { result ≡ little s.now at N }
 {
-    let mut bytes = [0; 8];
-    bytes[..N].copy_from_slice(&s[at..at + N]);
-    u64::from_le_bytes(bytes)
+    bounded::<N>(s, at)
 }
 
 // A field of N bytes.
@@ -105,6 +115,20 @@ impl<'a> Reader<'a> {
         } else {
             Err(Fault::Ends.at(at))
         }
+    }
+
+    // The number in the next N bytes, which are there.
+    pub fn take_number<const N: usize>(&mut self) -> u64
+        requires width { N ≤ 8 }
+        requires inside { self.old.at + N ≤ length self.old.bytes.now }
+        ensures value { result ≡ little self.old.bytes.now self.old.at N }
+        ensures small { result < 256 ^ N }
+        ensures same { self.new.bytes.now ≡ self.old.bytes.now }
+        ensures at { self.new.at ≡ self.old.at + N }
+    {
+        let at = self.at;
+        self.at = at + N;
+        bounded::<N>(self.bytes, at)
     }
 
     // A field of N bytes that passes the check.

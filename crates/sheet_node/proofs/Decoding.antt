@@ -7,16 +7,17 @@ use native.Mathlib.Omega.{arith}
 use lib.Dec.{eqb}
 use lib.ListN.{length}
 use borrow.Author.Tests.{eq-eqb, ne_eqb}
-use Rattle.std.specs.Prelude.{Ok, Some, None}
+use Rattle.std.specs.Prelude.{Ok, Some, None, IsOk}
 use Rattle.refusal.specs.declared.Fault.TheVariants.{Code, Count, Typing}
 use Rattle.sheet_field.specs.Field.{Place, FieldReading, little, field_at, code_at, count_at, WentOn}
-use Rattle.sheet_field.proofs.Fields.{judge-at, check-at, count-on, count_most}
-use Rattle.sheet_expression.specs.declared.Whole.{Whole}
+use Rattle.sheet_field.proofs.Fields.{judge-at, check-at, count-on, count_most, went-on}
+use Rattle.expr.specs.declared.Tree.{Tree}
 use Rattle.sheet_expression.specs.Expression.{expression_at}
-use Rattle.sheet_expression.specs.Promises.{Took, WholeExpression}
+use Rattle.sheet_expression.specs.Promises.{TookTree, WholeExpression}
 use Rattle.sheet_expression.proofs.Accepted.{one-tree}
 use Rattle.sheet_expression.proofs.Decoding.{field-from, code-from}
-use Rattle.sheet_node.specs.declared.NodeFront.{NodeFront}
+use Rattle.sheet_node.specs.declared.node.NodeFront.{NodeFront}
+use Rattle.sheet_node.specs.declared.node.Assignment.{Assignment}
 use Rattle.sheet_node.specs.Node.{NodeReading, map_at, assignment_at, statement_at, statements_from, types_from, addresses_from, node_at, types_in}
 use Rattle.sheet_node.specs.Promises.{TookStatement, front_of, reading_of, WholeStatements, addresses_end}
 use Rattle.sheet_node.proofs.Accepted.{assignment-on, types-on, addresses-on, Parts, whole-node}
@@ -46,10 +47,9 @@ module _ (types s : List ℕ) (at : ℕ) (on : WentOn (statement_at types s (Ok 
   map-inside = map_read.0
 
   module _ {map : ℕ} (map_is : map ≡ little s at 1) where
-    pub other-took : (before : List ℕ) → (map ≡ 3 → ⊥)
-        → TookStatement (record { assignment = None; end = at + 1 }) before before (statement_at types s (Ok at))
+    pub other-took : (map ≡ 3 → ⊥) → TookStatement None (at + 1) (statement_at types s (Ok at))
     unfolding statement_at
-    other-took before other = rw (map_read.1, ← map_is, ne_eqb map 3 other) record { assignment = (refl, refl); place = refl }
+    other-took other = rw (map_read.1, ← map_is, ne_eqb map 3 other) record { assignment = refl; place = refl }
 
     module _ (three : map ≡ 3) where
       statement-is : statement_at types s (Ok at) ≡ assignment_at types at s (Ok (at + 1))
@@ -63,29 +63,27 @@ module _ (types s : List ℕ) (at : ℕ) (on : WentOn (statement_at types s (Ok 
       variable-read : (at + 1 + 1 ≤ length s) × (code_at (length types) s (Ok (at + 1)) ≡ record { value = little s (at + 1) 1; next = Ok (at + 1 + 1) })
       variable-read = code-from (length types) s (at + 1) (one-tree (length types) s _ value-place).there
 
-      pub variable-inside : at + 2 ≤ length s
-      variable-inside = omega (arith, variable-read.0)
+      pub variable-inside : at + 1 + 1 ≤ length s
+      variable-inside = variable-read.0
 
-      value-is : (expression_at (length types) s (Ok (at + 2))).next ≡ Ok on.0
-      value-is = let two : at + 1 + 1 ≡ at + 2 = omega arith in rw (variable-read.1, two) at value-place
+      value-is : (expression_at (length types) s (Ok (at + 1 + 1))).next ≡ Ok on.0
+      value-is = rw variable-read.1 at value-place
 
-      pub value_on : WentOn (expression_at (length types) s (Ok (at + 2))).next
+      pub value_on : WentOn (expression_at (length types) s (Ok (at + 1 + 1))).next
       value_on = (on.0, value-is)
 
-      pub assigned-took : {v : ℕ} {e : Whole} {before after : List ℕ} → v ≡ little s (at + 1) 1
-          → Took e.records (Ok e.end) before after (expression_at (length types) s (Ok (at + 2)))
-          → TookStatement (record { assignment = Some (record { variable = v; records = e.records }); end = e.end }) before after (statement_at types s (Ok at))
+      pub assigned-took : {f : Assignment} {end : ℕ} → f.variable ≡ little s (at + 1) 1
+          → TookTree f.value end (expression_at (length types) s (Ok (at + 1 + 1)))
+          → TookStatement (Some f) end (statement_at types s (Ok at))
       unfolding assignment_at
-      assigned-took {v} {e} v-is took =
-          let two : at + 1 + 1 ≡ at + 2 = omega arith in
-          let words : (statement_at types s (Ok at)).words ≡ (expression_at (length types) s (Ok (at + 2))).words = rw (statement-is, variable-read.1, two) in
+      assigned-took v-is took =
+          let words : (statement_at types s (Ok at)).words ≡ (expression_at (length types) s (Ok (at + 1 + 1))).words = rw (statement-is, variable-read.1) in
           record {
             assignment = record {
               assigned = rw statement-is;
               variable = v-is ∙ rw (statement-is, variable-read.1);
-              size = rw words took.size;
-              few = took.few;
-              list = rw words (took.list value_on);
+              words = rw words took.words;
+              few = rw words took.few;
             };
             place = took.place ∙ value-is ∙ sym on.1;
           }
@@ -144,39 +142,44 @@ node-path : {v v' n n' a a' : ℕ} {t t' b b' c c' x x' y y' : Place} → v ≡ 
     (record { variables = v'; types = t'; statements = n'; body = b'; condition = c'; addresses = a'; sites = x'; next = y' })
 node-path e f g h i j k l = rw (e, f, g, h, i, j, k, l)
 
--- the addresses of a node that was read whole, from the offset after its condition
-module _ (s : List ℕ) (at : ℕ) (on : WentOn (node_at s (Ok at)).next) {end : ℕ}
-    (end_is : Ok end ≡ (expression_at (length (types_in s (node_at s (Ok at)))) s (node_at s (Ok at)).condition).next) where
-  sites-are : (count_at 0 16 s (Ok end)).next ≡ (node_at s (Ok at)).sites
-  sites-are = rw end_is (whole-node s (Ok at) on.1).sites
-
-  last : (addresses_from s (count_at 0 16 s (Ok end)).next (count_at 0 16 s (Ok end)).value).next ≡ (node_at s (Ok at)).next
+-- addresses that were read whole, from the offset of their count
+module _ (s : List ℕ) (from : ℕ) (on : WentOn (addresses_end s (Ok from))) where
+  count-read : (from + 2 ≤ length s) × (count_at 0 16 s (Ok from) ≡ record { value = little s from 2; next = Ok (from + 2) })
   unfolding addresses_end
-  last = rw end_is (whole-node s (Ok at) on.1).end
+  count-read = count-from 0 16 s from (addresses-on s (count_at 0 16 s (Ok from)).next (count_at 0 16 s (Ok from)).value on.1).1
 
-  sites-on : WentOn (count_at 0 16 s (Ok end)).next
-  sites-on = addresses-on s (count_at 0 16 s (Ok end)).next (count_at 0 16 s (Ok end)).value (last ∙ on.1)
-
-  count-read : (end + 2 ≤ length s) × (count_at 0 16 s (Ok end) ≡ record { value = little s end 2; next = Ok (end + 2) })
-  count-read = count-from 0 16 s end sites-on.1
-
-  pub sites-inside : end + 2 ≤ length s
+  pub sites-inside : from + 2 ≤ length s
   sites-inside = count-read.0
 
+  pub addresses-few : little s from 2 ≤ 16
+  addresses-few = rw count-read.1 at (count_most 0 16 s (Ok from))
+
+  addresses-are-there : (addresses_from s (Ok (from + 2)) (little s from 2)).next ≡ Ok on.0
+  unfolding addresses_end
+  addresses-are-there =
+      let parts : (addresses_from s (count_at 0 16 s (Ok from)).next (count_at 0 16 s (Ok from)).value).next ≡ Ok on.0 = on.1 in
+      rw count-read.1 at parts
+
+  pub addresses-inside : (on.0 ≡ from + 2 + 8 * little s from 2) × (on.0 ≤ length s)
+  addresses-inside = addresses-end s (from + 2) (little s from 2) sites-inside addresses-are-there
+
+  pub addresses-last : Ok (from + 2 + 8 * little s from 2) ≡ addresses_end s (Ok from)
+  addresses-last = ap Ok (sym addresses-inside.0) ∙ sym on.1
+
+-- those of a node, from the offset after its condition
+module _ (s : List ℕ) (at : ℕ) (on : WentOn (node_at s (Ok at)).next) {end : ℕ}
+    (end_is : Ok end ≡ (expression_at (length (types_in s (node_at s (Ok at)))) s (node_at s (Ok at)).condition).next) where
+  pub node-end : addresses_end s (Ok end) ≡ (node_at s (Ok at)).next
+  node-end = rw end_is (whole-node s (Ok at) on.1).end
+
+  pub addresses-on-end : WentOn (addresses_end s (Ok end))
+  addresses-on-end = (on.0, node-end ∙ on.1)
+
   pub addresses_are : little s end 2 ≡ (node_at s (Ok at)).addresses
-  addresses_are = sym (ap (λ (f : FieldReading). f.value) count-read.1) ∙ rw end_is (whole-node s (Ok at) on.1).addresses
+  addresses_are = sym (ap (λ (f : FieldReading). f.value) (count-read s end addresses-on-end).1) ∙ rw end_is (whole-node s (Ok at) on.1).addresses
 
   pub sites-there : Ok (end + 2) ≡ (node_at s (Ok at)).sites
-  sites-there = sym (ap (λ (f : FieldReading). f.next) count-read.1) ∙ sites-are
-
-  pub addresses-few : little s end 2 ≤ 16
-  addresses-few = rw count-read.1 at (count_most 0 16 s (Ok end))
-
-  addresses-last : (addresses_from s (Ok (end + 2)) (little s end 2)).next ≡ (node_at s (Ok at)).next
-  addresses-last = rw count-read.1 at last
-
-  pub addresses-inside : (on.0 ≡ end + 2 + 8 * little s end 2) × (on.0 ≤ length s)
-  addresses-inside = addresses-end s (end + 2) (little s end 2) sites-inside (addresses-last ∙ on.1)
+  sites-there = sym (ap (λ (f : FieldReading). f.next) (count-read s end addresses-on-end).1) ∙ rw end_is (whole-node s (Ok at) on.1).sites
 
 -- a node that was read whole, from its parts
 module _ (s : List ℕ) (at : ℕ) (on : WentOn (node_at s (Ok at)).next) {front : NodeFront} (front-is : front ≡ front_of (node_at s (Ok at))) where
@@ -207,16 +210,21 @@ module _ (s : List ℕ) (at : ℕ) (on : WentOn (node_at s (Ok at)).next) {front
     pub this-condition : WholeExpression s condition
     this-condition = record { variables = length (types_in s (node_at s (Ok at))); on = condition-on }
 
-    module _ {e : Whole} {before after : List ℕ}
-        (took : (variables : ℕ) → WentOn (expression_at variables s (Ok condition)).next → Took e.records (Ok e.end) before after (expression_at variables s (Ok condition))) where
-      pub condition-end : Ok e.end ≡ (expression_at (length (types_in s (node_at s (Ok at)))) s (node_at s (Ok at)).condition).next
+    module _ {tree : Tree} {end : ℕ}
+        (took : (variables : ℕ) → WentOn (expression_at variables s (Ok condition)).next → TookTree tree end (expression_at variables s (Ok condition))) where
+      pub condition-end : Ok end ≡ (expression_at (length (types_in s (node_at s (Ok at)))) s (node_at s (Ok at)).condition).next
       condition-end = (took (length (types_in s (node_at s (Ok at)))) condition-on).place ∙ rw condition-there
 
-      pub node_made : {addresses : ℕ} → addresses ≡ little s e.end 2
-          → reading_of (record { front = front; condition = condition; addresses = addresses; sites = e.end + 2; end = e.end + 2 + 8 * addresses }) ≡ node_at s (Ok at)
+      pub node_made : {addresses : ℕ} → addresses ≡ little s end 2
+          → reading_of (record { front = front; condition = condition; addresses = addresses; sites = end + 2; end = end + 2 + 8 * addresses }) ≡ node_at s (Ok at)
       node_made is =
           node-path (ap (λ (f : NodeFront). f.variables) front-is) types-there (ap (λ (f : NodeFront). f.statements) front-is) body-there
           condition-there
           (is ∙ addresses_are s at on condition-end)
           (sites-there s at on condition-end)
-          (rw is (ap Ok (sym (addresses-inside s at on condition-end).0) ∙ sym on.1))
+          (rw is (addresses-last s end (addresses-on-end s at on condition-end) ∙ node-end s at on condition-end))
+
+-- the types of a node that was read whole stand inside the sheet
+pub types-inside : (s : List ℕ) (at : ℕ) {front : NodeFront} → IsOk (node_at s (Ok at)).next → front ≡ front_of (node_at s (Ok at))
+    → front.types + front.variables ≤ length s
+types-inside s at read front-is = rw front-is (whole-node s (Ok at) (went-on (node_at s (Ok at)).next read).1).inside

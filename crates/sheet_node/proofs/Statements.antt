@@ -1,34 +1,21 @@
 -- Laws of statements: what their readers leave, and one after the other.
-use Prim.Native.Nat.{ℕ, ◌+◌, ◌*◌, ◌≤◌, ◌<◌}
+use Prim.Native.Nat.{ℕ, ◌+◌, ◌<◌}
 use mathlib.Core.Path.{◌≡◌, ◌∙◌}
 use mathlib.Core.List.{List}
 use native.Mathlib.Omega.{arith}
-use lib.ListN.{length, drop, take}
-use lib.Seq.{take_at}
+use lib.ListN.{length}
 use Rattle.std.specs.Prelude.{Ok}
 use Rattle.sheet_field.specs.Field.{Place, WentOn}
-use Rattle.expr.specs.Tree.{Wf}
 use Rattle.sheet_node.proofs.Nodes.{statements-more}
 use Rattle.sheet_node.proofs.Accepted.{statements-back, assigned}
-use Rattle.sheet_node.specs.declared.Assignment.{Assignment}
-use Rattle.sheet_node.specs.Node.{statement_at, statements_from, StatementRead}
+use Rattle.sheet_node.specs.declared.node.Assignment.{Assignment}
+use Rattle.sheet_node.specs.Node.{statement_at, statements_from}
 use Rattle.sheet_node.specs.Promises.{TookAssignment}
 
--- an assignment that was read whole: its words stand at the start of the list
-pub took-words : {f : Assignment} {before after : List ℕ} {r : StatementRead} → TookAssignment f before after r → take (2 * f.records) after ≡ r.words
-took-words {f} {before = before} {r = r} took = rw took.list (take_at r.words (drop (2 * f.records) before) (2 * f.records) took.size)
-
--- those words are one tree of at most 128 records, and its variable is declared
-pub record TookAssigned (types : List ℕ) (variable : ℕ) (words : List ℕ) : Type 0 where
-  pub tree : Wf words
-  pub short : length words ≤ 256
-  pub declared : variable < length types
-
-pub took-assigned : (types s : List ℕ) (p : Place) {f : Assignment} {before after : List ℕ} → TookAssignment f before after (statement_at types s p)
-    → WentOn (statement_at types s p).next → TookAssigned types f.variable (take (2 * f.records) after)
-took-assigned types s p took on =
-    let a = assigned types s p on.1 took.assigned in
-    rw (took-words took, took.variable) record { tree = a.tree; short = a.short; declared = a.declared }
+-- an assigned variable is declared
+pub took-declared : (types s : List ℕ) (p : Place) {f : Assignment} → TookAssignment f (statement_at types s p)
+    → WentOn (statement_at types s p).next → f.variable < length types
+took-declared types s p took on = rw took.variable (assigned types s p on.1 took.assigned).declared
 
 -- the i-th of statements that were read whole was read whole
 pub statement-whole : (types s : List ℕ) (from n i : ℕ) {at : ℕ} → WentOn (statements_from types s (Ok from) n).next → i < n

@@ -1,30 +1,32 @@
 -- What the contracts of the readers ask and give.
-use Rattle.std.specs.Prelude.{ℕ, ◌*◌, ◌≤◌, ◌≡◌, List, ◌++◌, true, false, length, drop, Option, Some, None, Ok}
+use Rattle.std.specs.Prelude.{ℕ, ◌≤◌, ◌≡◌, List, true, false, length, Option, Some, None, Ok}
 use Rattle.sheet_field.specs.Field.{Place, WentOn, start_of, count_at}
 use Rattle.sheet_node.specs.declared.Assignment.{Assignment}
 use Rattle.sheet_node.specs.declared.StatementParts.{StatementParts}
 use Rattle.sheet_node.specs.declared.NodeFront.{NodeFront}
 use Rattle.sheet_node.specs.declared.NodeParts.{NodeParts}
 use Rattle.sheet_node.specs.Node.{StatementRead, statement_at, types_from, types_of, statements_from, addresses_from, NodeReading, node_at}
+use Rattle.sheet_expression.specs.Expression.{expression_at}
+use Rattle.sheet_node.specs.declared.node.Assignment.{Assignment}
+use Rattle.sheet_node.specs.declared.node.NodeFront.{NodeFront}
+use Rattle.sheet_node.specs.declared.node.NodeParts.{NodeParts}
 
--- What a reader of an assignment leaves: the variable, and a borrowed list that was `before` and is `after`: the value's words stand
--- at its start, and the rest is as it was.
-pub record TookAssignment (f : Assignment) (before after : List ℕ) (r : StatementRead) : Type 0 where
+-- an assignment that was read whole: its variable, and its value as a tree
+pub record TookAssignment (f : Assignment) (r : StatementRead) : Type 0 where
   pub assigned : r.assigned ≡ true
   pub variable : f.variable ≡ r.variable
-  pub size : length r.words ≡ 2 * f.records
-  pub few : f.records ≤ 128
-  pub list : after ≡ r.words ++ drop (2 * f.records) before
+  pub words : f.value.words.now ≡ r.words
+  pub few : length r.words ≤ 256
 
--- of any other statement, the list as it was
-abbrev pub TookContent : Option Assignment → List ℕ → List ℕ → StatementRead → Type 0
-TookContent (Some f) before after r = TookAssignment f before after r
-TookContent None before after r = (r.assigned ≡ false) × (after ≡ before)
+-- any other statement
+abbrev pub TookContent : Option Assignment → StatementRead → Type 0
+TookContent (Some f) r = TookAssignment f r
+TookContent None r = r.assigned ≡ false
 
--- what a reader of a statement leaves
-pub record TookStatement (f : StatementParts) (before after : List ℕ) (r : StatementRead) : Type 0 where
-  pub assignment : TookContent f.assignment before after r
-  pub place : Ok f.end ≡ r.next
+-- what a reader of a statement that was read whole gives, and the offset after it
+pub record TookStatement (f : Option Assignment) (at : ℕ) (r : StatementRead) : Type 0 where
+  pub assignment : TookContent f r
+  pub place : Ok at ≡ r.next
 
 -- what stands before a node's statements
 abbrev pub front_of : NodeReading → NodeFront

@@ -12,40 +12,7 @@ use refusal::{Fault, Refusal};
 use sheet_expression::Types;
 use sheet_field::Reader;
 
-// What is assigned: to which variable, and how many records its value has.
-#[derive(Clone, Copy, PartialEq, Eq, Debug)]
-pub struct Assignment {
-    pub variable: u64,
-    pub records: u64,
-}
-
-// A statement: its assignment, if it is one, and the offset after it.
-#[derive(Clone, Copy, PartialEq, Eq, Debug)]
-pub struct StatementParts {
-    pub assignment: Option<Assignment>,
-    pub end: usize,
-}
-
-// The first part of a node: its counts of variables and statements, and the offsets at which its types and its statements (body)
-// start.
-#[derive(Clone, Copy, PartialEq, Eq, Debug)]
-pub struct NodeFront {
-    pub variables: u64,
-    pub types: usize,
-    pub statements: u64,
-    pub body: usize,
-}
-
-// A node: its first part, its count of addresses, the offsets at which its condition and its addresses (sites) start, and the offset
-// after it.
-#[derive(Clone, Copy, PartialEq, Eq, Debug)]
-pub struct NodeParts {
-    pub front: NodeFront,
-    pub condition: usize,
-    pub addresses: u64,
-    pub sites: usize,
-    pub end: usize,
-}
+pub mod node;
 
 // A statement's map byte: 0 or 3.
 fn take_map(r: &mut Reader) -> Result<u64, Refusal>
@@ -53,29 +20,6 @@ fn take_map(r: &mut Reader) -> Result<u64, Refusal>
     ensures value { IfOk result (λ x. x ≡ (map_at r.old.bytes.now (Ok r.old.at)).value) }
 {
     r.take_checked::<1, _>(Fault::Code, |x| (x == 0) | (x == 3))
-}
-
-// The first part of the node record at an offset where one was read whole, with nothing checked again.
-pub fn front_at(s: &[u8], at: usize) -> NodeFront
-    requires { WentOn (node_at s.now (Ok at)).next }
-    ensures { result ≡ front_of (node_at s.now (Ok at)) }
-{
-    let variables = sheet_field::number::<2>(s, at);
-    let end = at + 2 + (variables as usize);
-    NodeFront {
-        variables,
-        types: at + 2,
-        statements: sheet_field::number::<2>(s, end),
-        body: end + 2,
-    }
-}
-
-// The types of a node's variables, as a part of the sheet.
-pub fn types_in(s: &[u8], front: NodeFront) -> &[u8]
-    requires { front.types + front.variables ≤ length s.now }
-    ensures { result.now ≡ take front.variables (drop front.types s.now) }
-{
-    &s[front.types..front.types + front.variables as usize]
 }
 
 // A statement, in a node of variables of these types.
@@ -137,61 +81,4 @@ pub fn check_node(r: &mut Reader) -> Result<(), Refusal>
     check_statements(r, types, statements)?;
     sheet_expression::check_expression(r, types)?;
     check_addresses(r)
-}
-
-// The statement at an offset where one was read whole: what it holds, with nothing checked again. The records of an assigned
-// value stand as words at the start of `out`.
-pub fn statement_at(s: &[u8], at: usize, out: &mut [u64]) -> StatementParts
-    requires { WholeStatement s.now at × (256 ≤ length out.old) }
-    ensures { (types : List ℕ) → WentOn (statement_at types s.now (Ok at)).next → TookStatement result out.old out.new (statement_at types s.now (Ok at)) }
-{
-    let map = sheet_field::number::<1>(s, at);
-    if map != 3 {
-        return StatementParts {
-            assignment: None,
-            end: at + 1,
-        };
-    }
-    let variable = sheet_field::number::<1>(s, at + 1);
-    let e = sheet_expression::expression_at(s, at + 2, out);
-    let assignment = Assignment {
-        variable,
-        records: e.records,
-    };
-    StatementParts {
-        assignment: Some(assignment),
-        end: e.end,
-    }
-}
-
-// The offset after n statements that were read whole. The words of their values are taken into `words`, one after the other.
-fn statements_end(s: &[u8], from: usize, n: u64, words: &mut [u64]) -> usize
-    requires { WholeStatements s.now from n × (256 ≤ length words.old) }
-    ensures { (types : List ℕ) → WentOn (statements_from types s.now (Ok from) n).next → Ok result ≡ (statements_from types s.now (Ok from) n).next }
-{
-    let mut at = from;
-    for _ in 0..n {
-        at = statement_at(s, at, words).end;
-    }
-    at
-}
-
-// The node record at an offset where one was read whole, with nothing checked again. `words` is a buffer for the words of its
-// expressions, one after the other.
-pub fn node_at(s: &[u8], at: usize, words: &mut [u64]) -> NodeParts
-    requires { WentOn (node_at s.now (Ok at)).next × (256 ≤ length words.old) }
-    ensures { reading_of result ≡ node_at s.now (Ok at) }
-{
-    let front = front_at(s, at);
-    let condition = statements_end(s, front.body, front.statements, words);
-    let e = sheet_expression::expression_at(s, condition, words);
-    let addresses = sheet_field::number::<2>(s, e.end);
-    let sites = e.end + 2;
-    NodeParts {
-        front,
-        condition,
-        addresses,
-        sites,
-        end: sites + 8 * (addresses as usize),
-    }
 }

@@ -5,22 +5,22 @@ use mathlib.Core.Bool.{Bool, true, false, cond}
 use mathlib.Core.List.{List, []}
 use native.Mathlib.Omega.{arith}
 use lib.ListN.{length, take, drop}
-use Rattle.std.specs.Prelude.{Result, Ok, Err, IfOk}
+use Rattle.std.specs.Prelude.{Result, Ok, Err, IfOk, IsOk}
 use Rattle.std.proofs.lemmas.Result.{IfOk-weaker}
 use Rattle.refusal.specs.declared.Fault.TheVariants.{Records, Terms}
 use Rattle.refusal.specs.declared.Refusal.{Refusal}
 use Rattle.refusal.specs.Numbers.{refused}
 use Rattle.sheet_field.specs.Field.{little, WentOn}
-use Rattle.expr.specs.Tree.{Expr, Wf, tree_of}
+use Rattle.expr.specs.Tree.{Expr, tree_of}
 use Rattle.sheet_expression.specs.Expression.{Taken, expression_at}
-use Rattle.sheet_expression.specs.Promises.{Took}
-use Rattle.sheet_expression.proofs.Lists.{took-front}
-use Rattle.sheet_expression.proofs.Accepted.{took-tree}
-use Rattle.sheet_node.specs.declared.NodeFront.{NodeFront}
+use Rattle.sheet_field.proofs.Fields.{went-on}
+use Rattle.expr.specs.declared.Tree.{Tree}
+use Rattle.sheet_expression.specs.Promises.{TookTree}
+use Rattle.sheet_node.specs.declared.node.NodeFront.{NodeFront}
 use Rattle.sheet_node.specs.Node.{StatementsRead, statements_from, node_at, types_in, node_of}
-use Rattle.sheet_node.specs.Promises.{front_of}
+use Rattle.sheet_node.specs.Promises.{front_of, addresses_end}
 use Rattle.sheet_node.proofs.Accepted.{Parts, whole-node}
-use Rattle.sheet_node.proofs.Decoding.{body-there, sites-inside, addresses_are, sites-there}
+use Rattle.sheet_node.proofs.Decoding.{body-there, addresses-on-end, addresses_are, sites-there}
 use Rattle.substitution.specs.Substitution.{into, too_long, with_assignments}
 use Rattle.substitution.proofs.Nothing.{nothing-assigned}
 use Rattle.decide.specs.Decide.{decide, fits}
@@ -46,20 +46,17 @@ module _ {E : Type 0} (place : ℕ) (e : Expr) {d : Result Verdict E} (t : E) (i
       by true q = cc
       by false q = refl
 
-pub variables_few : (s : List ℕ) (at : ℕ) {front : NodeFront} → WentOn (node_at s (Ok at)).next → front ≡ front_of (node_at s (Ok at)) → front.variables ≤ 32
-variables_few s at {front} on front-is = let whole = whole-node s (Ok at) on.1 in omega (arith, whole.few, whole.counted, ap (λ (f : NodeFront). f.variables) front-is)
+pub variables_few : (s : List ℕ) (at : ℕ) {front : NodeFront} → IsOk (node_at s (Ok at)).next → front ≡ front_of (node_at s (Ok at)) → front.variables ≤ 32
+variables_few s at {front} read front-is =
+    let whole = whole-node s (Ok at) (went-on (node_at s (Ok at)).next read).1 in omega (arith, whole.few, whole.counted, ap (λ (f : NodeFront). f.variables) front-is)
 
 -- for the start of a node that was read whole
-module _ (s : List ℕ) (at : ℕ) (on : WentOn (node_at s (Ok at)).next) {front : NodeFront} (front-is : front ≡ front_of (node_at s (Ok at))) where
+module _ (s : List ℕ) (at : ℕ) (read : IsOk (node_at s (Ok at)).next) {front : NodeFront} (front-is : front ≡ front_of (node_at s (Ok at))) where
+  on : WentOn (node_at s (Ok at)).next
+  on = went-on (node_at s (Ok at)).next read
+
   whole : Parts s (node_at s (Ok at)) (types_in s (node_at s (Ok at)))
   whole = whole-node s (Ok at) on.1
-
-  -- its types
-  pub types-fit : front.types + front.variables ≤ length s
-  types-fit = rw front-is whole.inside
-
-  pub types_are : {types : List ℕ} → types ≡ take front.variables (drop front.types s) → types ≡ types_in s (node_at s (Ok at))
-  types_are types-is = rw (types-is, front-is)
 
   module _ {types : List ℕ} (these : types ≡ types_in s (node_at s (Ok at))) where
     pub types-few : {N : ℕ} → front.variables ≤ N → length types ≤ N
@@ -86,65 +83,60 @@ module _ (s : List ℕ) (at : ℕ) (on : WentOn (node_at s (Ok at)).next) {front
 
     -- refusal 10
     pub judged_long : with_assignments passed.list (tree_of condition.words) ≡ too_long → JudgedIs (Err (refused Records at)) s (node_at s (Ok at)) at
-    judged_long much = record { answer = sym (verdict-here ∙ ap (on_substituted at) much); addresses = tt; sites = tt }
+    judged_long much = record { answer = sym (verdict-here ∙ ap (on_substituted at) much); addresses = tt }
 
     -- from the substituted condition, and the addresses after it
     module _ {end : ℕ} (end_is : Ok end ≡ condition.next) where
       there : Ok end ≡ (expression_at (length (types_in s (node_at s (Ok at)))) s (node_at s (Ok at)).condition).next
       there = end_is ∙ rw (passed-next, these)
 
-      pub node-sites : end + 2 ≤ length s
-      node-sites = sites-inside s at on there
+      pub node-addresses : WentOn (addresses_end s (Ok end))
+      node-addresses = addresses-on-end s at on there
 
       pub judged-into : {r : Result JudgedNode Refusal} (c : Expr) → with_assignments passed.list (tree_of condition.words) ≡ into c
-          → answer_in r ≡ on_substituted at (into c) → IfOk r (λ j. (j.addresses ≡ little s end 2) × (j.sites ≡ end + 2)) → JudgedIs r s (node_at s (Ok at)) at
+          → answer_in r ≡ on_substituted at (into c) → IfOk r (λ j. j.addresses.now ≡ take (8 * little s end 2) (drop (end + 2) s)) → JudgedIs r s (node_at s (Ok at)) at
       judged-into {r} c made answer found = record {
         answer = answer ∙ ap (on_substituted at) (sym made) ∙ sym verdict-here;
-        addresses = IfOk-weaker r _ _ (λ j p. p.0 ∙ addresses_are s at on there) found;
-        sites = IfOk-weaker r _ _ (λ j p. ap Ok p.1 ∙ sites-there s at on there) found;
+        addresses = IfOk-weaker r _ _ (λ j p. p ∙ rw (addresses_are s at on there, ← sites-there s at on there)) found;
       }
 
 -- a node without statements: its condition stands as it was read
-module _ (s : List ℕ) (at : ℕ) (on : WentOn (node_at s (Ok at)).next) {front : NodeFront} (front-is : front ≡ front_of (node_at s (Ok at))) (none : front.statements ≡ 0) where
-  passed_over : (passed s at on front-is refl).next ≡ Ok front.body
+module _ (s : List ℕ) (at : ℕ) (read : IsOk (node_at s (Ok at)).next) {front : NodeFront} (front-is : front ≡ front_of (node_at s (Ok at))) (none : front.statements ≡ 0) where
+  passed_over : (passed s at read front-is refl).next ≡ Ok front.body
   unfolding statements_from
   passed_over = rw none
 
   -- the condition of the node, with nothing passed before it
-  stands-there : expression_at front.variables s (Ok front.body) ≡ condition s at on front-is refl
+  stands-there : expression_at front.variables s (Ok front.body) ≡ condition s at read front-is refl
   stands-there =
-      let variables : front.variables ≡ length (types_in s (node_at s (Ok at))) = ap (λ (f : NodeFront). f.variables) front-is ∙ (whole-node s (Ok at) on.1).counted in
+      let variables : front.variables ≡ length (types_in s (node_at s (Ok at))) = ap (λ (f : NodeFront). f.variables) front-is ∙ (whole s at read front-is).counted in
       ap (λ (v : ℕ). expression_at v s (Ok front.body)) variables ∙ ap (expression_at (length (types_in s (node_at s (Ok at)))) s) (sym passed_over)
 
   pub plain-on : WentOn (expression_at front.variables s (Ok front.body)).next
-  plain-on = rw stands-there (this-condition s at on front-is refl)
+  plain-on = rw stands-there (this-condition s at read front-is refl)
 
-  nothing-passed : (passed s at on front-is refl).list ≡ []
+  nothing-passed : (passed s at read front-is refl).list ≡ []
   unfolding statements_from
   nothing-passed = rw none
 
-  -- its words, as its reader left them
-  module _ {records end : ℕ} {before after : List ℕ}
-      (reader : (variables : ℕ) → WentOn (expression_at variables s (Ok front.body)).next → Took records (Ok end) before after (expression_at variables s (Ok front.body))) where
-    took : Took records (Ok end) before after (expression_at front.variables s (Ok front.body))
+  -- as its reader gave it
+  module _ {tree : Tree} {end : ℕ}
+      (reader : (variables : ℕ) → WentOn (expression_at variables s (Ok front.body)).next → TookTree tree end (expression_at variables s (Ok front.body))) where
+    took : TookTree tree end (expression_at front.variables s (Ok front.body))
     took = reader front.variables plain-on
 
-    pub plain-few : records ≤ 128
-    plain-few = took.few
+    pub plain-short : length tree.words.now ≤ 256
+    plain-short = rw took.words took.few
 
-    pub plain-words : Wf (take (2 * records) after) × (length (take (2 * records) after) ≤ 256)
-    plain-words = took-tree front.variables s (Ok front.body) took plain-on
-
-    end-there : Ok end ≡ (condition s at on front-is refl).next
+    end-there : Ok end ≡ (condition s at read front-is refl).next
     end-there = took.place ∙ ap (λ (t : Taken). t.next) stands-there
 
-    pub plain-sites : end + 2 ≤ length s
-    plain-sites = node-sites s at on front-is refl end-there
+    pub plain-addresses : WentOn (addresses_end s (Ok end))
+    plain-addresses = node-addresses s at read front-is refl end-there
 
-    pub judged-plain : {r : Result JudgedNode Refusal} → answer_in r ≡ on_substituted at (into (tree_of (take (2 * records) after)))
-        → IfOk r (λ j. (j.addresses ≡ little s end 2) × (j.sites ≡ end + 2)) → JudgedIs r s (node_at s (Ok at)) at
+    pub judged-plain : {r : Result JudgedNode Refusal} → answer_in r ≡ on_substituted at (into (tree_of tree.words.now))
+        → IfOk r (λ j. j.addresses.now ≡ take (8 * little s end 2) (drop (end + 2) s)) → JudgedIs r s (node_at s (Ok at)) at
     judged-plain answer found =
-        let words : take (2 * records) after ≡ (expression_at front.variables s (Ok front.body)).words = took-front took plain-on in
-        judged-into s at on front-is refl end-there (tree_of (take (2 * records) after))
-        (rw (nothing-passed, ← stands-there, ← words) (nothing-assigned (take (2 * records) after) plain-words.0 plain-words.1))
+        judged-into s at read front-is refl end-there (tree_of tree.words.now)
+        (rw (nothing-passed, ← stands-there, ← took.words) (nothing-assigned tree.words.now tree.wf plain-short))
         answer found

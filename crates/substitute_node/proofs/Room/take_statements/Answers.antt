@@ -1,25 +1,27 @@
 use Rattle.substitute_node.proofs.Passing.{passing_start, passing_whole, passing_stop, passing_more, passing_end}
-use Rattle.std.proofs.Common.{rules}
+use Rattle.std.proofs.Common.{rules, refl, ◌∙◌}
 use native.Mathlib.Omega.{arith}
 use Rattle.substitute_node.proofs.Room.take_statements.Goals as goal
 
 pub loop-init : goal.loop-init
-loop-init g c =
-    passing_start _ _ _ _ c.clear.ensures
+loop-init g c = record { same = refl; idle = λ _. c.clear.ensures; passing = passing_start _ _ _ _ c.clear.ensures }
 
 pub take_statement-requires : goal.take_statement-requires
 take_statement-requires g c =
-    (search rules, (c.requires.few (omega arith), (passing_whole c.loop.invariant c.requires.went_on (omega arith), c.loop.invariant.quiet)))
+    let l = c.loop.invariant in
+    (search rules, (c.requires.few (omega arith), (rw l.same (passing_whole l.passing c.requires.went_on (omega arith)), l.idle)))
 
-pub returns-in_err-step : goal.returns-in_err-step
-returns-in_err-step g c =
-    rw c.from_residual.ensures (passing_stop c.loop.invariant (omega arith) c.in_err-step.ensures)
+pub returns-in_err-take_statement-clause-passed : goal.returns-in_err-take_statement-clause-passed
+returns-in_err-take_statement-clause-passed g c =
+    let l = c.loop.invariant in
+    rw c.from_residual.ensures (passing_stop l.passing (omega arith) (rw l.same at c.in_err-take_statement.ensures.stepped))
 
 pub loop-preserved : goal.loop-preserved
 loop-preserved g c =
-    let step = c.in_ok-step.ensures in
-    passing_more c.loop.invariant (omega arith) step.0 step.1 step.2
+    let l = c.loop.invariant in let e = c.in_ok-take_statement.ensures in
+    let step = rw l.same at e.stepped in
+    record { same = e.same ∙ l.same; idle = e.idle; passing = passing_more l.passing (omega arith) step.0 step.1 }
 
-pub returns : goal.returns
-returns g c =
-    passing_end c.loop.invariant (omega arith)
+pub returns-clause-passed : goal.returns-clause-passed
+returns-clause-passed g c =
+    passing_end c.loop.invariant.passing (omega arith)
