@@ -100,9 +100,8 @@ pub enum Mnemonic {
 pub struct Instruction {
     pub address: u64,
     pub mnemonic: Mnemonic,
-    // a conditional branch, to target: not one option, as a sheet has a bit for the one and a field for the other
-    pub branch: bool,
-    pub target: u64,
+    // where it leads, if it is a conditional branch
+    pub target: Option<u64>,
     // a call, an indirect call, a syscall or an interrupt
     pub call: bool,
     pub first: Operand,

@@ -74,6 +74,6 @@ pub fn write(code: &Code, slots: &[u8], list: &mut [u8])
 {
     let mut at = 0;
     for i in 0..slots.len() {
-        at = put_line(list, at, code.addresses[i], code.nth_target(i), slots[i]);
+        at = put_line(list, at, code.addresses[i], code.nth_target(i).unwrap_or(0), slots[i]);
     }
 }

@@ -14,7 +14,7 @@ use borrow.Author.Tests.{lt-ltb, le-ltb}
 use Rattle.isa.specs.declared.Instruction.{Instruction}
 use Rattle.search.specs.Ascending.{place_of}
 use Rattle.search.proofs.Laws.{place_found}
-use Rattle.std.specs.Prelude.{Option, Some, None, option_map, Ok}
+use Rattle.std.specs.Prelude.{Option, Some, None, option_map, Ok, is_some}
 use Rattle.sheet_field.specs.Field.{Place, WentOn, little}
 use Rattle.sheet_field.proofs.Fields.{field-at, field-whole}
 use Rattle.sheet_field.proofs.Counted.{back}
@@ -46,10 +46,10 @@ branch-marked [] a = refl
 branch-marked (i ∷ code) a = go (eqb i.address a) (branch-marked code a)
   where
     go : (t : Bool) → branch_at code a ≡ marked (branches_of code) (place_of (addresses_of code) a)
-        → cond t i.branch (branch_at code a)
-        ≡ marked (i.branch ∷ branches_of code) (cond t (Some 0) (option_map suc (place_of (addresses_of code) a)))
+        → cond t (is_some i.target) (branch_at code a)
+        ≡ marked (is_some i.target ∷ branches_of code) (cond t (Some 0) (option_map suc (place_of (addresses_of code) a)))
     go true rest = refl
-    go false rest = rest ∙ sym (marked-later i.branch (branches_of code) (place_of (addresses_of code) a))
+    go false rest = rest ∙ sym (marked-later (is_some i.target) (branches_of code) (place_of (addresses_of code) a))
 
 last_more : (code : List Instruction) (l : List ℕ) (a : ℕ)
     → last_branch code (l ++ (a ∷ [])) ≡ cond (branch_at code a) (some a) (last_branch code l)
@@ -148,7 +148,7 @@ module _ (s : List ℕ) (number first end : ℕ) (code_is : code_of s number ≡
     by_last b is =
         let l = (sheet_at s).instructions.list in
         let d = one l last there in
-        let mark = sym (map_at (λ (i : Instruction). i.branch) l last d false there) ∙ is in
+        let mark = sym (map_at (λ (i : Instruction). is_some i.target) l last d false there) ∙ is in
         rw (code_is, apart-between l first last end d below last-is fits, mark, map_at (λ (i : Instruction). i.address) l last d 0 there)
 
     branch-last : get_or (branches_of (sheet_at s).instructions.list) last false ≡ true

@@ -1,5 +1,5 @@
 -- The branch that a record is about.
-use Rattle.std.specs.Prelude.{ℕ, List, [], ◌∷◌, Bool, false, cond, eqb}
+use Rattle.std.specs.Prelude.{ℕ, List, [], ◌∷◌, Bool, false, cond, eqb, is_some}
 use Rattle.std.proofs.Math.Option.{Option, none, some}
 use Rattle.isa.specs.declared.Instruction.{Instruction}
 use Rattle.sheet.specs.Sheet.{sheet_at, node_numbered}
@@ -9,7 +9,7 @@ use Rattle.verdict_block.specs.Verdict.Parts.{none as no_instruction, ending}
 -- whether the instruction at an address is a conditional branch
 unfoldable pub branch_at : List Instruction → ℕ → Bool
 branch_at [] address = false
-branch_at (i ∷ code) address = cond (eqb i.address address) i.branch (branch_at code address)
+branch_at (i ∷ code) address = cond (eqb i.address address) (is_some i.target) (branch_at code address)
 
 -- an address, unless a later one is taken
 abbrev pub unless_later : Option ℕ → Option ℕ → Option ℕ
@@ -28,7 +28,7 @@ node_site s number = last_branch (sheet_at s).instructions.list (node_numbered s
 -- A block is about its last instruction, where that is a conditional branch (M22).
 abbrev pub last_site : Parts → Option ℕ
 last_site no_instruction = none
-last_site (ending before last) = cond last.branch (some last.address) none
+last_site (ending before last) = cond (is_some last.target) (some last.address) none
 
 -- the branch of the block of that number, by its address
 abbrev pub block_site : List ℕ → ℕ → Option ℕ
