@@ -10,7 +10,8 @@ use native.Mathlib.Numerals.{unary_clauses}
 use lib.Dec.{eqb, leb, ltb}
 use lib.ListN.{length, get_or}
 use borrow.Author.Tests.{eqb-true, eqb-false, leb-true, leb-false, ltb-true, ltb-false}
-use Rattle.std.specs.Prelude.{Ok}
+use Rattle.std.specs.Prelude as optional
+use Rattle.std.specs.Prelude.{Ok, is_some}
 use Rattle.laws.proofs.Booleans.{by_test}
 use Rattle.search.specs.Ascending.{Ascending}
 use Rattle.isa.specs.declared.Instruction.{Instruction}
@@ -153,7 +154,11 @@ joined-apart (i ∷ l) before last e = go (apart l) refl e (λ b k is. joined-ap
 
 -- ---- the instruction at an address
 
-branch-found : (l : List Instruction) (a : ℕ) → branch_at l a ≡ true → (i : Instruction) × In i l × (i.branch ≡ true) × (i.address ≡ a)
+pub some-target : (o : optional.Option ℕ) → is_some o ≡ true → (t : ℕ) × (o ≡ optional.Some t)
+some-target (optional.Some t) e = (t, refl)
+some-target optional.None e = cc
+
+branch-found : (l : List Instruction) (a : ℕ) → branch_at l a ≡ true → (i : Instruction) × In i l × (is_some i.target ≡ true) × (i.address ≡ a)
 unfolding branch_at In
 branch-found [] a e = cc
 branch-found (i ∷ l) a e =
@@ -161,7 +166,7 @@ branch-found (i ∷ l) a e =
     (λ t. (i, inl refl, rw t at e, eqb-true i.address a t))
     (λ t. let r = branch-found l a (rw t at e) in (r.0, inr r.1, r.2, r.3))
 
-found-branch : (l : List Instruction) → InOrder l → (i : Instruction) → In i l → i.branch ≡ true → branch_at l i.address ≡ true
+found-branch : (l : List Instruction) → InOrder l → (i : Instruction) → In i l → is_some i.target ≡ true → branch_at l i.address ≡ true
 unfolding branch_at In InOrder
 found-branch [] up i h branch = absurd h
 found-branch (j ∷ l) up i h branch =
@@ -268,7 +273,7 @@ module _ (s : List ℕ) (sheet : Sheet) (read : reading_of s ≡ Ok sheet) where
   ends-apart number before last h = rw (← in-block-code number (before ++ (last ∷ [])) h.code) (apart-joined before last)
 
   pub apart-ends : (number : ℕ) (before : List Instruction) (last : Instruction) → number < sheet.blocks.count
-      → apart (code_of s number) ≡ ending before last → last.branch ≡ true → EndsIn s number before last
+      → apart (code_of s number) ≡ ending before last → is_some last.target ≡ true → EndsIn s number before last
   apart-ends number before last below e branch =
       let same = joined-apart (code_of s number) before last e in
       record { code = rw same at (code-in-block number below); branch = branch }
@@ -277,10 +282,11 @@ module _ (s : List ℕ) (sheet : Sheet) (read : reading_of s ≡ Ok sheet) where
   pub branch-at : (a : ℕ) → branch_at code a ≡ true → (to : ℕ) × Branch s a to
   branch-at a e =
       let r = branch-found code a e in
-      (r.0.target, record { instruction = r.0; listed = r.1; branch = r.2; at = r.3; to = refl })
+      let to = some-target r.0.target r.2 in
+      (to.0, record { instruction = r.0; listed = r.1; at = r.3; to = to.1 })
 
   pub at-branch : (a to : ℕ) → Branch s a to → branch_at code a ≡ true
-  at-branch a to b = rw (← b.at) (found-branch code sheet-rising b.instruction b.listed b.branch)
+  at-branch a to b = rw (← b.at) (found-branch code sheet-rising b.instruction b.listed (ap is_some b.to))
 
   -- the jump of a node
   pub jump-is : (number a : ℕ) → JumpAt s number a → last_branch code (node_numbered s number).addresses ≡ some a
