@@ -23,12 +23,13 @@ struct Content {
 }
 
 // A number of N bytes and the offset after it, 0 where the record has none.
-fn number_if<const N: usize>(there: bool, s: &[u8], at: usize) -> Field
+// Not by `then`: the closure of a generic function would have to say again what `number` asks.
+fn number_if<const N: usize>(bit: bool, s: &[u8], at: usize) -> Field
     requires width { N ≤ 8 }
-    requires inside { there ≡ true → at + N ≤ length s.now }
-    ensures { result ≡ number_if there N s.now at }
+    requires inside { bit ≡ true → at + N ≤ length s.now }
+    ensures { result ≡ number_if bit N s.now at }
 {
-    if there {
+    if bit {
         Field {
             value: sheet_field::number::<N>(s, at),
             end: at + N,
@@ -63,19 +64,16 @@ fn operand_at(s: &[u8], at: usize) -> Part
     }
 }
 
-fn operand_if(there: bool, s: &[u8], at: usize) -> Part
-    requires { WentOn (optional_operand there s.now (Ok at)).next }
-    ensures operand { result.operand ≡ (optional_operand there s.now (Ok at)).operand }
-    ensures end { Ok result.end ≡ (optional_operand there s.now (Ok at)).next }
+// The operand at an offset, where its bit stands.
+fn operand_if(bit: bool, s: &[u8], at: usize) -> Part
+    requires { WentOn (optional_operand bit s.now (Ok at)).next }
+    ensures operand { result.operand ≡ (optional_operand bit s.now (Ok at)).operand }
+    ensures end { Ok result.end ≡ (optional_operand bit s.now (Ok at)).next }
 {
-    if there {
-        operand_at(s, at)
-    } else {
-        Part {
-            operand: Operand::Absent,
-            end: at,
-        }
-    }
+    bit.then(|| operand_at(s, at)).unwrap_or(Part {
+        operand: Operand::Absent,
+        end: at,
+    })
 }
 
 fn registers_at(s: &[u8], at: usize, n: u64) -> [Register; 8]
@@ -89,6 +87,7 @@ fn registers_at(s: &[u8], at: usize, n: u64) -> [Register; 8]
         size: 0,
         offset: 0,
     }; 8];
+    // By index: of what is written through `iter_mut` under `zip` a proof learns nothing.
     for i in 0..n as usize {
         list[i] = sheet_instruction::register_at(s, at + 4 * i);
     }
