@@ -3,14 +3,13 @@ use Prim.Native.Nat.{ℕ, zero, suc, ◌^◌, ◌<◌, ◌≤◌}
 use mathlib.Core.Path.{◌≡◌, refl, sym, ap, subst, ◌∙◌}
 use mathlib.Core.Bool.{Bool, true, false, cond}
 use mathlib.Core.List.{List, [], ◌∷◌, ◌++◌, map}
-use mathlib.Core.Option.{Option, none, some}
+use mathlib.Core.Option as field
 use mathlib.Core.Logic.{◌⊎◌, inl, inr, ⊎_elim}
 use native.Mathlib.Omega.{arith}
 use lib.Dec.{eqb}
 use lib.ListN.{length, get_or, length-append}
 use borrow.Author.Tests.{eqb-true, eqb-false, eq-eqb, ne_eqb}
-use Rattle.std.specs.Prelude as optional
-use Rattle.std.specs.Prelude.{Ok, is_some, unwrap_or}
+use Rattle.std.specs.Prelude.{Option, Ok, Some, is_some, unwrap_or}
 use Rattle.sheet_field.specs.Field.{Place}
 use Rattle.laws.proofs.Booleans.{by_test}
 use Rattle.isa.specs.declared.Instruction.{Instruction}
@@ -52,9 +51,9 @@ Ordered low (i ∷ code) = (low ≤ i.address) × (i.address < 256 ^ 8) × (unwr
 target_small : (i : syntax.Instruction) → ValidInstruction i → unwrap_or (means_target i.target) 0 < 256 ^ 8
 target_small i ok = go i.target ok.formed.target
   where
-    go : (t : Option ℕ) → WhereThere (λ t. t < 256 ^ 8) t → unwrap_or (means_target t) 0 < 256 ^ 8
-    go none h = omega arith
-    go (some t) h = h
+    go : (t : field.Option ℕ) → WhereThere (λ t. t < 256 ^ 8) t → unwrap_or (means_target t) 0 < 256 ^ 8
+    go field.none h = omega arith
+    go (field.some t) h = h
 
 ordered-from : (low : ℕ) (i : syntax.Instruction) (l : List syntax.Instruction) → low ≤ i.address → All ValidInstruction (i ∷ l) → Rising (i ∷ l)
     → Ordered low (map means_instruction (i ∷ l))
@@ -245,17 +244,17 @@ module _ (s : List ℕ) (sheet : Sheet) (read : reading_of s ≡ Ok sheet) where
 
   branch-target : (a to : ℕ) → Branch s a to → target_at (sheet_at s).instructions.list a ≡ to
   branch-target a to b =
-      rw (← b.at) (listed-target (sheet_at s).instructions.list (sheet-rising s sheet read) b.instruction b.listed ∙ ap (λ (o : optional.Option ℕ). unwrap_or o 0) b.to)
+      rw (← b.at) (listed-target (sheet_at s).instructions.list (sheet-rising s sheet read) b.instruction b.listed ∙ ap (λ (o : Option ℕ). unwrap_or o 0) b.to)
 
   -- what the code finds is what a block or a node is about, and that alone
-  about-found : (from : Source) (a : ℕ) → About s from a → site_of s from ≡ some a
+  about-found : (from : Source) (a : ℕ) → About s from a → site_of s from ≡ Some a
   about-found (block k) a h = rw (ends-apart s sheet read k h.0 h.1 h.2, h.2.branch, h.3)
   about-found (node k) a h = jump-is s sheet read k a h
 
-  found-about : (from : Source) (a value reason : ℕ) → answer_for s from ≡ decision value reason → site_of s from ≡ some a → About s from a
+  found-about : (from : Source) (a value reason : ℕ) → answer_for s from ≡ decision value reason → site_of s from ≡ Some a → About s from a
   found-about (block k) a value reason e site = go (apart (code_of s k)) refl site
     where
-      go : (parts : Parts) → apart (code_of s k) ≡ parts → last_site parts ≡ some a → About s (block k) a
+      go : (parts : Parts) → apart (code_of s k) ≡ parts → last_site parts ≡ Some a → About s (block k) a
       go no_instruction q site = not_some site
       go (ending before last) q site =
           by_test (is_some last.target)
@@ -301,7 +300,7 @@ module _ (s : List ℕ) (sheet : Sheet) (read : reading_of s ≡ Ok sheet) (give
       (every said code l.site l.value l.reason (rw (← d.target.at) (listed-among code d.target.instruction d.target.listed))
       (go (first_decided l.site said) (decided s sheet read given l.site said is)))
     where
-      its-site : site_of s d.from ≡ some l.site
+      its-site : site_of s d.from ≡ Some l.site
       its-site = about-found s sheet read d.from l.site d.site
 
       by : (p : ℕ) (r : Reason) (v : Verdict) → verdict_numbers v ≡ decision p (reason_number r) → Decider s l.site v
