@@ -31,7 +31,7 @@ pub fn jump_at(code: &Code, number: usize) -> Option<Mnemonic>
     code.is_branch(number).then_some(code.nth_mnemonic(number))
 }
 
-// Step over the instructions of an accepted sheet from number `first` up to `end`.
+// Step over the instructions of an accepted sheet from number `first` up to `end`. Not a Range: its callers stop before the end of one.
 pub fn step_over(code: &Code, first: usize, end: usize, state: &mut State)
     requires { end ≤ length code.now.places.now }
     ensures { state.new ≡ stepped_all state.old (slice first end (sheet_at code.now.bytes.now).instructions.list) }
