@@ -19,7 +19,7 @@ use Rattle.sheet_instruction.specs.Instruction.{OperandReading, register_at, ope
 use Rattle.sheet_instruction.specs.Promises.{operands_at}
 use Rattle.sheet_instruction.proofs.Instructions.{registers-count}
 use Rattle.sheet_instruction.proofs.Accepted.{registers-from-on, tail-on, head-on, behind-on, TailOn, HeadOn}
-use Rattle.sheet_instruction.specs.declared.Part.{Part}
+use Rattle.sheet_accepted.specs.declared.Part.{Part}
 use Rattle.sheet_accepted.specs.declared.Content.{Content}
 use Rattle.sheet_accepted.specs.Record.{WasRead, recorded}
 use Rattle.sheet_accepted.specs.Promises.{number_if, content_at}

@@ -9,7 +9,14 @@ ghost use Rattle.sheet_accepted.specs.Promises.{number_if, content_at};
 
 use isa::{Instruction, Mnemonic, Operand, Register};
 use sheet_field::Field;
-use sheet_instruction::{MapBit, Part};
+use sheet_instruction::MapBit;
+
+// An operand, and the offset after it.
+#[derive(Clone, Copy)]
+struct Part {
+    operand: Operand,
+    end: usize,
+}
 
 // What stands behind a record's target.
 #[derive(Clone, Copy)]
