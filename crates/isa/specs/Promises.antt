@@ -1,6 +1,6 @@
 -- What contracts give: the size of a register's low part, the mnemonics that must declare flags, and the fault of an instruction from what
 -- it depends on.
-use Rattle.std.specs.Prelude.{ℕ, [], Bool, true, false, ◌||◌, eqb}
+use Rattle.std.specs.Prelude.{ℕ, [], Bool, true, false, ◌||◌, eqb, None}
 use Rattle.isa.specs.declared.Mnemonic.{Mnemonic}
 use Rattle.isa.specs.declared.Mnemonic.TheVariants.{Other, Carry, Mov, Not, TwoOperand, OneOperand, Jump, CountJump}
 use Rattle.isa.specs.declared.Operand.{Operand}
@@ -24,8 +24,7 @@ fault_of m call first second flags =
     at_fault record {
       address = 0;
       mnemonic = m;
-      branch = false;
-      target = 0;
+      target = None;
       call = call;
       first = first;
       second = second;

@@ -9,7 +9,7 @@ ghost use Rattle.isa.specs.FlagBits.{has_bit, flag_bit, declares};
 ghost use Rattle.isa.specs.Modelled.{is_register, is_absent, takes, modelled, sizes_differ, outside, is_mov, declares_result, declares_own, undeclared};
 ghost use Rattle.isa.specs.Promises.{is_size, is_unary, fault_of};
 
-// Class 1 are the general registers; index, size in bits and offset in bits name the part.
+// Class 1 are the general registers; index, size in bits and offset in bits name the part. A class is a number, as any byte is one.
 #[derive(Clone, Copy, PartialEq, Eq)]
 pub struct Register {
     pub class: u8,
@@ -18,6 +18,7 @@ pub struct Register {
     pub offset: u8,
 }
 
+// No Option around it for `Absent`: each rule has that in one arm with others, as `Absent | Mem`.
 #[derive(Clone, Copy, PartialEq, Eq)]
 pub enum Operand {
     Absent,
@@ -100,9 +101,8 @@ pub enum Mnemonic {
 pub struct Instruction {
     pub address: u64,
     pub mnemonic: Mnemonic,
-    // a conditional branch, to target: not one option, as a sheet has a bit for the one and a field for the other
-    pub branch: bool,
-    pub target: u64,
+    // where it leads, if it is a conditional branch
+    pub target: Option<u64>,
     // a call, an indirect call, a syscall or an interrupt
     pub call: bool,
     pub first: Operand,

@@ -5,7 +5,7 @@ use mathlib.Core.List.{List, map}
 use mathlib.Core.Bool.{Bool, true, false}
 use native.Mathlib.Omega.{arith}
 use lib.ListN.{length, get_or, length-map}
-use Rattle.std.specs.Prelude.{Ok}
+use Rattle.std.specs.Prelude.{Ok, Option, is_some}
 use Rattle.sheet_field.specs.Field.{little, start_of, WentOn, Place}
 use Rattle.isa.specs.declared.Mnemonic.{Mnemonic}
 use Rattle.isa.specs.declared.Instruction.{Instruction}
@@ -16,7 +16,7 @@ use Rattle.search.specs.Ascending.{Ascending}
 use Rattle.sheet.specs.declared.Block.{Block}
 use Rattle.sheet.specs.declared.Sheet.{Sheet}
 use Rattle.sheet.specs.Sheet.{no_block, instructions_from, nodes_from, sheet_at, reading_of}
-use Rattle.sheet.specs.Index.{over, addresses_of, targets_of, branches_of, Indexed, InFront}
+use Rattle.sheet.specs.Index.{over, addresses_of, branches_of, Indexed, InFront}
 use Rattle.sheet.proofs.Accepted.{accepted, block_of, block-at, blocks-inside, nodes-back, nodes-next, nodes-nth, node-places-nth, node-places-length}
 use Rattle.sheet.proofs.Blocks.{block-whole}
 use Rattle.sheet.proofs.Fronts.{one, map_at, instructions-length, places-length, over-length, over-front}
@@ -88,15 +88,14 @@ module _ (s : List ℕ) (sheet : Sheet) (read : reading_of s ≡ Ok sheet) where
         let d = one l number there in
         ap f (nth-instruction-is refl d) ∙ sym (map_at f l number d e there)
 
-    pub nth-branch-is : {b : Bool} → b ≡ (instruction_at true 0 s (Ok (get_or places number 0))).instruction.branch
+    pub nth-branch-is : {b : Bool} → b ≡ is_some (instruction_at true 0 s (Ok (get_or places number 0))).instruction.target
         → b ≡ get_or (branches_of (sheet_at s).instructions.list) number false
     unfolding branches_of
-    nth-branch-is is = is ∙ nth-field (λ (i : Instruction). i.branch) false
+    nth-branch-is is = is ∙ nth-field (λ (i : Instruction). is_some i.target) false
 
-    pub nth-target-is : {t : ℕ} → t ≡ (instruction_at true 0 s (Ok (get_or places number 0))).instruction.target
-        → t ≡ get_or (targets_of (sheet_at s).instructions.list) number 0
-    unfolding targets_of
-    nth-target-is is = is ∙ nth-field (λ (i : Instruction). i.target) 0
+    pub nth-target-is : {t : Option ℕ} → t ≡ (instruction_at true 0 s (Ok (get_or places number 0))).instruction.target
+        → (d : Instruction) → t ≡ (get_or (sheet_at s).instructions.list number d).target
+    nth-target-is is d = is ∙ ap (λ (i : Instruction). i.target) (nth-instruction-is refl d)
 
   module _ (number : ℕ) {places : List ℕ} {r : NodeReading} (places-are : places ≡ (sheet_at s).nodes.places) (below : number < length places)
       (r-is : r ≡ node_at s (Ok (get_or places number 0))) where

@@ -1,5 +1,5 @@
 -- The index of a sheet: entries for its instructions and nodes, in reading order, at the start of borrowed lists.
-use Rattle.std.specs.Prelude.{ℕ, ◌≤◌, ◌≡◌, Bool, List, [], ◌∷◌, map, length, take}
+use Rattle.std.specs.Prelude.{ℕ, ◌≤◌, ◌≡◌, Bool, List, [], ◌∷◌, map, length, take, is_some, unwrap_or}
 use Rattle.isa.specs.declared.Instruction.{Instruction}
 use Rattle.sheet.specs.Sheet.{InstructionsRead, SheetRead}
 
@@ -14,11 +14,11 @@ addresses_of l = map (λ (i : Instruction). i.address) l
 
 -- where they lead, 0 for one that is no conditional branch
 unfoldable pub targets_of : List Instruction → List ℕ
-targets_of l = map (λ (i : Instruction). i.target) l
+targets_of l = map (λ (i : Instruction). unwrap_or i.target 0) l
 
 -- which instructions are conditional branches
 unfoldable pub branches_of : List Instruction → List Bool
-branches_of l = map (λ (i : Instruction). i.branch) l
+branches_of l = map (λ (i : Instruction). is_some i.target) l
 
 -- what the index holds of instructions: each borrowed list, as it was and as it is
 pub record Noted (a₀ a p₀ p : List ℕ) (r : InstructionsRead) : Type 0 where

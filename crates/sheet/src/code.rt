@@ -4,7 +4,7 @@
 ghost use Rattle.std.specs.Prelude.{◌≡◌, false, ◌<◌, length, get_or, Ok, Err, IfOk, IfErr};
 ghost use Rattle.isa.specs.declared.Instruction.{Instruction};
 ghost use Rattle.sheet.specs.Sheet.{no_block, sheet_at, reading_of};
-ghost use Rattle.sheet.specs.Index.{addresses_of, targets_of, branches_of, InFront};
+ghost use Rattle.sheet.specs.Index.{addresses_of, branches_of, InFront};
 ghost use Rattle.sheet.specs.Promises.{having_block};
 
 use crate::{Block, Sheet};
@@ -13,6 +13,7 @@ use refusal::{Fault, Refusal};
 use sheet_accepted::Record;
 
 // The bytes of an accepted sheet, what reading gives of them, and the address and the offset of each instruction.
+// Two lists, as a search walks the addresses alone: entries of both would double what it loads.
 #[derive(Clone, Copy)]
 pub struct Code<'a> {
     pub bytes: &'a [u8],
@@ -108,10 +109,10 @@ impl<'a> Code<'a> {
         self.record(number).is_branch()
     }
 
-    // The target of the instruction of that number, 0 where it is no conditional branch.
-    pub fn nth_target(&self, number: usize) -> u64
+    // Where the instruction of that number leads, if it is a conditional branch.
+    pub fn nth_target(&self, number: usize) -> Option<u64>
         requires { number < length self.now.places.now }
-        ensures { result ≡ get_or (targets_of (sheet_at self.now.bytes.now).instructions.list) number 0 }
+        ensures { (d : Instruction) → result ≡ (get_or (sheet_at self.now.bytes.now).instructions.list number d).target }
     {
         self.record(number).target()
     }

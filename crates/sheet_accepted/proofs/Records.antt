@@ -12,7 +12,8 @@ use Rattle.isa.specs.declared.Operand.TheVariants.{Reg, Imm, Mem}
 use Rattle.isa.specs.declared.Mnemonic.{Mnemonic}
 use Rattle.isa.specs.declared.Instruction.{Instruction}
 use Rattle.isa.specs.Mnemonics.{named}
-use Rattle.std.specs.Prelude.{Ok, Err, IsOk}
+use Rattle.std.specs.Prelude.{Ok, Err, IsOk, Option, Some, None, is_some, IfSome}
+use Rattle.std.specs.Bool.{then_some}
 use Rattle.sheet_field.specs.declared.Field.{Field}
 use Rattle.sheet_field.specs.Field.{FieldReading, Place, little, code_at, count_at, WentOn}
 use Rattle.sheet_instruction.specs.Instruction.{OperandReading, register_at, operand_at, registers_from, registers_at, optional_registers, optional_operand, optional_field, optional_code, bit_of, map_at, address_at, head_at, tail_at, instruction_at}
@@ -71,10 +72,13 @@ optional-code-is true s a on = let c = code_is 32 s {p = Ok a} refl refl on in (
 optional-code-is false s a on = (λ e. absurd (false≢true e), refl)
 
 optional-field-is : (there : Bool) (s : List ℕ) (a : ℕ) {b : ℕ} → (optional_field there s (Ok a)).next ≡ Ok b
-    → (there ≡ true → a + 8 ≤ length s)
-    × (optional_field there s (Ok a) ≡ record { value = (number_if there 8 s a).value; next = Ok (number_if there 8 s a).end })
-optional-field-is true s a on = let f = field_is 8 s {p = Ok a} refl refl on in (λ e. f.0, f.1)
-optional-field-is false s a on = (λ e. absurd (false≢true e), refl)
+    → (there ≡ true → (a + 8 ≤ length s) × (optional_field there s (Ok a) ≡ record { value = little s a 8; next = Ok (a + 8) }))
+optional-field-is true s a on = let f = field_is 8 s {p = Ok a} refl refl on in (λ e. f)
+optional-field-is false s a on = λ e. absurd (false≢true e)
+
+then-there : (b : Bool) (x : ℕ) → is_some (then_some b x) ≡ b
+then-there true x = refl
+then-there false x = refl
 
 optional-registers-is : (there : Bool) (s : List ℕ) (a : ℕ) {b : ℕ} → (optional_registers there s (Ok a)).next ≡ Ok b
     → (there ≡ true → a + 2 ≤ length s)
@@ -192,14 +196,31 @@ module _ (s : List ℕ) (at : ℕ) (read : WasRead s at) where
   pub record_inside : at + 10 ≤ length s
   record_inside = number_is.1
 
-  branch-is : bit_of (little s at 1) 1 ≡ (recorded s at).branch
-  unfolding instruction_at head_at
-  branch-is = rw map_is
+  -- what says that it is a branch, and the head, as they are read
+  marked : Bool
+  marked = bit_of (little s at 1) 1
 
-  target_is : ((recorded s at).branch ≡ true → at + 10 + 8 ≤ length s)
-      × (optional_field (bit_of (little s at 1) 1) s (Ok (at + 10)) ≡ record { value = (number_if (recorded s at).branch 8 s (at + 10)).value; next = Ok (number_if (recorded s at).branch 8 s (at + 10)).end })
+  target-on : WentOn (optional_field marked s (Ok (at + 10))).next
+  unfolding head_at marked
+  target-on = rw (number_is.2, map_is) at behind-head
+
+  there : marked ≡ true → (at + 10 + 8 ≤ length s) × (optional_field marked s (Ok (at + 10)) ≡ record { value = little s (at + 10) 8; next = Ok (at + 10 + 8) })
+  there = optional-field-is marked s (at + 10) target-on.1
+
+  target-is : (recorded s at).target ≡ then_some marked (optional_field marked s (Ok (at + 10))).value
+  unfolding instruction_at head_at marked
+  target-is = rw (number_is.2, map_is)
+
+  next-is : (head_at true 0 s (Ok at)).next ≡ (optional_field marked s (Ok (at + 10))).next
+  unfolding head_at marked
+  next-is = rw (number_is.2, map_is)
+
+  map-is : (head_at true 0 s (Ok at)).map ≡ little s at 1
   unfolding head_at
-  target_is = rw (← branch-is) (optional-field-is (bit_of (little s at 1) 1) s (at + 10) (rw (number_is.2, map_is) at behind-head.1))
+  map-is = rw map_is
+
+  branch-is : marked ≡ is_some (recorded s at).target
+  branch-is = sym (then-there marked (optional_field marked s (Ok (at + 10))).value) ∙ ap is_some (sym target-is)
 
   -- its address, its mnemonic, its mark and its target
   pub address_here : {address : ℕ} → address ≡ little s (at + 1) 8 → address ≡ (recorded s at).address
@@ -210,38 +231,41 @@ module _ (s : List ℕ) (at : ℕ) (read : WasRead s at) where
   unfolding instruction_at head_at
   mnemonic_here read m-is = rw (m-is, read, number_is.2)
 
-  pub branch_here : {map : ℕ} {b : Bool} → map ≡ little s at 1 → b ≡ bit_of map 1 → b ≡ (recorded s at).branch
+  pub branch_here : {map : ℕ} {b : Bool} → map ≡ little s at 1 → b ≡ bit_of map 1 → b ≡ is_some (recorded s at).target
+  unfolding marked
   branch_here read b-is = b-is ∙ rw read branch-is
 
-  pub target_room : {branch : Bool} → branch ≡ (recorded s at).branch → branch ≡ true → at + 10 + 8 ≤ length s
-  target_room branch-read e = target_is.0 (sym branch-read ∙ e)
+  module _ {branch : Bool} (branch-read : branch ≡ is_some (recorded s at).target) where
+    pub target_room : branch ≡ true → at + 10 + 8 ≤ length s
+    target_room e = (there (branch-is ∙ sym branch-read ∙ e)).0
 
-  target-read-is : (recorded s at).target ≡ (optional_field (bit_of (little s at 1) 1) s (Ok (at + 10))).value
-  unfolding instruction_at head_at
-  target-read-is = rw (number_is.2, map_is)
+    pub target_here : (target : Option ℕ) {P : ℕ → Type 0} → is_some target ≡ branch → IfSome target P → ((t : ℕ) → P t → t ≡ little s (at + 10) 8)
+        → target ≡ (recorded s at).target
+    target_here (Some t) some is number =
+        let taken : marked ≡ true = branch-is ∙ sym branch-read ∙ sym some in
+        rw (target-is, number t is, (there taken).1, taken)
+    target_here None some is number =
+        let left : marked ≡ false = branch-is ∙ sym branch-read ∙ sym some in
+        rw (target-is, left)
 
-  head-here : head_at true 0 s (Ok at)
-      ≡ record { map = little s at 1; address = little s (at + 1) 8; mnemonic = named (little s (at + 9) 1); target = (optional_field (bit_of (little s at 1) 1) s (Ok (at + 10))).value; next = (optional_field (bit_of (little s at 1) 1) s (Ok (at + 10))).next }
-  unfolding head_at
-  head-here = rw (number_is.2, address_is, map_is)
+    pub behind_target : branch ≡ true → Ok (at + 18) ≡ (head_at true 0 s (Ok at)).next
+    behind_target e =
+        let eight : at + 10 + 8 ≡ at + 18 = omega arith in
+        rw (next-is, (there (branch-is ∙ sym branch-read ∙ e)).1, eight)
 
-  module _ {target : Field} (target-read : target ≡ number_if (recorded s at).branch 8 s (at + 10)) where
-    pub target_here : target.value ≡ (recorded s at).target
-    target_here = rw (target-read, target-read-is, target_is.1)
+    pub behind_mnemonic : branch ≡ false → Ok (at + 10) ≡ (head_at true 0 s (Ok at)).next
+    behind_mnemonic e = let left : marked ≡ false = branch-is ∙ sym branch-read ∙ e in rw (next-is, left)
 
-    head-is : head_at true 0 s (Ok at) ≡ record { map = little s at 1; address = little s (at + 1) 8; mnemonic = named (little s (at + 9) 1); target = target.value; next = Ok target.end }
-    head-is = head-here ∙ rw (target-read, target_is.1)
+  module _ {map end : ℕ} (map_read : map ≡ little s at 1) (end-is : Ok end ≡ (head_at true 0 s (Ok at)).next) where
+    pub content_on : WentOn (tail_at map s (Ok end)).next
+    content_on =
+        let w : WentOn (tail_at (head_at true 0 s (Ok at)).map s (head_at true 0 s (Ok at)).next).next = (on.0, (behind-on true 0 s (Ok at) on.1).0) in
+        rw (map_read, end-is, ← map-is) w
 
-    module _ {map : ℕ} (map_read : map ≡ little s at 1) where
-      pub content_on : WentOn (tail_at map s (Ok target.end)).next
-      content_on =
-          let w : WentOn (tail_at (head_at true 0 s (Ok at)).map s (head_at true 0 s (Ok at)).next).next = (on.0, (behind-on true 0 s (Ok at) on.1).0) in
-          rw map_read (rw head-is at w)
-
-      pub instruction_is : {address : ℕ} {call branch : Bool} {mnemonic : Mnemonic} {c : Content} → address ≡ (recorded s at).address
-          → mnemonic ≡ (recorded s at).mnemonic → branch ≡ (recorded s at).branch → call ≡ bit_of map 2 → c ≡ content_at map s (Ok target.end)
-          → ◌≡◌ {A = Instruction}
-          (record { address = address; mnemonic = mnemonic; branch = branch; target = target.value; call = call; first = c.first; second = c.second; written = c.written; count = c.count; flags = c.flags })
-          (recorded s at)
-      unfolding instruction_at
-      instruction_is address_read mnemonic-is branch-read call-is c-is = rw (address_read, mnemonic-is, branch-read, c-is, call-is, map_read, head-is)
+    pub instruction_is : {address : ℕ} {target : Option ℕ} {call : Bool} {mnemonic : Mnemonic} {c : Content} → address ≡ (recorded s at).address
+        → mnemonic ≡ (recorded s at).mnemonic → target ≡ (recorded s at).target → call ≡ bit_of map 2 → c ≡ content_at map s (Ok end)
+        → ◌≡◌ {A = Instruction}
+        (record { address = address; mnemonic = mnemonic; target = target; call = call; first = c.first; second = c.second; written = c.written; count = c.count; flags = c.flags })
+        (recorded s at)
+    unfolding instruction_at
+    instruction_is address_read mnemonic-is target-read call-is c-is = rw (address_read, mnemonic-is, target-read, c-is, call-is, map_read, end-is, ← map-is)

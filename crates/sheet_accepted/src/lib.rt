@@ -1,9 +1,9 @@
 // The instruction record at an offset of an accepted sheet: what it holds, with nothing checked again.
 #![tactic(auto)]
 
-ghost use Rattle.std.specs.Prelude.{◌≡◌, true, ◌+◌, ◌≤◌, length, Ok};
+ghost use Rattle.std.specs.Prelude.{◌≡◌, true, ◌+◌, ◌≤◌, length, Ok, is_some};
 ghost use Rattle.sheet_field.specs.Field.{WentOn, little};
-ghost use Rattle.sheet_instruction.specs.Instruction.{operand_at, registers_from, optional_operand, tail_at};
+ghost use Rattle.sheet_instruction.specs.Instruction.{operand_at, registers_from, optional_operand, head_at, tail_at};
 ghost use Rattle.sheet_accepted.specs.Record.{WasRead, recorded};
 ghost use Rattle.sheet_accepted.specs.Promises.{number_if, content_at};
 
@@ -30,12 +30,13 @@ struct Content {
 }
 
 // A number of N bytes and the offset after it, 0 where the record has none.
-fn number_if<const N: usize>(there: bool, s: &[u8], at: usize) -> Field
+// Not by `then`: the closure of a generic function would have to say again what `number` asks.
+fn number_if<const N: usize>(bit: bool, s: &[u8], at: usize) -> Field
     requires width { N ≤ 8 }
-    requires inside { there ≡ true → at + N ≤ length s.now }
-    ensures { result ≡ number_if there N s.now at }
+    requires inside { bit ≡ true → at + N ≤ length s.now }
+    ensures { result ≡ number_if bit N s.now at }
 {
-    if there {
+    if bit {
         Field {
             value: sheet_field::number::<N>(s, at),
             end: at + N,
@@ -70,19 +71,16 @@ fn operand_at(s: &[u8], at: usize) -> Part
     }
 }
 
-fn operand_if(there: bool, s: &[u8], at: usize) -> Part
-    requires { WentOn (optional_operand there s.now (Ok at)).next }
-    ensures operand { result.operand ≡ (optional_operand there s.now (Ok at)).operand }
-    ensures end { Ok result.end ≡ (optional_operand there s.now (Ok at)).next }
+// The operand at an offset, where its bit stands.
+fn operand_if(bit: bool, s: &[u8], at: usize) -> Part
+    requires { WentOn (optional_operand bit s.now (Ok at)).next }
+    ensures operand { result.operand ≡ (optional_operand bit s.now (Ok at)).operand }
+    ensures end { Ok result.end ≡ (optional_operand bit s.now (Ok at)).next }
 {
-    if there {
-        operand_at(s, at)
-    } else {
-        Part {
-            operand: Operand::Absent,
-            end: at,
-        }
-    }
+    bit.then(|| operand_at(s, at)).unwrap_or(Part {
+        operand: Operand::Absent,
+        end: at,
+    })
 }
 
 fn registers_at(s: &[u8], at: usize, n: u64) -> [Register; 8]
@@ -96,6 +94,7 @@ fn registers_at(s: &[u8], at: usize, n: u64) -> [Register; 8]
         size: 0,
         offset: 0,
     }; 8];
+    // By index: of what is written through `iter_mut` under `zip` a proof learns nothing.
     for i in 0..n as usize {
         list[i] = sheet_instruction::register_at(s, at + 4 * i);
     }
@@ -154,38 +153,44 @@ impl Record<'_> {
     // Whether it is a conditional branch.
     #[tactic(auto, using(crate::proofs::Records::branch_here))]
     pub fn is_branch(&self) -> bool
-        ensures { result ≡ (recorded self.now.bytes.now self.now.at).branch }
+        ensures { result ≡ is_some (recorded self.now.bytes.now self.now.at).target }
     {
         MapBit::Target.is_in(self.map())
     }
 
-    // The target, 0 where it is no conditional branch, and the offset after it.
-    #[tactic(auto, using(crate::proofs::Records::record_inside, crate::proofs::Records::target_room))]
-    fn take_target(&self) -> Field
-        ensures { result ≡ number_if (recorded self.now.bytes.now self.now.at).branch 8 self.now.bytes.now (self.now.at + 10) }
-    {
-        number_if::<8>(self.is_branch(), self.bytes, self.at + 10)
-    }
-
-    // The target, 0 where it is no conditional branch.
-    pub fn target(&self) -> u64
+    // Where it leads, if it is a conditional branch.
+    #[tactic(auto, using(crate::proofs::Records::target_room))]
+    pub fn target(&self) -> Option<u64>
         ensures { result ≡ (recorded self.now.bytes.now self.now.at).target }
     {
-        self.take_target().value
+        let s = self.bytes;
+        let at = self.at;
+        self.is_branch()
+            .then(|| sheet_field::number::<8>(s, at + 10))
+    }
+
+    // Where the operands start.
+    #[tactic(auto, using(crate::proofs::Records::behind_target, crate::proofs::Records::behind_mnemonic))]
+    fn operands(&self) -> usize
+        ensures { Ok result ≡ (head_at true 0 self.now.bytes.now (Ok self.now.at)).next }
+    {
+        if self.is_branch() {
+            self.at + 18
+        } else {
+            self.at + 10
+        }
     }
 
     pub fn instruction(&self) -> Instruction
         ensures { result ≡ recorded self.now.bytes.now self.now.at }
     {
         let map = self.map();
-        let target = self.take_target();
-        let content = content_at(self.bytes, target.end, map);
+        let content = content_at(self.bytes, self.operands(), map);
         let written = content.written;
         Instruction {
             address: self.address(),
             mnemonic: self.mnemonic(),
-            branch: self.is_branch(),
-            target: target.value,
+            target: self.target(),
             call: MapBit::Call.is_in(map),
             first: content.first,
             second: content.second,

@@ -1,5 +1,6 @@
 -- Instruction records, field by field in reading order.
-use Rattle.std.specs.Prelude.{ℕ, zero, suc, ◌+◌, List, Bool, cond, not, ◌&&◌, ◌||◌, set, replicate, ltb, eqb}
+use Rattle.std.specs.Prelude.{ℕ, zero, suc, ◌+◌, List, Bool, cond, not, ◌&&◌, ◌||◌, set, replicate, ltb, eqb, Option}
+use Rattle.std.specs.Bool.{then_some}
 use Rattle.refusal.specs.declared.Fault.TheVariants as fault
 use Rattle.isa.specs.declared.Register.{Register}
 use Rattle.isa.specs.declared.Operand.{Operand}
@@ -107,17 +108,23 @@ pub record Head : Type 0 where
   pub map : ℕ
   pub address : ℕ
   pub mnemonic : Mnemonic
-  pub target : ℕ
+  pub target : Option ℕ
   pub next : Place
 
--- The map, the address, the mnemonic's number, below 35, and with bit 0 the target, an address too (S6, S7, S22, S23, S24, R8).
+-- The map, the address, the mnemonic's number, below 35, and only with bit 0 the target, an address too (S6, S7, S22, S23, S24, R8).
 unfoldable pub head_at : Bool → ℕ → List ℕ → Place → Head
 head_at opens last s p =
     let map = map_at s p in
     let address = address_at opens last s map.next in
     let number = code_at 35 s address.next in
     let target = optional_field (bit_of map.value 1) s number.next in
-    record { map = map.value; address = address.value; mnemonic = named number.value; target = target.value; next = target.next }
+    record {
+      map = map.value;
+      address = address.value;
+      mnemonic = named number.value;
+      target = then_some (bit_of map.value 1) target.value;
+      next = target.next;
+    }
 
 -- an instruction's tail
 pub record Tail : Type 0 where
@@ -152,7 +159,6 @@ instruction_at opens last s p =
     let it : Instruction = record {
       address = head.address;
       mnemonic = head.mnemonic;
-      branch = bit_of head.map 1;
       target = head.target;
       call = bit_of head.map 2;
       first = tail.first;

@@ -3,7 +3,7 @@
 use Prim.Native.Nat.{ℕ, ◌<◌}
 use mathlib.Core.Path.{◌≡◌, sym, ap, ◌∙◌}
 use mathlib.Core.List.{List, ◌++◌}
-use mathlib.Core.Option.{Option, some}
+use Rattle.std.specs.Prelude.{Option, Some}
 use mathlib.Core.Logic.{◌⊎◌, inl, inr, ⊎_elim}
 use native.Mathlib.Omega.{arith}
 use lib.Dec.{ltb}
@@ -57,11 +57,11 @@ module _ (s : List ℕ) (sheet : Sheet) (read : reading_of s ≡ Ok sheet) where
 pub record Decider (s : List ℕ) (a : ℕ) (v : Verdict) : Type 0 where
   pub from : Source
   pub answer-is : answer_for s from ≡ verdict_numbers v
-  pub site : site_of s from ≡ some a
-  pub first : (other : Source) → Before other from → site_of s other ≡ some a → (value reason : ℕ) → answer_for s other ≡ decision value reason → ⊥
+  pub site : site_of s from ≡ Some a
+  pub first : (other : Source) → Before other from → site_of s other ≡ Some a → (value reason : ℕ) → answer_for s other ≡ decision value reason → ⊥
 
 abbrev pub Nobody : List ℕ → ℕ → Type 0
-Nobody s a = (other : Source) → site_of s other ≡ some a → (value reason : ℕ) → answer_for s other ≡ decision value reason → ⊥
+Nobody s a = (other : Source) → site_of s other ≡ Some a → (value reason : ℕ) → answer_for s other ≡ decision value reason → ⊥
 
 abbrev pub Decided : List ℕ → ℕ → Verdict → Type 0
 Decided s a (Always r) = Decider s a (Always r)
@@ -84,13 +84,13 @@ module _ (s : List ℕ) (sheet : Sheet) (read : reading_of s ≡ Ok sheet) (give
       let g = given k below in
       node-answer s sheet read k below ∙ (ap answer_numbers g.is ∙ sym (ap (λ (x : Answer). verdict_numbers (verdict_in x)) g.is))
 
-  block-silent : (k value reason : ℕ) → (k < sheet.blocks.count → Silent (block_site s) (verdict_on s) a k) → block_site s k ≡ some a
+  block-silent : (k value reason : ℕ) → (k < sheet.blocks.count → Silent (block_site s) (verdict_on s) a k) → block_site s k ≡ Some a
       → block_answer s k ≡ decision value reason → ⊥
   block-silent k value reason silent site e =
       let below = block-there s sheet read k value reason e in
       undeciding-none (verdict_on s k) (silent below site) (sym (block-answer s sheet read k below) ∙ e)
 
-  node-silent : (k value reason : ℕ) → (k < sheet.nodes.count → Silent (node_site s) verdict_at a k) → node_site s k ≡ some a
+  node-silent : (k value reason : ℕ) → (k < sheet.nodes.count → Silent (node_site s) verdict_at a k) → node_site s k ≡ Some a
       → node_answer s k ≡ decision value reason → ⊥
   node-silent k value reason silent site e =
       let below = node-there s sheet read k value reason e in
@@ -104,7 +104,7 @@ module _ (s : List ℕ) (sheet : Sheet) (read : reading_of s ≡ Ok sheet) (give
     first = before;
   }
     where
-      before : (other : Source) → Before other (block f.number) → site_of s other ≡ some a → (value reason : ℕ)
+      before : (other : Source) → Before other (block f.number) → site_of s other ≡ Some a → (value reason : ℕ)
           → answer_for s other ≡ decision value reason → ⊥
       before (block j) earlier site value reason e = block-silent j value reason (λ below. f.none_before j earlier) site e
       before (node j) earlier site value reason e = earlier
@@ -117,7 +117,7 @@ module _ (s : List ℕ) (sheet : Sheet) (read : reading_of s ≡ Ok sheet) (give
     first = before;
   }
     where
-      before : (other : Source) → Before other (node f.number) → site_of s other ≡ some a → (value reason : ℕ)
+      before : (other : Source) → Before other (node f.number) → site_of s other ≡ Some a → (value reason : ℕ)
           → answer_for s other ≡ decision value reason → ⊥
       before (block j) earlier site value reason e = block-silent j value reason (silent j) site e
       before (node j) earlier site value reason e = node-silent j value reason (λ below. f.none_before j earlier) site e
@@ -165,10 +165,10 @@ order (node j) (node k) = ⊎_elim (λ h. inl h) (λ h. ⊎_elim (λ h. inr (inl
 
 -- Two that decide a branch, neither of them after another, give one answer.
 pub one-decider : (s : List ℕ) (a : ℕ) (x y : Source) (p q value reason : ℕ)
-    → site_of s x ≡ some a → answer_for s x ≡ decision p q
-    → ((other : Source) → Before other x → site_of s other ≡ some a → (value reason : ℕ) → answer_for s other ≡ decision value reason → ⊥)
-    → site_of s y ≡ some a → answer_for s y ≡ decision value reason
-    → ((other : Source) → Before other y → site_of s other ≡ some a → (value reason : ℕ) → answer_for s other ≡ decision value reason → ⊥)
+    → site_of s x ≡ Some a → answer_for s x ≡ decision p q
+    → ((other : Source) → Before other x → site_of s other ≡ Some a → (value reason : ℕ) → answer_for s other ≡ decision value reason → ⊥)
+    → site_of s y ≡ Some a → answer_for s y ≡ decision value reason
+    → ((other : Source) → Before other y → site_of s other ≡ Some a → (value reason : ℕ) → answer_for s other ≡ decision value reason → ⊥)
     → decision p q ≡ decision value reason
 one-decider s a x y p q value reason there is first there' is' first' =
     ⊎_elim (λ h. absurd (first' x h there p q is))

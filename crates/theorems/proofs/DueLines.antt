@@ -3,13 +3,13 @@ use Prim.Native.Nat.{ℕ, zero, suc, ◌^◌, ◌<◌, ◌≤◌}
 use mathlib.Core.Path.{◌≡◌, refl, sym, ap, subst, ◌∙◌}
 use mathlib.Core.Bool.{Bool, true, false, cond}
 use mathlib.Core.List.{List, [], ◌∷◌, ◌++◌, map}
-use mathlib.Core.Option.{Option, none, some}
+use mathlib.Core.Option as field
 use mathlib.Core.Logic.{◌⊎◌, inl, inr, ⊎_elim}
 use native.Mathlib.Omega.{arith}
 use lib.Dec.{eqb}
 use lib.ListN.{length, get_or, length-append}
 use borrow.Author.Tests.{eqb-true, eqb-false, eq-eqb, ne_eqb}
-use Rattle.std.specs.Prelude.{Ok}
+use Rattle.std.specs.Prelude.{Option, Ok, Some, is_some, unwrap_or}
 use Rattle.sheet_field.specs.Field.{Place}
 use Rattle.laws.proofs.Booleans.{by_test}
 use Rattle.isa.specs.declared.Instruction.{Instruction}
@@ -18,7 +18,7 @@ use Rattle.sheet.specs.Sheet.{nodes_from, sheet_at, reading_of}
 use Rattle.sheet.proofs.Accepted.{accepted}
 use Rattle.sheet_bytes.specs.Write.{All, Bytes, WhereThere}
 use Rattle.format.specs.Syntax as syntax
-use Rattle.format.specs.Syntax.{means_instruction, value_of}
+use Rattle.format.specs.Syntax.{means_instruction, means_target}
 use Rattle.format.specs.Valid.{ValidInstruction, Rising}
 use Rattle.format.proofs.Sheets.{read-was-written}
 use Rattle.verdict.specs.declared.Reason.{Reason}
@@ -38,7 +38,7 @@ use Rattle.theorems.specs.Branches.{In, InOrder, Branch}
 use Rattle.theorems.specs.Lines.{About, Due}
 use Rattle.theorems.proofs.Apart.{some_same, not_some}
 use Rattle.theorems.proofs.First.{nodes_say, Given}
-use Rattle.theorems.proofs.Found.{sheet-rising, ends-apart, apart-ends, jump-is, is-jump}
+use Rattle.theorems.proofs.Found.{some-target, sheet-rising, ends-apart, apart-ends, jump-is, is-jump}
 use Rattle.theorems.proofs.Deciding.{site_of, block-there, node-there, Decider, Decided, decided, one-decider}
 
 -- ---- the instructions of an accepted sheet
@@ -46,14 +46,14 @@ use Rattle.theorems.proofs.Deciding.{site_of, block-there, node-there, Decider, 
 -- from an address on they rise, and addresses and targets have 8 bytes
 unfoldable pub Ordered : ℕ → List Instruction → Type 0
 Ordered low [] = Unit {0}
-Ordered low (i ∷ code) = (low ≤ i.address) × (i.address < 256 ^ 8) × (i.target < 256 ^ 8) × Ordered (suc i.address) code
+Ordered low (i ∷ code) = (low ≤ i.address) × (i.address < 256 ^ 8) × (unwrap_or i.target 0 < 256 ^ 8) × Ordered (suc i.address) code
 
-target_small : (i : syntax.Instruction) → ValidInstruction i → value_of i.target < 256 ^ 8
+target_small : (i : syntax.Instruction) → ValidInstruction i → unwrap_or (means_target i.target) 0 < 256 ^ 8
 target_small i ok = go i.target ok.formed.target
   where
-    go : (t : Option ℕ) → WhereThere (λ t. t < 256 ^ 8) t → value_of t < 256 ^ 8
-    go none h = omega arith
-    go (some t) h = h
+    go : (t : field.Option ℕ) → WhereThere (λ t. t < 256 ^ 8) t → unwrap_or (means_target t) 0 < 256 ^ 8
+    go field.none h = omega arith
+    go (field.some t) h = h
 
 ordered-from : (low : ℕ) (i : syntax.Instruction) (l : List syntax.Instruction) → low ≤ i.address → All ValidInstruction (i ∷ l) → Rising (i ∷ l)
     → Ordered low (map means_instruction (i ∷ l))
@@ -80,7 +80,7 @@ Among a (i ∷ code) = (i.address ≡ a) ⊎ Among a code
 -- the target of the instruction at an address
 unfoldable pub target_at : List Instruction → ℕ → ℕ
 target_at [] site = 0
-target_at (i ∷ code) site = cond (eqb i.address site) i.target (target_at code site)
+target_at (i ∷ code) site = cond (eqb i.address site) (unwrap_or i.target 0) (target_at code site)
 
 -- ---- the lines
 
@@ -118,7 +118,7 @@ module _ (said : List Said) where
   -- its own line
   own : (low : ℕ) (i : Instruction) (code : List Instruction) (value : ℕ) (r : Reason) → value < 256 → Ordered low (i ∷ code)
       → verdict_numbers (verdict_of i) ≡ decision value (reason_number r)
-      → OfBranch low (i ∷ code) said (record { site = i.address; target = i.target; value = value; reason = reason_number r })
+      → OfBranch low (i ∷ code) said (record { site = i.address; target = unwrap_or i.target 0; value = value; reason = reason_number r })
   unfolding target_at Ordered
   own low i code value r small o is = record {
     above = o.0;
@@ -181,7 +181,7 @@ module _ (said : List Said) where
 
   own_line : (i : Instruction) (v : Verdict) (lines : List Line) (value reason : ℕ) → verdict_numbers v ≡ decision value reason
       → (0 < length (line_of i v ++ lines))
-      × (get_or (line_of i v ++ lines) 0 no_line ≡ record { site = i.address; target = i.target; value = value; reason = reason })
+      × (get_or (line_of i v ++ lines) 0 no_line ≡ record { site = i.address; target = unwrap_or i.target 0; value = value; reason = reason })
   own_line i (Always r) lines value reason e =
       let p : 1 ≡ value = cc in let q : reason_number r ≡ reason = cc in (omega arith, rw (p, q))
   own_line i (Never r) lines value reason e =
@@ -197,7 +197,7 @@ module _ (said : List Said) where
   every (i ∷ code) a value reason there is = go (eqb i.address a) refl (λ rest. every code a value reason rest is)
     where
       go : (t : Bool) → eqb i.address a ≡ t → (Among a code → At code (record { site = a; target = target_at code a; value = value; reason = reason }))
-          → At (i ∷ code) (record { site = a; target = cond t i.target (target_at code a); value = value; reason = reason })
+          → At (i ∷ code) (record { site = a; target = cond t (unwrap_or i.target 0) (target_at code a); value = value; reason = reason })
       go true t rest =
           let same = eqb-true i.address a t in
           let l = own_line i (verdict_of i) (lines_of code said) value reason (rw same is) in
@@ -215,7 +215,7 @@ listed-among [] i h = h
 listed-among (j ∷ l) i h = ⊎_elim (λ e. inl (ap (λ (x : Instruction). x.address) (sym e))) (λ later. inr (listed-among l i later)) h
 
 -- the target of an instruction that stands in a rising list
-listed-target : (l : List Instruction) → InOrder l → (i : Instruction) → In i l → target_at l i.address ≡ i.target
+listed-target : (l : List Instruction) → InOrder l → (i : Instruction) → In i l → target_at l i.address ≡ unwrap_or i.target 0
 unfolding target_at In InOrder
 listed-target [] up i h = absurd h
 listed-target (j ∷ l) up i h =
@@ -238,25 +238,26 @@ module _ (s : List ℕ) (sheet : Sheet) (read : reading_of s ≡ Ok sheet) where
   about-branch : (from : Source) (a : ℕ) → About s from a → (to : ℕ) × Branch s a to
   about-branch (block k) a h =
       let listed = ((h.2.code.holds h.1).0 (last-in h.0 h.1)).0 in
-      (h.1.target, record { instruction = h.1; listed = listed; branch = h.2.branch; at = h.3; to = refl })
+      let to = some-target h.1.target h.2.branch in
+      (to.0, record { instruction = h.1; listed = listed; at = h.3; to = to.1 })
   about-branch (node k) a h = (h.target, h.branch)
 
   branch-target : (a to : ℕ) → Branch s a to → target_at (sheet_at s).instructions.list a ≡ to
   branch-target a to b =
-      rw (← b.at) (listed-target (sheet_at s).instructions.list (sheet-rising s sheet read) b.instruction b.listed ∙ b.to)
+      rw (← b.at) (listed-target (sheet_at s).instructions.list (sheet-rising s sheet read) b.instruction b.listed ∙ ap (λ (o : Option ℕ). unwrap_or o 0) b.to)
 
   -- what the code finds is what a block or a node is about, and that alone
-  about-found : (from : Source) (a : ℕ) → About s from a → site_of s from ≡ some a
+  about-found : (from : Source) (a : ℕ) → About s from a → site_of s from ≡ Some a
   about-found (block k) a h = rw (ends-apart s sheet read k h.0 h.1 h.2, h.2.branch, h.3)
   about-found (node k) a h = jump-is s sheet read k a h
 
-  found-about : (from : Source) (a value reason : ℕ) → answer_for s from ≡ decision value reason → site_of s from ≡ some a → About s from a
+  found-about : (from : Source) (a value reason : ℕ) → answer_for s from ≡ decision value reason → site_of s from ≡ Some a → About s from a
   found-about (block k) a value reason e site = go (apart (code_of s k)) refl site
     where
-      go : (parts : Parts) → apart (code_of s k) ≡ parts → last_site parts ≡ some a → About s (block k) a
+      go : (parts : Parts) → apart (code_of s k) ≡ parts → last_site parts ≡ Some a → About s (block k) a
       go no_instruction q site = not_some site
       go (ending before last) q site =
-          by_test last.branch
+          by_test (is_some last.target)
           (λ t. (before, last, apart-ends s sheet read k before last (block-there s sheet read k value reason e) q t, some_same (rw t at site)))
           (λ t. not_some (rw t at site))
   found-about (node k) a value reason e site =
@@ -299,7 +300,7 @@ module _ (s : List ℕ) (sheet : Sheet) (read : reading_of s ≡ Ok sheet) (give
       (every said code l.site l.value l.reason (rw (← d.target.at) (listed-among code d.target.instruction d.target.listed))
       (go (first_decided l.site said) (decided s sheet read given l.site said is)))
     where
-      its-site : site_of s d.from ≡ some l.site
+      its-site : site_of s d.from ≡ Some l.site
       its-site = about-found s sheet read d.from l.site d.site
 
       by : (p : ℕ) (r : Reason) (v : Verdict) → verdict_numbers v ≡ decision p (reason_number r) → Decider s l.site v

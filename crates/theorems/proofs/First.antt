@@ -3,7 +3,7 @@ use Prim.Native.Nat.{ℕ, zero, suc, ◌<◌}
 use mathlib.Core.Path.{◌≡◌, refl, sym, ap, ◌∙◌}
 use mathlib.Core.Bool.{Bool, true, false, cond}
 use mathlib.Core.List.{List, [], ◌∷◌, ◌++◌, append_assoc, append-nil}
-use mathlib.Core.Option.{Option, none, some}
+use Rattle.std.specs.Prelude.{Option, None, Some}
 use native.Mathlib.Omega.{arith}
 use lib.Dec.{eqb}
 use borrow.Author.Tests.{eqb-true, eqb-false}
@@ -58,12 +58,12 @@ module _ (site : ℕ → Option ℕ) (verdict : ℕ → Verdict) where
   say_up_to (suc k) = say_up_to k ++ saying (site k) (verdict k)
 
   abbrev pub Silent : ℕ → ℕ → Type 0
-  Silent a j = site j ≡ some a → Undeciding (verdict j)
+  Silent a j = site j ≡ Some a → Undeciding (verdict j)
 
   pub record First (a : ℕ) (v : Verdict) (n : ℕ) : Type 0 where
     pub number : ℕ
     pub below : number < n
-    pub there : site number ≡ some a
+    pub there : site number ≡ Some a
     pub is : verdict number ≡ v
     pub none_before : (j : ℕ) → j < number → Silent a j
 
@@ -84,11 +84,11 @@ module _ (site : ℕ → Option ℕ) (verdict : ℕ → Verdict) where
   at_last : (a n : ℕ) → ((j : ℕ) → j < n → Silent a j) → (o : Option ℕ) → site n ≡ o → (v : Verdict) → verdict n ≡ v
       → Found a (suc n) (first_decided a (saying o v))
   unfolding first_decided
-  at_last a n before none there v is = silent-more a n before (λ e. not_some (sym there ∙ e))
-  at_last a n before (some b) there v is = go (eqb b a) refl v is
+  at_last a n before None there v is = silent-more a n before (λ e. not_some (sym there ∙ e))
+  at_last a n before (Some b) there v is = go (eqb b a) refl v is
     where
       one : b ≡ a → (v : Verdict) → verdict n ≡ v → First a v (suc n)
-      one same v is = record { number = n; below = omega arith; there = there ∙ ap some same; is = is; none_before = before }
+      one same v is = record { number = n; below = omega arith; there = there ∙ ap Some same; is = is; none_before = before }
 
       go : (t : Bool) → eqb b a ≡ t → (v : Verdict) → verdict n ≡ v → Found a (suc n) (cond t (or_later v Undecided) Undecided)
       go true t (Always r) is = one (eqb-true b a t) (Always r) is

@@ -3,14 +3,14 @@ use Prim.Native.Nat.{ℕ, zero, suc, ◌≤◌, ◌<◌}
 use mathlib.Core.Path.{◌≡◌, refl, sym, ap, ◌∙◌}
 use mathlib.Core.Bool.{Bool, true, false, cond, ◌&&◌}
 use mathlib.Core.List.{List, [], ◌∷◌, ◌++◌}
-use mathlib.Core.Option.{Option, none, some}
+use mathlib.Core.Option.{none, some}
 use mathlib.Core.Logic.{◌⊎◌, inl, inr, ⊎_elim, ◌↔◌}
 use native.Mathlib.Omega.{arith}
 use native.Mathlib.Numerals.{unary_clauses}
 use lib.Dec.{eqb, leb, ltb}
 use lib.ListN.{length, get_or}
 use borrow.Author.Tests.{eqb-true, eqb-false, leb-true, leb-false, ltb-true, ltb-false}
-use Rattle.std.specs.Prelude.{Ok}
+use Rattle.std.specs.Prelude.{Ok, Option, Some, None, is_some}
 use Rattle.laws.proofs.Booleans.{by_test}
 use Rattle.search.specs.Ascending.{Ascending}
 use Rattle.isa.specs.declared.Instruction.{Instruction}
@@ -153,7 +153,11 @@ joined-apart (i ∷ l) before last e = go (apart l) refl e (λ b k is. joined-ap
 
 -- ---- the instruction at an address
 
-branch-found : (l : List Instruction) (a : ℕ) → branch_at l a ≡ true → (i : Instruction) × In i l × (i.branch ≡ true) × (i.address ≡ a)
+pub some-target : (o : Option ℕ) → is_some o ≡ true → (t : ℕ) × (o ≡ Some t)
+some-target (Some t) e = (t, refl)
+some-target None e = cc
+
+branch-found : (l : List Instruction) (a : ℕ) → branch_at l a ≡ true → (i : Instruction) × In i l × (is_some i.target ≡ true) × (i.address ≡ a)
 unfolding branch_at In
 branch-found [] a e = cc
 branch-found (i ∷ l) a e =
@@ -161,7 +165,7 @@ branch-found (i ∷ l) a e =
     (λ t. (i, inl refl, rw t at e, eqb-true i.address a t))
     (λ t. let r = branch-found l a (rw t at e) in (r.0, inr r.1, r.2, r.3))
 
-found-branch : (l : List Instruction) → InOrder l → (i : Instruction) → In i l → i.branch ≡ true → branch_at l i.address ≡ true
+found-branch : (l : List Instruction) → InOrder l → (i : Instruction) → In i l → is_some i.target ≡ true → branch_at l i.address ≡ true
 unfolding branch_at In InOrder
 found-branch [] up i h branch = absurd h
 found-branch (j ∷ l) up i h branch =
@@ -172,23 +176,23 @@ found-branch (j ∷ l) up i h branch =
 
 -- ---- the last address of a branch
 
-no-branch : (code : List Instruction) (l : List ℕ) → last_branch code l ≡ none → (b : ℕ) → In b l → branch_at code b ≡ true → ⊥
+no-branch : (code : List Instruction) (l : List ℕ) → last_branch code l ≡ None → (b : ℕ) → In b l → branch_at code b ≡ true → ⊥
 unfolding last_branch In
 no-branch code [] e b h is = h
 no-branch code (a ∷ l) e b h is = go (last_branch code l) refl e (λ rest later. no-branch code l rest b later is)
   where
-    some-none : {x : ℕ} → some x ≡ none → ⊥
+    some-none : {x : ℕ} → Some x ≡ None → ⊥
     some-none e = cc
 
-    go : (o : Option ℕ) → last_branch code l ≡ o → unless_later (cond (branch_at code a) (some a) none) o ≡ none
-        → (last_branch code l ≡ none → In b l → ⊥) → ⊥
-    go none rest e none-later = ⊎_elim (λ same. here same) (λ later. none-later rest later) h
+    go : (o : Option ℕ) → last_branch code l ≡ o → unless_later (cond (branch_at code a) (Some a) None) o ≡ None
+        → (last_branch code l ≡ None → In b l → ⊥) → ⊥
+    go None rest e none-later = ⊎_elim (λ same. here same) (λ later. none-later rest later) h
       where
         here : b ≡ a → ⊥
         here same = let at : branch_at code a ≡ true = rw same at is in some-none (rw at at e)
-    go (some c) rest e none-later = some-none e
+    go (Some c) rest e none-later = some-none e
 
-none-branch : (code : List Instruction) (l : List ℕ) → ((b : ℕ) → In b l → branch_at code b ≡ true → ⊥) → last_branch code l ≡ none
+none-branch : (code : List Instruction) (l : List ℕ) → ((b : ℕ) → In b l → branch_at code b ≡ true → ⊥) → last_branch code l ≡ None
 unfolding last_branch In
 none-branch code [] silent = refl
 none-branch code (a ∷ l) silent =
@@ -203,26 +207,26 @@ record Last (code : List Instruction) (l : List ℕ) (a : ℕ) : Type 0 where
   branch : branch_at code a ≡ true
   silent : (b : ℕ) → In b later → branch_at code b ≡ true → ⊥
 
-last_found : (code : List Instruction) (l : List ℕ) (a : ℕ) → last_branch code l ≡ some a → Last code l a
+last_found : (code : List Instruction) (l : List ℕ) (a : ℕ) → last_branch code l ≡ Some a → Last code l a
 unfolding last_branch
 last_found code [] a e = not_some e
 last_found code (b ∷ l) a e = go (last_branch code l) refl e (λ is. last_found code l a is)
   where
-    its : last_branch code l ≡ none → (t : Bool) → branch_at code b ≡ t → cond t (some b) none ≡ some a → Last code (b ∷ l) a
+    its : last_branch code l ≡ None → (t : Bool) → branch_at code b ≡ t → cond t (Some b) None ≡ Some a → Last code (b ∷ l) a
     its rest true t e =
         let same = some_same e in
         record { earlier = []; later = l; is = rw same; branch = rw (← same) t; silent = no-branch code l rest }
     its rest false t e = not_some e
 
-    go : (o : Option ℕ) → last_branch code l ≡ o → unless_later (cond (branch_at code b) (some b) none) o ≡ some a
-        → (last_branch code l ≡ some a → Last code l a) → Last code (b ∷ l) a
-    go none rest e further = its rest (branch_at code b) refl e
-    go (some c) rest e further =
+    go : (o : Option ℕ) → last_branch code l ≡ o → unless_later (cond (branch_at code b) (Some b) None) o ≡ Some a
+        → (last_branch code l ≡ Some a → Last code l a) → Last code (b ∷ l) a
+    go None rest e further = its rest (branch_at code b) refl e
+    go (Some c) rest e further =
         let r = further (rest ∙ e) in
         record { earlier = b ∷ r.earlier; later = r.later; is = ap (λ (m : List ℕ). b ∷ m) r.is; branch = r.branch; silent = r.silent }
 
 found-last : (code : List Instruction) (earlier later : List ℕ) (a : ℕ) → branch_at code a ≡ true
-    → ((b : ℕ) → In b later → branch_at code b ≡ true → ⊥) → last_branch code (earlier ++ (a ∷ later)) ≡ some a
+    → ((b : ℕ) → In b later → branch_at code b ≡ true → ⊥) → last_branch code (earlier ++ (a ∷ later)) ≡ Some a
 unfolding last_branch
 found-last code [] later a branch silent = rw (none-branch code later silent, branch)
 found-last code (b ∷ earlier) later a branch silent = rw (found-last code earlier later a branch silent)
@@ -268,7 +272,7 @@ module _ (s : List ℕ) (sheet : Sheet) (read : reading_of s ≡ Ok sheet) where
   ends-apart number before last h = rw (← in-block-code number (before ++ (last ∷ [])) h.code) (apart-joined before last)
 
   pub apart-ends : (number : ℕ) (before : List Instruction) (last : Instruction) → number < sheet.blocks.count
-      → apart (code_of s number) ≡ ending before last → last.branch ≡ true → EndsIn s number before last
+      → apart (code_of s number) ≡ ending before last → is_some last.target ≡ true → EndsIn s number before last
   apart-ends number before last below e branch =
       let same = joined-apart (code_of s number) before last e in
       record { code = rw same at (code-in-block number below); branch = branch }
@@ -277,18 +281,19 @@ module _ (s : List ℕ) (sheet : Sheet) (read : reading_of s ≡ Ok sheet) where
   pub branch-at : (a : ℕ) → branch_at code a ≡ true → (to : ℕ) × Branch s a to
   branch-at a e =
       let r = branch-found code a e in
-      (r.0.target, record { instruction = r.0; listed = r.1; branch = r.2; at = r.3; to = refl })
+      let to = some-target r.0.target r.2 in
+      (to.0, record { instruction = r.0; listed = r.1; at = r.3; to = to.1 })
 
   pub at-branch : (a to : ℕ) → Branch s a to → branch_at code a ≡ true
-  at-branch a to b = rw (← b.at) (found-branch code sheet-rising b.instruction b.listed b.branch)
+  at-branch a to b = rw (← b.at) (found-branch code sheet-rising b.instruction b.listed (ap is_some b.to))
 
   -- the jump of a node
-  pub jump-is : (number a : ℕ) → JumpAt s number a → last_branch code (node_numbered s number).addresses ≡ some a
+  pub jump-is : (number a : ℕ) → JumpAt s number a → last_branch code (node_numbered s number).addresses ≡ Some a
   jump-is number a h =
       rw (entry-is (sheet_at s).nodes.list number no_node h.node h.is, h.lists)
       (found-last code h.earlier h.later a (at-branch a h.target h.branch) (λ b there e. let r = branch-at b e in h.last b there r.0 r.1))
 
-  pub is-jump : (number a : ℕ) → number < length (sheet_at s).nodes.list → last_branch code (node_numbered s number).addresses ≡ some a → JumpAt s number a
+  pub is-jump : (number a : ℕ) → number < length (sheet_at s).nodes.list → last_branch code (node_numbered s number).addresses ≡ Some a → JumpAt s number a
   is-jump number a below e =
       let r = last_found code (node_numbered s number).addresses a e in
       let b = branch-at a r.branch in

@@ -8,7 +8,7 @@ use mathlib.Core.Logic.{◌↔◌}
 use mathlib.Core.Bool.{Bool, true, false, cond}
 use borrow.Author.Tests.{ltb-true, lt-ltb}
 use lib.Dec.{ltb}
-use Rattle.std.specs.Prelude.{Ok, Err}
+use Rattle.std.specs.Prelude.{Ok, Err, is_some}
 use Rattle.isa.specs.declared.Instruction.{Instruction}
 use Rattle.machine.specs.Registers.{nothing_known}
 use Rattle.machine.specs.Rules.{stepped_all}
@@ -102,7 +102,7 @@ answer-forces s number b e =
     go : Decision s number (cond b 1 0) 1 → (parts : Parts) → apart (code_of s number) ≡ parts → verdict_on s number ≡ saying b → ForcedEnd s number b
     go d none q is = not-saying b (rw q at is)
     go d (ending before last) q is =
-        by_test last.branch
+        by_test (is_some last.target)
         (λ t.
         let ends = apart-ends s d.sheet d.read number before last d.below q t in
         let on = ends_on s d.sheet d.read number before last ends in

@@ -10,7 +10,8 @@ use lib.Dec.{leb, ltb}
 use lib.ListN.{length, drop, get_or, length-append, length-drop}
 use lib.Seq.{take-append_seam, get_or-append-add, get_or-drop}
 use Rattle.std.proofs.Common.{Option, Some, None}
-use Rattle.std.specs.Prelude.{Ok, Err}
+use Rattle.std.specs.Bool.{then_some}
+use Rattle.std.specs.Prelude.{Ok, Err, is_some}
 use Rattle.refusal.specs.declared.Fault.TheVariants.{Number, Text}
 use Rattle.refusal.specs.Numbers.{number_of, refused as refusal}
 use Rattle.refusal.specs.declared.Refusal.{Refusal}
@@ -63,7 +64,7 @@ unknown-open None = (λ e. inl refl, λ o. refl)
 
 empty-at : (parts : Parts) → (sentence_at nothing_known no_why parts ≡ []) ↔ Open (verdict_at (end_at nothing_known parts))
 empty-at none = (λ e. inr refl, λ o. refl)
-empty-at (ending before last) = go last.branch
+empty-at (ending before last) = go (is_some last.target)
   where
     known : State
     known = stepped_all nothing_known before
@@ -76,8 +77,8 @@ empty-at (ending before last) = go last.branch
     unknown = unknown-open (condition_of known last.mnemonic)
 
     go : (b : Bool)
-        → (jump_sentence known (why_stepped_all nothing_known no_why before) (cond b (Some last.mnemonic) None) ≡ [])
-        ↔ Open (judged known (cond b (Some last.mnemonic) None))
+        → (jump_sentence known (why_stepped_all nothing_known no_why before) (then_some b last.mnemonic) ≡ [])
+        ↔ Open (judged known (then_some b last.mnemonic))
     go true = (λ e. unknown.0 (empty.0 e), λ o. empty.1 (unknown.1 o))
     go false = (λ e. inr refl, λ o. refl)
 

@@ -7,7 +7,7 @@ use mathlib.Core.List.{List, [], ◌∷◌, ◌++◌}
 use mathlib.Core.Bool.{Bool, true, false, cond, ◌&&◌}
 use lib.Dec.{eqb, leb, ltb}
 use lib.ListN.{get_or}
-use Rattle.std.specs.Prelude.{Ok}
+use Rattle.std.specs.Prelude.{Ok, is_some}
 use Rattle.sheet_field.specs.Field.{Place}
 use Rattle.isa.specs.declared.Operand.{Operand}
 use Rattle.isa.specs.declared.Operand.TheVariants.{Absent, Reg, Imm, Mem}
@@ -39,7 +39,7 @@ pub data Outcome : Type 0 where
 abbrev pub run_at : Processor → (ℕ → Choice) → Bool → Parts → Outcome
 run_at start free last none = nothing
 run_at start free last (ending before i) =
-    cond i.branch (jumped (outcome i.mnemonic (executed_all start before free) last)) nothing
+    cond (is_some i.target) (jumped (outcome i.mnemonic (executed_all start before free) last)) nothing
 
 -- the run of the block of that number, by the instructions that the code finds
 unfoldable pub run_on : List ℕ → ℕ → Processor → (ℕ → Choice) → Bool → Outcome
@@ -117,10 +117,10 @@ branch-right s p m last agrees (Some false) e = ap jumped ((forced s p agrees m 
 branch-right s p m last agrees None e = tt
 
 last-right : (s : State) (p : Processor) (i : Instruction) (last : Bool) → Agrees s p
-    → NotAgainst (judged s (jump_of i)) (cond i.branch (jumped (outcome i.mnemonic p last)) nothing)
-last-right s p i last agrees = go i.branch refl
+    → NotAgainst (judged s (jump_of i)) (cond (is_some i.target) (jumped (outcome i.mnemonic p last)) nothing)
+last-right s p i last agrees = go (is_some i.target) refl
   where
-    go : (b : Bool) → i.branch ≡ b → NotAgainst (judged s (jump_of i)) (cond b (jumped (outcome i.mnemonic p last)) nothing)
+    go : (b : Bool) → is_some i.target ≡ b → NotAgainst (judged s (jump_of i)) (cond b (jumped (outcome i.mnemonic p last)) nothing)
     go true e = rw e (branch-right s p i.mnemonic last agrees (condition_of s i.mnemonic) refl)
     go false e = rw e tt
 

@@ -1,5 +1,5 @@
 -- Which instructions a block holds, and which branch a block or a node is about: by what is so, not by how it is found.
-use Rattle.std.specs.Prelude.{ℕ, ◌≤◌, ◌<◌, ◌≡◌, true, List, [], ◌∷◌, ◌++◌, ◌⊎◌, ◌↔◌}
+use Rattle.std.specs.Prelude.{ℕ, ◌≤◌, ◌<◌, ◌≡◌, true, List, [], ◌∷◌, ◌++◌, ◌⊎◌, ◌↔◌, Some, is_some}
 use Rattle.std.proofs.Math.Option.{some}
 use Rattle.isa.specs.declared.Instruction.{Instruction}
 use Rattle.sheet.specs.declared.Block.{Block}
@@ -31,15 +31,14 @@ pub record InBlock (s : List ℕ) (number : ℕ) (code : List Instruction) : Typ
 -- A block that ends in a conditional branch: the instructions before it, and the branch (M22).
 pub record EndsIn (s : List ℕ) (number : ℕ) (before : List Instruction) (last : Instruction) : Type 0 where
   pub code : InBlock s number (before ++ (last ∷ []))
-  pub branch : last.branch ≡ true
+  pub branch : is_some last.target ≡ true
 
 -- A conditional branch of the sheet, at an address and with a target.
 pub record Branch (s : List ℕ) (site target : ℕ) : Type 0 where
   pub instruction : Instruction
   pub listed : Listed s instruction
-  pub branch : instruction.branch ≡ true
   pub at : instruction.address ≡ site
-  pub to : instruction.target ≡ target
+  pub to : instruction.target ≡ Some target
 
 -- The jump of the node of a number, by its address: the node lists it, a conditional branch stands there, and at no address that the node lists
 -- after it (S33).

@@ -1,5 +1,5 @@
 -- The marked rows of the scope document's table: what the definitions answer, as one table.
-use Rattle.std.specs.Prelude.{ℕ, ◌≡◌, refl, List, [], ◌∷◌, true, false}
+use Rattle.std.specs.Prelude.{ℕ, ◌≡◌, refl, List, [], ◌∷◌, true, false, Some, None}
 use Rattle.expr.specs.Codes.{unsigned32, op_add, op_mul, op_mod, op_and, op_shl, op_equal}
 use Rattle.expr.specs.Tree.{Expr}
 use Rattle.expr.specs.Tree.Expr.{variable, constant, effect, binary}
@@ -30,8 +30,7 @@ abbrev instruction : Mnemonic → Operand → Operand → ℕ → Instruction
 instruction mnemonic first second flags = record {
   address = 0;
   mnemonic = mnemonic;
-  branch = false;
-  target = 0;
+  target = None;
   call = false;
   first = first;
   second = second;
@@ -44,8 +43,7 @@ abbrev jump : Condition → Instruction
 jump condition = record {
   address = 0;
   mnemonic = Jump condition;
-  branch = true;
-  target = 0;
+  target = Some 0;
   call = false;
   first = Absent;
   second = Absent;

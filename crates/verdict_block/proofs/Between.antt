@@ -1,8 +1,10 @@
 -- Laws of stepping over a range of instructions.
-use Rattle.std.proofs.Common.{Option, Some, None}
+use Rattle.std.proofs.Common.{Option, None}
+use Rattle.std.specs.Prelude.{is_some}
+use Rattle.std.specs.Bool.{then_some}
 use Prim.Native.Nat.{ℕ, ◌+◌, ◌≤◌, ◌<◌}
 use mathlib.Core.Path.{◌≡◌, refl, ap, sym, ◌∙◌}
-use mathlib.Core.Bool.{Bool, true, false}
+use mathlib.Core.Bool.{Bool, false}
 use mathlib.Core.List.{List, [], ◌∷◌, ◌++◌}
 use native.Mathlib.Omega.{arith}
 use native.Mathlib.Numerals.{add-one}
@@ -71,13 +73,9 @@ module _ (l : List Instruction) where
 
   -- what a verdict asks for of it
   module _ (number : ℕ) (there : number < length l) {mark : Bool} (mark-is : mark ≡ get_or (branches_of l) number false) where
-    marked : (d : Instruction) → (get_or l number d).branch ≡ mark
+    marked : (d : Instruction) → is_some (get_or l number d).target ≡ mark
     unfolding branches_of
-    marked d = sym (map_at (λ (i : Instruction). i.branch) l number d false there) ∙ sym mark-is
+    marked d = sym (map_at (λ (i : Instruction). is_some i.target) l number d false there) ∙ sym mark-is
 
-    pub jump-there : {m : Mnemonic} → mark ≡ true → ((d : Instruction) → m ≡ (get_or l number d).mnemonic) → (d : Instruction)
-        → Some m ≡ jump_of (get_or l number d)
-    jump-there taken m-is d = rw (marked d, taken, m-is d)
-
-    pub no_jump : mark ≡ false → (d : Instruction) → None ≡ jump_of (get_or l number d)
-    no_jump left d = rw (marked d, left)
+    pub jump-there : {m : Mnemonic} → ((d : Instruction) → m ≡ (get_or l number d).mnemonic) → (d : Instruction) → then_some mark m ≡ jump_of (get_or l number d)
+    jump-there mnemonic d = rw (marked d, ← mnemonic d)

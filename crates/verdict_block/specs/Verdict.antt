@@ -1,5 +1,6 @@
 -- A block's end and the verdict there, by the rules of the machine.
-use Rattle.std.specs.Prelude.{ℕ, List, [], ◌∷◌, cond, ◌&&◌, leb, ltb, get_or, Bool, true, false, Option, Some, None}
+use Rattle.std.specs.Prelude.{ℕ, List, [], ◌∷◌, cond, ◌&&◌, leb, ltb, get_or, Bool, true, false, Option, Some, None, is_some}
+use Rattle.std.specs.Bool.{then_some}
 use Rattle.isa.specs.declared.Mnemonic.{Mnemonic}
 use Rattle.isa.specs.declared.Instruction.{Instruction}
 use Rattle.machine.specs.declared.State.{State}
@@ -37,7 +38,7 @@ apart (i ∷ l) = preceded i (apart l)
 
 -- Only a conditional branch is judged (M22).
 abbrev pub jump_of : Instruction → Option Mnemonic
-jump_of i = cond i.branch (Some i.mnemonic) None
+jump_of i = then_some (is_some i.target) i.mnemonic
 
 -- A block's end: what is known at its last instruction, and that instruction.
 pub record End : Type 0 where

@@ -28,14 +28,10 @@ pub fn jump_at(code: &Code, number: usize) -> Option<Mnemonic>
     requires { number < length code.now.places.now }
     ensures { (d : Instruction) → result ≡ jump_of (get_or (sheet_at code.now.bytes.now).instructions.list number d) }
 {
-    if code.is_branch(number) {
-        Some(code.nth_mnemonic(number))
-    } else {
-        None
-    }
+    code.is_branch(number).then_some(code.nth_mnemonic(number))
 }
 
-// Step over the instructions of an accepted sheet from number `first` up to `end`.
+// Step over the instructions of an accepted sheet from number `first` up to `end`. Not a Range: its callers stop before the end of one.
 pub fn step_over(code: &Code, first: usize, end: usize, state: &mut State)
     requires { end ≤ length code.now.places.now }
     ensures { state.new ≡ stepped_all state.old (slice first end (sheet_at code.now.bytes.now).instructions.list) }

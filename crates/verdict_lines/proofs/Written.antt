@@ -6,11 +6,13 @@ use native.Mathlib.Omega.{arith}
 use native.Mathlib.Numerals.{add-one}
 use lib.ListN.{length, get_or, set, drop, length-append, length-map, drop_of_length-le}
 use lib.Seq.{drop-cons}
-use Rattle.std.specs.Prelude.{Ok}
+use Rattle.std.specs.Prelude.{Ok, Option, unwrap_or}
+use Rattle.isa.specs.declared.Instruction.{Instruction}
 use Rattle.sheet.specs.declared.Sheet.{Sheet}
 use Rattle.sheet.specs.Sheet.{sheet_at, reading_of}
 use Rattle.sheet.specs.Index.{targets_of}
 use Rattle.sheet.proofs.ByNumber.{instructions-count, places_count}
+use Rattle.sheet.proofs.Fronts.{one, map_at}
 use Rattle.sheet_bytes.specs.Write.{bytes, records}
 use Rattle.sheet_bytes.proofs.Spans.{bytes-length}
 use Rattle.verdict_lines.specs.Lines.{Line, line_bytes}
@@ -25,6 +27,16 @@ unfolding targets_of
 offset-there s sheet read slots i places-are each below =
     let many : length slots ≡ length (sheet_at s).instructions.list = sym each ∙ rw length-map in
     omega (arith, below, many, instructions-count s sheet read, ap length places-are, places_count s sheet read)
+
+-- the target of a slot's instruction
+pub target-there : (l : List Instruction) (i : ℕ) {target : Option ℕ} {to : ℕ} (slots : List ℕ) → length (targets_of l) ≡ length slots → i < length slots
+    → ((d : Instruction) → target ≡ (get_or l i d).target) → to ≡ unwrap_or target 0 → to ≡ get_or (targets_of l) i 0
+unfolding targets_of
+target-there l i slots each below is to_is =
+    let many : length slots ≡ length l = sym each ∙ rw length-map in
+    let there : i < length l = omega (arith, below, many) in
+    let d = one l i there in
+    rw (to_is, is d) (sym (map_at (λ (x : Instruction). unwrap_or x.target 0) l i d 0 there))
 
 -- no line
 pub slot-none : (at site target : ℕ) {slot : ℕ} (list : List ℕ) → slot ≡ 0 → list ≡ put_at at (records line_bytes (slot_line site target slot)) list

@@ -1,5 +1,5 @@
 -- Lines of the listing.
-use Rattle.std.specs.Prelude.{ℕ, List, [], ◌∷◌, ◌++◌}
+use Rattle.std.specs.Prelude.{ℕ, List, [], ◌∷◌, ◌++◌, unwrap_or}
 use Rattle.isa.specs.declared.Instruction.{Instruction}
 use Rattle.verdict.specs.declared.Verdict.{Verdict}
 use Rattle.verdict.specs.declared.Verdict.TheVariants.{Always, Never, Undecided, NoBranch}
@@ -15,8 +15,8 @@ pub record Line : Type 0 where
 
 -- A branch has a line where it is decided (L1, L2).
 abbrev pub line_of : Instruction → Verdict → List Line
-line_of i (Always r) = record { site = i.address; target = i.target; value = 1; reason = reason_number r } ∷ []
-line_of i (Never r) = record { site = i.address; target = i.target; value = 0; reason = reason_number r } ∷ []
+line_of i (Always r) = record { site = i.address; target = unwrap_or i.target 0; value = 1; reason = reason_number r } ∷ []
+line_of i (Never r) = record { site = i.address; target = unwrap_or i.target 0; value = 0; reason = reason_number r } ∷ []
 line_of i Undecided = []
 line_of i NoBranch = []
 

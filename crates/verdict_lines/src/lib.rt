@@ -12,7 +12,8 @@ ghost use Rattle.verdict_lines.specs.Slots.{slot_of, kept, decided_of, decided_i
 use sheet::code::Code;
 use verdict::Verdict;
 
-// What a slot holds of a verdict: 0 where it decides nothing, else twice the reason's number, and one more for always.
+// What a slot holds of a verdict: 0 where it decides nothing, else twice the reason's number, and one more for always. A byte, as an enum has a tag of
+// its own: `Option<(Reason, bool)>` takes three, and a Verdict would have two words for an empty slot.
 #[tactic(auto, using(crate::proofs::Decided::small))]
 fn slot_of(v: Verdict) -> u8
     ensures { result ≡ slot_of v }
@@ -73,7 +74,14 @@ pub fn write(code: &Code, slots: &[u8], list: &mut [u8])
     ensures { list.new ≡ over (records line_bytes (lines_in code.now.addresses.now (targets_of (sheet_at code.now.bytes.now).instructions.list) slots.now)) list.old }
 {
     let mut at = 0;
+    // By number, as a target is found by it.
     for i in 0..slots.len() {
-        at = put_line(list, at, code.addresses[i], code.nth_target(i), slots[i]);
+        at = put_line(
+            list,
+            at,
+            code.addresses[i],
+            code.nth_target(i).unwrap_or(0),
+            slots[i],
+        );
     }
 }

@@ -3,7 +3,6 @@ use Prim.Native.Nat.{ℕ, zero, suc, ◌+◌, ◌-◌, ◌*◌, ◌≤◌, ◌<�
 use mathlib.Core.Path.{◌≡◌, refl, sym, ap, ◌∙◌}
 use mathlib.Core.List.{List, [], ◌∷◌, ◌++◌}
 use mathlib.Core.Bool.{Bool, true, false, cond}
-use mathlib.Core.Option.{none, some}
 use native.Mathlib.Decide.{dec_lt}
 use native.Mathlib.Omega.{arith}
 use native.Mathlib.Numerals.{add-one}
@@ -14,7 +13,7 @@ use borrow.Author.Tests.{lt-ltb, le-ltb}
 use Rattle.isa.specs.declared.Instruction.{Instruction}
 use Rattle.search.specs.Ascending.{place_of}
 use Rattle.search.proofs.Laws.{place_found}
-use Rattle.std.specs.Prelude.{Option, Some, None, option_map, Ok}
+use Rattle.std.specs.Prelude.{Option, Some, None, option_map, Ok, is_some}
 use Rattle.sheet_field.specs.Field.{Place, WentOn, little}
 use Rattle.sheet_field.proofs.Fields.{field-at, field-whole}
 use Rattle.sheet_field.proofs.Counted.{back}
@@ -46,19 +45,19 @@ branch-marked [] a = refl
 branch-marked (i ∷ code) a = go (eqb i.address a) (branch-marked code a)
   where
     go : (t : Bool) → branch_at code a ≡ marked (branches_of code) (place_of (addresses_of code) a)
-        → cond t i.branch (branch_at code a)
-        ≡ marked (i.branch ∷ branches_of code) (cond t (Some 0) (option_map suc (place_of (addresses_of code) a)))
+        → cond t (is_some i.target) (branch_at code a)
+        ≡ marked (is_some i.target ∷ branches_of code) (cond t (Some 0) (option_map suc (place_of (addresses_of code) a)))
     go true rest = refl
-    go false rest = rest ∙ sym (marked-later i.branch (branches_of code) (place_of (addresses_of code) a))
+    go false rest = rest ∙ sym (marked-later (is_some i.target) (branches_of code) (place_of (addresses_of code) a))
 
 last_more : (code : List Instruction) (l : List ℕ) (a : ℕ)
-    → last_branch code (l ++ (a ∷ [])) ≡ cond (branch_at code a) (some a) (last_branch code l)
+    → last_branch code (l ++ (a ∷ [])) ≡ cond (branch_at code a) (Some a) (last_branch code l)
 unfolding last_branch
 last_more code [] a = refl
 last_more code (x ∷ l) a = rw (last_more code l a) (go (branch_at code a))
   where
-    go : (t : Bool) → unless_later (cond (branch_at code x) (some x) none) (cond t (some a) (last_branch code l))
-        ≡ cond t (some a) (unless_later (cond (branch_at code x) (some x) none) (last_branch code l))
+    go : (t : Bool) → unless_later (cond (branch_at code x) (Some x) None) (cond t (Some a) (last_branch code l))
+        ≡ cond t (Some a) (unless_later (cond (branch_at code x) (Some x) None) (last_branch code l))
     go true = refl
     go false = refl
 
@@ -75,8 +74,8 @@ module _ (code : List Instruction) (l : List ℕ) (a : ℕ) (jump : Option ℕ) 
       there : (k < length (addresses_of code)) × (get_or (addresses_of code) k 0 ≡ a)
       there = place_found (addresses_of code) a is refl
 
-      go : (t : Bool) → SiteIs code (cond t (Some k) jump) (cond t (some a) (last_branch code l))
-      go true = (omega (arith, addresses-length code, there.0), ap some (sym there.1))
+      go : (t : Bool) → SiteIs code (cond t (Some k) jump) (cond t (Some a) (last_branch code l))
+      go true = (omega (arith, addresses-length code, there.0), ap Some (sym there.1))
       go false = before
 
   -- one address more
@@ -134,7 +133,7 @@ jump-of s node code jump sites-are n-is is = rw (← sites-are, ← n-is) is
 
 -- a block's branch
 module _ (s : List ℕ) (number first end : ℕ) (code_is : code_of s number ≡ slice first end (sheet_at s).instructions.list) where
-  empty_block : end ≤ first → block_site s number ≡ none
+  empty_block : end ≤ first → block_site s number ≡ None
   empty_block out = rw (code_is, apart_none (sheet_at s).instructions.list first end out)
 
   module _ (last : ℕ) (below : first < end) (last-is : last + 1 ≡ end) (fits : end ≤ length (sheet_at s).instructions.list) where
@@ -143,19 +142,19 @@ module _ (s : List ℕ) (number first end : ℕ) (code_is : code_of s number ≡
 
     -- its last instruction decides
     by_last : (b : Bool) → get_or (branches_of (sheet_at s).instructions.list) last false ≡ b
-        → block_site s number ≡ cond b (some (get_or (addresses_of (sheet_at s).instructions.list) last 0)) none
+        → block_site s number ≡ cond b (Some (get_or (addresses_of (sheet_at s).instructions.list) last 0)) None
     unfolding branches_of addresses_of
     by_last b is =
         let l = (sheet_at s).instructions.list in
         let d = one l last there in
-        let mark = sym (map_at (λ (i : Instruction). i.branch) l last d false there) ∙ is in
+        let mark = sym (map_at (λ (i : Instruction). is_some i.target) l last d false there) ∙ is in
         rw (code_is, apart-between l first last end d below last-is fits, mark, map_at (λ (i : Instruction). i.address) l last d 0 there)
 
     branch-last : get_or (branches_of (sheet_at s).instructions.list) last false ≡ true
         → SiteIs (sheet_at s).instructions.list (Some last) (block_site s number)
     branch-last is = (there, by_last true is)
 
-    other_last : get_or (branches_of (sheet_at s).instructions.list) last false ≡ false → block_site s number ≡ none
+    other_last : get_or (branches_of (sheet_at s).instructions.list) last false ≡ false → block_site s number ≡ None
     other_last is = by_last false is
 
   -- the branch that ends its range

@@ -4,6 +4,7 @@ use mathlib.Core.Path.{◌≡◌, refl, ap, ap₂}
 use mathlib.Core.List.{List, [], ◌∷◌, ◌++◌}
 use native.Mathlib.Omega.{arith}
 use lib.ListN.{length, replicate}
+use Rattle.std.specs.Prelude.{unwrap_or}
 use Rattle.isa.specs.declared.Instruction.{Instruction}
 use Rattle.verdict.specs.declared.Verdict.{Verdict}
 use Rattle.verdict.specs.declared.Verdict.TheVariants.{Always, Never, Undecided, NoBranch}
@@ -17,15 +18,15 @@ use Rattle.verdict_sheet.specs.Kept.{slots_of}
 use Rattle.verdict_sheet.proofs.Codes.{always-some, never-some}
 
 -- a slot holds its verdict's line
-slot_due : (i : Instruction) (v : Verdict) → slot_line i.address i.target (slot_of v) ≡ line_of i v
+slot_due : (i : Instruction) (v : Verdict) → slot_line i.address (unwrap_or i.target 0) (slot_of v) ≡ line_of i v
 slot_due i (Always r) =
     let value : (2 * reason_number r + 1) % 2 ≡ 1 = omega arith in
     let reason : (2 * reason_number r + 1) / 2 ≡ reason_number r = omega arith in
-    rw (slot-line i.address i.target (slot_of (Always r)) (always-some r), value, reason)
+    rw (slot-line i.address (unwrap_or i.target 0) (slot_of (Always r)) (always-some r), value, reason)
 slot_due i (Never r) =
     let value : (2 * reason_number r) % 2 ≡ 0 = omega arith in
     let reason : (2 * reason_number r) / 2 ≡ reason_number r = omega arith in
-    rw (slot-line i.address i.target (slot_of (Never r)) (never-some r), value, reason)
+    rw (slot-line i.address (unwrap_or i.target 0) (slot_of (Never r)) (never-some r), value, reason)
 slot_due i Undecided = refl
 slot_due i NoBranch = refl
 

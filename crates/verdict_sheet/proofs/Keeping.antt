@@ -3,7 +3,6 @@ use Prim.Native.Nat.{ℕ, zero, suc, ◌<◌}
 use mathlib.Core.Path.{◌≡◌, refl, sym, ap₂, ◌∙◌}
 use mathlib.Core.List.{List, [], ◌∷◌, ◌++◌, append-nil}
 use mathlib.Core.Bool.{Bool, true, false, cond}
-use mathlib.Core.Option.{Option as Site}
 use native.Mathlib.Omega.{arith}
 use lib.Dec.{eqb}
 use lib.ListN.{length, get_or, length-map}
@@ -92,20 +91,20 @@ slots_length code said = rw length-map
 
 -- a record's verdict is kept at its branch, if it has one
 module _ (code : List Instruction) (up : Ascending (addresses_of code)) (v : Verdict) (said : List Said) where
-  pub keep-saying : (at : Option ℕ) (site : Site ℕ) {slots after : List ℕ} → SiteIs code at site → after ≡ kept_at slots at v → slots ≡ slots_of code said
+  pub keep-saying : (at : Option ℕ) (site : Option ℕ) {slots after : List ℕ} → SiteIs code at site → after ≡ kept_at slots at v → slots ≡ slots_of code said
       → after ≡ slots_of code (said ++ saying site v)
   keep-saying (Some k) site there after_is is = rw (there.1, after_is, is) (slots-more said v code up k there.0)
   keep-saying None site there after_is is = rw (there, after_is, is, append-nil)
 
-pub has-slot : (code : List Instruction) (at : Option ℕ) (site : Site ℕ) (slots : List ℕ) → SiteIs code at site → length slots ≡ length code → HasSlot slots at
+pub has-slot : (code : List Instruction) (at : Option ℕ) (site : Option ℕ) (slots : List ℕ) → SiteIs code at site → length slots ≡ length code → HasSlot slots at
 has-slot code (Some k) site slots there long = rw long there.0
 has-slot code None site slots there long = tt
 
-pub slot-there : (code : List Instruction) (site : Site ℕ) (at : Option ℕ) {k : ℕ} → SiteIs code at site → at ≡ Some k → k < length code
+pub slot-there : (code : List Instruction) (site : Option ℕ) (at : Option ℕ) {k : ℕ} → SiteIs code at site → at ≡ Some k → k < length code
 slot-there code site at {k} there is = let found : SiteIs code (Some k) site = rw is at there in found.0
 
 -- a block's verdict, where it has a branch and where it has none
-module _ (code : List Instruction) {addresses : List ℕ} (up : Ascending addresses) (are : addresses ≡ addresses_of code) (said : List Said) (site : Site ℕ) (w : Verdict)
+module _ (code : List Instruction) {addresses : List ℕ} (up : Ascending addresses) (are : addresses ≡ addresses_of code) (said : List Said) (site : Option ℕ) (w : Verdict)
     (at : Option ℕ) {slots after : List ℕ} (there : SiteIs code at site) (is : slots ≡ slots_of code said) where
   pub block-kept : {k : ℕ} {v : Verdict} → at ≡ Some k → v ≡ w → after ≡ kept slots k v → after ≡ slots_of code (said ++ saying site w)
   block-kept {k} at-is v-is after_is =

@@ -1,6 +1,5 @@
 -- What the contracts here ask and give: a branch by the number of its instruction, the slots.
 use Rattle.std.specs.Prelude.{ℕ, ◌-◌, ◌<◌, ◌≡◌, List, map, false, cond, ltb, length, get_or, Option, Some, None, Result, Ok, Err}
-use Rattle.std.proofs.Math.Option.{Option as Site, none, some}
 use Rattle.refusal.specs.declared.Refusal.{Refusal}
 use Rattle.isa.specs.declared.Instruction.{Instruction}
 use Rattle.verdict.specs.declared.Verdict.{Verdict}
@@ -18,9 +17,9 @@ abbrev pub branch_ending : List Instruction → ℕ → ℕ → Option ℕ
 branch_ending code first end = cond (ltb first end) (if_branch code (Some (end - 1)) None) None
 
 -- the instruction of that number is the one at that address
-abbrev pub SiteIs : List Instruction → Option ℕ → Site ℕ → Type 0
-SiteIs code (Some k) site = (k < length code) × (site ≡ some (get_or (addresses_of code) k 0))
-SiteIs code None site = site ≡ none
+abbrev pub SiteIs : List Instruction → Option ℕ → Option ℕ → Type 0
+SiteIs code (Some k) site = (k < length code) × (site ≡ Some (get_or (addresses_of code) k 0))
+SiteIs code None site = site ≡ None
 
 -- slots with a verdict kept at a number, if there is one
 abbrev pub kept_at : List ℕ → Option ℕ → Verdict → List ℕ

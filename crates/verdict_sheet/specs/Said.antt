@@ -1,6 +1,5 @@
 -- What the records of an accepted sheet say of its branches, and the lines due.
-use Rattle.std.specs.Prelude.{ℕ, zero, suc, List, [], ◌∷◌, ◌++◌, cond, eqb, Result, Ok, Err}
-use Rattle.std.proofs.Math.Option.{Option, none, some}
+use Rattle.std.specs.Prelude.{ℕ, zero, suc, List, [], ◌∷◌, ◌++◌, cond, eqb, Option, None, Some, Result, Ok, Err}
 use Rattle.refusal.specs.declared.Refusal.{Refusal}
 use Rattle.isa.specs.declared.Instruction.{Instruction}
 use Rattle.verdict.specs.declared.Verdict.{Verdict}
@@ -19,8 +18,8 @@ pub record Said : Type 0 where
 
 -- A record says its verdict of its branch; a record without a branch says nothing (S34, S35).
 abbrev pub saying : Option ℕ → Verdict → List Said
-saying none verdict = []
-saying (some site) verdict = record { site = site; verdict = verdict } ∷ []
+saying None verdict = []
+saying (Some site) verdict = record { site = site; verdict = verdict } ∷ []
 
 -- what the first k blocks say, in their order
 unfoldable pub blocks_say : List ℕ → ℕ → List Said

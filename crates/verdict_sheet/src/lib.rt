@@ -30,7 +30,8 @@ fn branch_or(code: &Code, address: u64, otherwise: Option<usize>) -> Option<usiz
     }
 }
 
-// The number of a node's jump, from its n addresses, which were read whole from an offset on.
+// The number of a node's jump, from its n addresses, which were read whole from an offset on. A loop, as a closure over `code`, which `rev().find_map`
+// needs, gives a proof nothing of what the methods of `code` ensure.
 fn node_jump(code: &Code, sites: usize, n: u64) -> Option<usize>
     requires { WentOn (addresses_from code.now.bytes.now (Ok sites) n).next }
     ensures { SiteIs (sheet_at code.now.bytes.now).instructions.list result (last_branch (sheet_at code.now.bytes.now).instructions.list (addresses_from code.now.bytes.now (Ok sites) n).list) }

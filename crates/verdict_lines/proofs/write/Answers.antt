@@ -1,6 +1,6 @@
 use Rattle.verdict_lines.specs.Slots.{slot_line, put_at}
 use lib.ListN.{get_or}
-use Rattle.verdict_lines.proofs.Written.{offset-there, write-more, write_done}
+use Rattle.verdict_lines.proofs.Written.{offset-there, target-there, write-more, write_done}
 use Rattle.verdict_lines.proofs.Puts.{put_front, put_keeps}
 use Rattle.verdict_lines.proofs.Decided.{decided-more}
 use native.Mathlib.Omega.{arith}
@@ -34,7 +34,8 @@ loop-i-preserved c =
     let list = c.loop-i.list in
     let below = c.loop-i-test.true in
     let each = c.requires in
-    let put : c.put_line-at.new.list ≡ put_at at (records line_bytes (slot_line (get_or sites i 0) (get_or targets i 0) (get_or slots i 0))) list = rw (← c.nth_target.ensures) c.put_line-at.ensures.1 in
+    let to_is = target-there (sheet_at c.args.code.now.bytes.now).instructions.list i slots each.each_target below c.nth_target.ensures c.unwrap_or.ensures in
+    let put : c.put_line-at.new.list ≡ put_at at (records line_bytes (slot_line (get_or sites i 0) (get_or targets i 0) (get_or slots i 0))) list = rw (← to_is) c.put_line-at.ensures.1 in
     let next = c.put_line-at.ensures.0 in
     let long = put_keeps at (records line_bytes (slot_line (get_or sites i 0) (get_or targets i 0) (get_or slots i 0))) list put in
     let more = decided-more slots i (omega (arith, below)) in
