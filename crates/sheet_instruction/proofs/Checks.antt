@@ -1,4 +1,4 @@
--- Registers, operands and lists of registers by their stages: a refusal at one of these is the record's.
+-- What the checks need: registers by their bytes, where reading is inside the sheet, and that a refusal stays.
 use Prim.Native.Nat.{ℕ, zero, suc, ◌+◌, ◌-◌, ◌≤◌, ◌<◌}
 use mathlib.Core.Path.{◌≡◌, refl, ap, sym, ◌∙◌}
 use mathlib.Core.List.{List}
@@ -6,7 +6,7 @@ use mathlib.Core.Bool.{Bool, true, false, cond}
 use native.Mathlib.Omega.{arith}
 use lib.ListN.{length}
 use lib.Dec.{eqb}
-use borrow.Author.Tests.{eq-eqb, ne_eqb}
+use borrow.Author.Tests.{eq-eqb}
 use Rattle.std.specs.Prelude.{Ok, Err}
 use Rattle.refusal.specs.declared.Fault.TheVariants as fault
 use Rattle.refusal.specs.declared.Refusal.{Refusal}
@@ -14,13 +14,12 @@ use Rattle.refusal.specs.Numbers.{refused}
 use Rattle.isa.specs.declared.Register.{Register}
 use Rattle.isa.specs.declared.Operand.TheVariants.{Reg, Imm, Mem}
 use Rattle.isa.specs.Register.{well_formed}
-use Rattle.sheet_field.specs.declared.Reader.{Reader}
-use Rattle.sheet_field.specs.Field.{Place, field_at, judge, check_field, code_at, count_at}
-use Rattle.sheet_field.specs.Reads.{Reads}
-use Rattle.sheet_field.proofs.Fields.{field_cut, field-refused, code-at, count_at_lem}
+use Rattle.sheet_field.specs.Field.{Place, field_at, start_of, judge, code_at, count_at}
+use Rattle.sheet_field.proofs.Fields.{field_cut, field-refused, code-at, count_at_lem, checked-stays}
 use Rattle.sheet_field.proofs.Counted.{stays}
-use Rattle.sheet_instruction.specs.Instruction.{OperandReading, register_at, operand_at, registers_from, registers_at}
-use Rattle.sheet_instruction.proofs.Instructions.{registers-next}
+use Rattle.sheet_field.proofs.Steps.{field_stays, code_stays, count_stays}
+use Rattle.sheet_instruction.specs.Instruction.{OperandReading, register_at, operand_at, registers_from, registers_at, optional_registers, optional_operand, optional_field, optional_code, bit_of, address_at, tail_at}
+use Rattle.sheet_instruction.proofs.Instructions.{registers_next}
 use Rattle.sheet_instruction.proofs.Accepted.{registers-keep}
 use Rattle.sheet_instruction.proofs.Stages.{byte-is, register-room}
 
@@ -75,89 +74,67 @@ module _ (s : List ℕ) (at : ℕ) where
 pub register_end : {s t : List ℕ} (at : ℕ) {b : ℕ} → t ≡ s → Ok b ≡ (register_at t (Ok at)).next → b ≤ length s
 register_end {s} at same went = (register-room s at (sym (rw same at went))).1
 
--- whatever an operand's code is, a refusal at it stays
+pub kind_inside : (s : List ℕ) (p : Place) {b : ℕ} → Ok b ≡ (code_at 3 s p).next → b ≤ length s
+kind_inside s p e = let w = (code-at 3 s p (sym e)).whole in omega (arith, w.after, w.inside)
+
+pub count_inside : (s : List ℕ) (p : Place) {b : ℕ} → Ok b ≡ (count_at 0 8 s p).next → b ≤ length s
+count_inside s p e = let w = (count_at_lem 0 8 s p (sym e)).whole in omega (arith, w.after, w.inside)
+
+pub number_below : (s : List ℕ) (p : Place) {m x : ℕ} → Ok m ≡ (code_at 35 s p).next → x ≡ (code_at 35 s p).value → x < 35
+number_below s p e is = rw is (code-at 35 s p (sym e)).below
+
+-- a refusal at an operand's code stays, whatever the code is
 kind-stays : (s : List ℕ) (r : Refusal) (z o : Bool)
-    → (cond {A = OperandReading} z (record { operand = Reg (register_at s (Err r)).register; next = (register_at s (Err r)).next })
+    → Err r
+    ≡ (cond {A = OperandReading} z (record { operand = Reg (register_at s (Err r)).register; next = (register_at s (Err r)).next })
     (cond o (record { operand = Imm (field_at 8 s (Err r)).value; next = (field_at 8 s (Err r)).next }) (record { operand = Mem; next = Err r }))).next
-    ≡ Err r
 unfolding register_at field_at
 kind-stays s r true o = refl
 kind-stays s r false true = refl
 kind-stays s r false false = refl
 
--- an operand, by its code
 pub kind_refused : (s : List ℕ) (p : Place) {r : Refusal} → Err r ≡ (code_at 3 s p).next → Err r ≡ (operand_at s p).next
 unfolding operand_at
-kind_refused s p {r} e = rw (← e) (sym (kind-stays s r (eqb (code_at 3 s p).value 0) (eqb (code_at 3 s p).value 1)))
+kind_refused s p {r} e = rw (← e) (kind-stays s r (eqb (code_at 3 s p).value 0) (eqb (code_at 3 s p).value 1))
 
-pub kind_inside : (s : List ℕ) (p : Place) {b : ℕ} → Ok b ≡ (code_at 3 s p).next → b ≤ length s
-kind_inside s p e = let w = (code-at 3 s p (sym e)).whole in omega (arith, w.after, w.inside)
+-- a refusal at one of n registers stays, and one before them
+pub register_refused : (s : List ℕ) (p : Place) (i n : ℕ) {r : Refusal} → Err r ≡ (register_at s (registers_from s p i).next).next → i < n
+    → Err r ≡ (registers_from s p n).next
+register_refused s p i n e less =
+    sym (stays (λ j. (registers_from s p j).next) (registers-keep s p) n (i + 1) _ (sym (e ∙ registers_next s p i)) (omega arith))
 
-module _ (s : List ℕ) (p : Place) {t : List ℕ} {kind m : ℕ} (same : t ≡ s) (at : Ok m ≡ (code_at 3 s p).next) (is : kind ≡ (code_at 3 s p).value) where
-  register-operand : kind ≡ 0 → operand_at s p ≡ record { operand = Reg (register_at t (Ok m)).register; next = (register_at t (Ok m)).next }
-  unfolding operand_at
-  register-operand z = rw (same, at, ← is, z)
+pub list_stays : (s : List ℕ) (n : ℕ) {p : Place} {r : Refusal} → Err r ≡ p → Err r ≡ (registers_from s p n).next
+unfolding registers_from
+list_stays s n {p} {r} e =
+    let start : (registers_from s p 0).next ≡ Err r = sym e in
+    sym (stays (λ j. (registers_from s p j).next) (registers-keep s p) n 0 r start (omega arith))
 
-  immediate-operand : kind ≡ 1 → operand_at s p ≡ record { operand = Imm (field_at 8 t (Ok m)).value; next = (field_at 8 t (Ok m)).next }
-  unfolding operand_at
-  immediate-operand o = rw (same, at, ← is, o)
+-- a refusal before a part stays
+pub operand_stays : (there : Bool) (s : List ℕ) {p : Place} {r : Refusal} → Err r ≡ p → Err r ≡ (optional_operand there s p).next
+operand_stays true s {p} e = kind_refused s p (code_stays s e 3)
+operand_stays false s e = e
 
-  memory-operand : (kind ≡ 0 → ⊥) → (kind ≡ 1 → ⊥) → operand_at s p ≡ record { operand = Mem; next = Ok m }
-  unfolding operand_at
-  memory-operand not-zero not-one = rw (at, ← is, ne_eqb _ _ not-zero, ne_eqb _ _ not-one)
+pub registers_stay : (s : List ℕ) {p : Place} {r : Refusal} → Err r ≡ p → Err r ≡ (registers_at s p).next
+unfolding registers_at
+registers_stay s {p} e = list_stays s (count_at 0 8 s p).value (count_stays s e 0 8)
 
-  pub register_refused : {r : Refusal} → kind ≡ 0 → Err r ≡ (register_at t (Ok m)).next → Err r ≡ (operand_at s p).next
-  register_refused z e = rw (register-operand z) e
+pub written_stays : (there : Bool) (s : List ℕ) {p : Place} {r : Refusal} → Err r ≡ p → Err r ≡ (optional_registers there s p).next
+written_stays true s e = registers_stay s e
+written_stays false s e = list_stays s 0 e
 
-  pub register_there : {b : ℕ} → kind ≡ 0 → Ok b ≡ (register_at t (Ok m)).next → Ok b ≡ (operand_at s p).next
-  register_there z e = rw (register-operand z) e
+pub flags_stay : (there : Bool) (s : List ℕ) {p : Place} {r : Refusal} → Err r ≡ p → Err r ≡ (optional_code there 32 s p).next
+flags_stay true s e = code_stays s e 32
+flags_stay false s e = e
 
-  pub register_is : {r : Register} → kind ≡ 0 → r ≡ (register_at t (Ok m)).register → Reg r ≡ (operand_at s p).operand
-  register_is z e = rw (register-operand z, e)
+pub target_stays : (there : Bool) (s : List ℕ) {p : Place} {r : Refusal} → Err r ≡ p → Err r ≡ (optional_field there s p).next
+target_stays true s e = field_stays s e 8
+target_stays false s e = e
 
-  pub immediate_refused : {r : Refusal} → kind ≡ 1 → Err r ≡ (field_at 8 t (Ok m)).next → Err r ≡ (operand_at s p).next
-  immediate_refused o e = rw (immediate-operand o) e
+pub address_stays : (opens : Bool) (last : ℕ) (s : List ℕ) {p : Place} {r : Refusal} → Err r ≡ p → Err r ≡ (address_at opens last s p).next
+unfolding address_at
+address_stays opens last s {p} e = checked-stays _ fault.Address (start_of p) (field_at 8 s p) (field_stays s e 8)
 
-  pub immediate_there : {b : ℕ} → kind ≡ 1 → Ok b ≡ (field_at 8 t (Ok m)).next → Ok b ≡ (operand_at s p).next
-  immediate_there o e = rw (immediate-operand o) e
-
-  pub immediate_is : {v : ℕ} → kind ≡ 1 → v ≡ (field_at 8 t (Ok m)).value → Imm v ≡ (operand_at s p).operand
-  immediate_is o e = rw (immediate-operand o, e)
-
-  pub memory_there : (kind ≡ 0 → ⊥) → (kind ≡ 1 → ⊥) → Ok m ≡ (operand_at s p).next
-  memory_there not-zero not-one = rw (memory-operand not-zero not-one)
-
-  pub memory_is : (kind ≡ 0 → ⊥) → (kind ≡ 1 → ⊥) → Mem ≡ (operand_at s p).operand
-  memory_is not-zero not-one = rw (memory-operand not-zero not-one)
-
--- a list of registers: their count, none of them yet, one refused, one more, and all
-module _ (s : List ℕ) (p : Place) where
-  registers-start : (q : Place) → (registers_from s q 0).next ≡ q
-  unfolding registers_from
-  registers-start q = refl
-
-  pub count_refused : {r : Refusal} → Err r ≡ (count_at 0 8 s p).next → Err r ≡ (registers_at s p).next
-  unfolding registers_at
-  count_refused {r} e =
-      let n = count_at 0 8 s p in
-      sym (stays (λ j. (registers_from s n.next j).next) (registers-keep s n.next) n.value 0 r (registers-start n.next ∙ sym e) (omega arith))
-
-  pub count_inside : {b : ℕ} → Ok b ≡ (count_at 0 8 s p).next → b ≤ length s
-  count_inside e = let w = (count_at_lem 0 8 s p (sym e)).whole in omega (arith, w.after, w.inside)
-
-  pub registers_none : {b : ℕ} → Ok b ≡ (count_at 0 8 s p).next → Ok b ≡ (registers_from s (count_at 0 8 s p).next 0).next
-  registers_none e = e ∙ sym (registers-start (count_at 0 8 s p).next)
-
-  module _ (i : ℕ) {t : List ℕ} {m : ℕ} (same : t ≡ s) (here : Ok m ≡ (registers_from s (count_at 0 8 s p).next i).next) where
-    pub list_refused : {n : ℕ} {r : Refusal} → n ≡ (count_at 0 8 s p).value → i < n → Err r ≡ (register_at t (Ok m)).next → Err r ≡ (registers_at s p).next
-    unfolding registers_at
-    list_refused {n} n-is less e =
-        let q = (count_at 0 8 s p).next in
-        rw (← n-is) (sym (stays (λ j. (registers_from s q j).next) (registers-keep s q) n (i + 1) _ (sym (rw (same, here) at e ∙ registers-next s q i)) (omega arith)))
-
-    pub registers_more : {b : ℕ} → Ok b ≡ (register_at t (Ok m)).next → Ok b ≡ (registers_from s (count_at 0 8 s p).next (i + 1)).next
-    registers_more e = rw (same, here) at e ∙ registers-next s (count_at 0 8 s p).next i
-
-  pub registers_all : {n m : ℕ} → n ≡ (count_at 0 8 s p).value → Ok m ≡ (registers_from s (count_at 0 8 s p).next n).next → Ok m ≡ (registers_at s p).next
-  unfolding registers_at
-  registers_all n-is here = rw (← n-is) here
+pub tail_stays : (map : ℕ) (s : List ℕ) {p : Place} {r : Refusal} → Err r ≡ p → Err r ≡ (tail_at map s p).next
+unfolding tail_at
+tail_stays map s e =
+    flags_stay (bit_of map 32) s (written_stays (bit_of map 16) s (operand_stays (bit_of map 8) s (operand_stays (bit_of map 4) s e)))

@@ -14,9 +14,9 @@ unfolding registers_from with_register
 registers-count s p zero = refl
 registers-count s p (suc k) = rw (registers-count s p k, add-one)
 
-pub registers-next : (s : List ℕ) (p : Place) (k : ℕ) → (register_at s (registers_from s p k).next).next ≡ (registers_from s p (k + 1)).next
+pub registers_next : (s : List ℕ) (p : Place) (k : ℕ) → (register_at s (registers_from s p k).next).next ≡ (registers_from s p (k + 1)).next
 unfolding registers_from with_register
-registers-next s p k = rw add-one
+registers_next s p k = rw add-one
 
 pub registers-more : (s : List ℕ) (p : Place) (k : ℕ) {list : List Register} {q : Place} {r : RegisterReading}
     → list ≡ (registers_from s p k).list → q ≡ (registers_from s p k).next → r ≡ register_at s q

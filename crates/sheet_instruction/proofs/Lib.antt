@@ -3,4 +3,3 @@ pub mod Instructions
 pub mod Accepted
 pub mod Stages
 pub mod Checks
-pub mod Composed

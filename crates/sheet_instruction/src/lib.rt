@@ -80,7 +80,7 @@ fn check_register(r: &mut Reader) -> Result<Register, Refusal>
     }
 }
 
-#[tactic(auto, using(crate::proofs::Checks::kind_refused, crate::proofs::Checks::kind_inside, crate::proofs::Checks::register_refused, crate::proofs::Checks::register_there, crate::proofs::Checks::register_is, crate::proofs::Checks::immediate_refused, crate::proofs::Checks::immediate_there, crate::proofs::Checks::immediate_is, crate::proofs::Checks::memory_there, crate::proofs::Checks::memory_is))]
+#[tactic(auto, using(crate::proofs::Checks::kind_refused, crate::proofs::Checks::kind_inside), unfolding(crate::specs::Instruction::operand_at))]
 fn check_operand(r: &mut Reader) -> Result<Operand, Refusal>
     ensures reads { Reads r.old r.new result (operand_at r.old.bytes.now (Ok r.old.at)).next }
     ensures value { IfOk result (λ x. x ≡ (operand_at r.old.bytes.now (Ok r.old.at)).operand) }
@@ -92,18 +92,7 @@ fn check_operand(r: &mut Reader) -> Result<Operand, Refusal>
     }
 }
 
-fn check_optional_operand(r: &mut Reader, there: bool) -> Result<Operand, Refusal>
-    ensures reads { Reads r.old r.new result (optional_operand there r.old.bytes.now (Ok r.old.at)).next }
-    ensures value { IfOk result (λ x. x ≡ (optional_operand there r.old.bytes.now (Ok r.old.at)).operand) }
-{
-    if there {
-        check_operand(r)
-    } else {
-        Ok(Operand::Absent)
-    }
-}
-
-#[tactic(auto, using(crate::proofs::Checks::count_refused, crate::proofs::Checks::count_inside, crate::proofs::Checks::registers_none, crate::proofs::Checks::list_refused, crate::proofs::Checks::register_end, crate::proofs::Checks::registers_more, crate::proofs::Checks::registers_all))]
+#[tactic(auto, using(crate::proofs::Checks::list_stays, crate::proofs::Checks::count_inside, crate::proofs::Checks::register_refused, crate::proofs::Checks::register_end, crate::proofs::Instructions::registers_next), unfolding(crate::specs::Instruction::registers_at, crate::specs::Instruction::registers_from))]
 fn check_written(r: &mut Reader) -> Result<(), Refusal>
     ensures { Reads r.old r.new result (registers_at r.old.bytes.now (Ok r.old.at)).next }
 {
@@ -114,21 +103,24 @@ fn check_written(r: &mut Reader) -> Result<(), Refusal>
     Ok(())
 }
 
-#[tactic(auto, using(crate::proofs::Composed::none_written))]
-fn check_optional_written(r: &mut Reader, there: bool) -> Result<(), Refusal>
-    ensures { Reads r.old r.new result (optional_registers there r.old.bytes.now (Ok r.old.at)).next }
-{
-    if there { check_written(r) } else { Ok(()) }
-}
-
-#[tactic(auto, using(crate::proofs::Composed::operand_stays, crate::proofs::Composed::written_stays, crate::proofs::Composed::flags_stay), unfolding(crate::specs::Instruction::tail_at))]
+#[tactic(auto, using(crate::proofs::Checks::operand_stays, crate::proofs::Checks::written_stays, crate::proofs::Checks::flags_stay), unfolding(crate::specs::Instruction::tail_at, crate::specs::Instruction::registers_from))]
 fn check_tail(r: &mut Reader, map: u64) -> Result<Tail, Refusal>
     ensures reads { Reads r.old r.new result (tail_at map r.old.bytes.now (Ok r.old.at)).next }
     ensures value { IfOk result (λ x. x ≡ tail_of (tail_at map r.old.bytes.now (Ok r.old.at))) }
 {
-    let first = check_optional_operand(r, MapBit::First.is_in(map))?;
-    let second = check_optional_operand(r, MapBit::Second.is_in(map))?;
-    check_optional_written(r, MapBit::Written.is_in(map))?;
+    let first = if MapBit::First.is_in(map) {
+        check_operand(r)?
+    } else {
+        Operand::Absent
+    };
+    let second = if MapBit::Second.is_in(map) {
+        check_operand(r)?
+    } else {
+        Operand::Absent
+    };
+    if MapBit::Written.is_in(map) {
+        check_written(r)?;
+    }
     let flags = if MapBit::Flags.is_in(map) {
         r.code(32)?
     } else {
@@ -170,7 +162,7 @@ fn check_address(r: &mut Reader, last: Option<u64>) -> Result<u64, Refusal>
     r.take_checked::<8, _>(Fault::Address, |address| is_above(address, last))
 }
 
-#[tactic(auto, using(crate::proofs::Composed::address_stays, sheet_field::proofs::Steps::code_stays, crate::proofs::Composed::target_stays, crate::proofs::Composed::number_below), unfolding(crate::specs::Instruction::head_at))]
+#[tactic(auto, using(crate::proofs::Checks::address_stays, sheet_field::proofs::Steps::code_stays, crate::proofs::Checks::target_stays, crate::proofs::Checks::number_below), unfolding(crate::specs::Instruction::head_at))]
 fn check_head(r: &mut Reader, last: Option<u64>) -> Result<Head, Refusal>
     ensures reads { Reads r.old r.new result (head_at (is_none last) (unwrap_or last 0) r.old.bytes.now (Ok r.old.at)).next }
     ensures value { IfOk result (λ x. x ≡ head_of (head_at (is_none last) (unwrap_or last 0) r.old.bytes.now (Ok r.old.at))) }
@@ -189,7 +181,7 @@ fn check_head(r: &mut Reader, last: Option<u64>) -> Result<Head, Refusal>
 }
 
 // The address of the instruction record at the reader. `last` is the address before it, none where it opens the sheet.
-#[tactic(auto, using(crate::proofs::Composed::tail_stays), unfolding(crate::specs::Instruction::instruction_at))]
+#[tactic(auto, using(crate::proofs::Checks::tail_stays), unfolding(crate::specs::Instruction::instruction_at))]
 pub fn check_instruction(r: &mut Reader, last: Option<u64>) -> Result<u64, Refusal>
     ensures reads { Reads r.old r.new result (instruction_at (is_none last) (unwrap_or last 0) r.old.bytes.now (Ok r.old.at)).next }
     ensures address { IfOk result (λ x. x ≡ (instruction_at (is_none last) (unwrap_or last 0) r.old.bytes.now (Ok r.old.at)).instruction.address) }
