@@ -9,24 +9,38 @@ ghost use Rattle.expr.specs.Root.{root_of, root_argument};
 ghost use Rattle.expr.specs.Scan.{has_own_value, has_load, plain_expr, reads as reads_of, any_tag, of_kind, same_tree};
 ghost use Rattle.expr.specs.Types.{bits, promoted as promoted_of, common as common_of, plain_type, same_type, together, constant_type, binary_type, record_type, type_of};
 
-// Kinds of records, and how many there are.
-pub const VARIABLE: u64 = 0;
+// What the root of a tree is, with the number that its kind of record has in a tag word.
+#[derive(Clone, Copy, PartialEq, Eq, Debug)]
+pub enum Root {
+    Variable = 0,
+    Constant = 1,
+    True = 2,
+    False = 3,
+    Effect = 4,
+    Load = 5,
+    Cast = 6,
+    Binary = 7,
+    Ternary = 8,
+}
 
-pub const CONSTANT: u64 = 1;
+// The numbers alone, as a record is read and a tag word is matched, and how many there are.
+pub const VARIABLE: u64 = Root::Variable as u64;
 
-pub const TRUE: u64 = 2;
+pub const CONSTANT: u64 = Root::Constant as u64;
 
-pub const FALSE: u64 = 3;
+pub const TRUE: u64 = Root::True as u64;
 
-pub const EFFECT: u64 = 4;
+pub const FALSE: u64 = Root::False as u64;
 
-pub const LOAD: u64 = 5;
+pub const EFFECT: u64 = Root::Effect as u64;
 
-pub const CAST: u64 = 6;
+pub const LOAD: u64 = Root::Load as u64;
 
-pub const BINARY: u64 = 7;
+pub const CAST: u64 = Root::Cast as u64;
 
-pub const TERNARY: u64 = 8;
+pub const BINARY: u64 = Root::Binary as u64;
+
+pub const TERNARY: u64 = Root::Ternary as u64;
 
 pub const KINDS: u64 = 9;
 
@@ -219,11 +233,7 @@ pub fn binary_type(operator: u64, a: u64, b: u64) -> u64
 pub fn variable_type(types: &[u8], number: u64) -> u64
     ensures { result ≡ get_or types.now number signed8 }
 {
-    let i = number as usize;
-    if i < types.len() {
-        return types[i] as u64;
-    }
-    SIGNED_8
+    types.get(number as usize).map_or(SIGNED_8, |t| u64::from(*t))
 }
 
 // The type of the tree that a record makes, from the types of its last child, b, and of the one before, a.
@@ -259,20 +269,6 @@ fn last_start(rs: &[u64]) -> usize
     at
 }
 
-// What the root of a tree is.
-#[derive(Clone, Copy, PartialEq, Eq, Debug)]
-pub enum Root {
-    Variable,
-    Constant,
-    True,
-    False,
-    Effect,
-    Load,
-    Cast,
-    Binary,
-    Ternary,
-}
-
 // Words that are exactly one tree.
 #[derive(Clone, Copy)]
 pub struct Tree<'a> {
@@ -289,6 +285,7 @@ impl<'a> Tree<'a> {
     }
 
     // The tag word of the root.
+    #[tactic(auto, using(crate::proofs::Views::two, crate::proofs::Views::tag_there))]
     fn tag(self) -> u64
         ensures { result ≡ tag_of (tree_of self.entry.words.now) }
     {
@@ -296,6 +293,7 @@ impl<'a> Tree<'a> {
     }
 
     // What the root is.
+    #[tactic(auto, using(crate::proofs::Views::kind_within, crate::proofs::Views::root_by_kind))]
     pub fn root(self) -> Root
         ensures { result ≡ root_of (tree_of self.entry.words.now) }
     {
@@ -314,6 +312,7 @@ impl<'a> Tree<'a> {
     }
 
     // The root's argument: a variable's number, a constant's width, a type or an operator.
+    #[tactic(auto, using(crate::proofs::Views::argument_root))]
     pub fn argument(self) -> u64
         ensures { result ≡ root_argument (tree_of self.entry.words.now) }
     {
@@ -321,6 +320,7 @@ impl<'a> Tree<'a> {
     }
 
     // A constant's value; 0 for any other root.
+    #[tactic(auto, using(crate::proofs::Views::two, crate::proofs::Views::value_there))]
     pub fn value(self) -> u64
         ensures { result ≡ value_of (tree_of self.entry.words.now) }
     {
@@ -328,6 +328,7 @@ impl<'a> Tree<'a> {
     }
 
     // What is cast.
+    #[tactic(auto, using(crate::proofs::Views::two, crate::proofs::Views::child_of))]
     pub fn child(self) -> Tree<'a>
         requires { root_of (tree_of self.words.now) ≡ Root.Cast }
         ensures tree { tree_of self.entry.words.now ≡ cast_tree (root_argument (tree_of self.entry.words.now)) (tree_of result.words.now) }
@@ -339,6 +340,7 @@ impl<'a> Tree<'a> {
     }
 
     // An operator's sides.
+    #[tactic(auto, using(crate::proofs::Views::two, crate::proofs::Views::sides_of))]
     pub fn sides(self) -> (Tree<'a>, Tree<'a>)
         requires { root_of (tree_of self.words.now) ≡ Root.Binary }
         ensures tree { tree_of self.entry.words.now ≡ binary_tree (root_argument (tree_of self.entry.words.now)) (tree_of result.0.words.now) (tree_of result.1.words.now) }
@@ -357,6 +359,7 @@ impl<'a> Tree<'a> {
     }
 
     // A ternary's condition and its two arms.
+    #[tactic(auto, using(crate::proofs::Views::two, crate::proofs::Views::front_of, crate::proofs::Views::arms_of))]
     pub fn arms(self) -> (Tree<'a>, Tree<'a>, Tree<'a>)
         requires { root_of (tree_of self.words.now) ≡ Root.Ternary }
         ensures tree { tree_of self.entry.words.now ≡ ternary_tree (tree_of result.0.words.now) (tree_of result.1.words.now) (tree_of result.2.words.now) }
@@ -382,15 +385,13 @@ impl<'a> Tree<'a> {
     fn has_kind(self, k: u64) -> bool
         ensures { result ≡ any_tag (of_kind k) self.entry.words.now }
     {
-        for record in self.words.chunks_exact(2) {
-            if kind(record[0]) == k {
-                return true;
-            }
-        }
-        false
+        self.words
+            .chunks_exact(2)
+            .any(|record| kind(record[0]) == k)
     }
 
     // Whether something with a value of its own at each occurrence stands in the tree.
+    #[tactic(auto, using(crate::proofs::Scans::any_effect))]
     pub fn has_own_value(self) -> bool
         ensures { result ≡ has_own_value (tree_of self.entry.words.now) }
     {
@@ -398,6 +399,7 @@ impl<'a> Tree<'a> {
     }
 
     // Whether a load stands in the tree.
+    #[tactic(auto, using(crate::proofs::Scans::any_load))]
     fn has_load(self) -> bool
         ensures { result ≡ has_load (tree_of self.entry.words.now) }
     {
@@ -415,13 +417,8 @@ impl<'a> Tree<'a> {
     pub fn reads(self, v: u64) -> bool
         ensures { result ≡ reads_of v (tree_of self.entry.words.now) }
     {
-        for record in self.words.chunks_exact(2) {
-            let tag = record[0];
-            if (kind(tag) == VARIABLE) & (argument(tag) == v) {
-                return true;
-            }
-        }
-        false
+        self.words.chunks_exact(2).any(|record| (kind(record[0]) == VARIABLE)
+            & (argument(record[0]) == v))
     }
 
     // The static type of the tree, given its variables' types: one pass over the records, with the types of the trees that are complete so far
@@ -443,6 +440,7 @@ impl<'a> Tree<'a> {
     }
 
     // Whether two trees are the same, record for record.
+    #[tactic(auto, using(crate::proofs::Sameness::equal_words))]
     pub fn same(self, other: Tree) -> bool
         ensures { result ≡ same_tree (tree_of self.entry.words.now) (tree_of other.entry.words.now) }
     {
