@@ -23,7 +23,7 @@ pub enum Root {
     Ternary = 8,
 }
 
-// The numbers alone, as a record is read and a tag word is matched, and how many there are.
+// The numbers alone, which tag words and bytes of a sheet are compared with, and how many there are.
 pub const VARIABLE: u64 = Root::Variable as u64;
 
 pub const CONSTANT: u64 = Root::Constant as u64;
@@ -44,7 +44,8 @@ pub const TERNARY: u64 = Root::Ternary as u64;
 
 pub const KINDS: u64 = 9;
 
-// Types, and how many there are. Numbers, as every function here takes any number for a type or an operator.
+// Types, and how many there are. Numbers, as are operators: every function here has an answer for any number, and a sheet's bytes are
+// used as they stand. Enums would need a conversion that may fail at each byte, and the fact at each use that it did not.
 pub const SIGNED_8: u64 = 0;
 
 pub const SIGNED_16: u64 = 1;
@@ -67,8 +68,9 @@ pub const BOOL: u64 = 9;
 
 pub const TYPES: u64 = 10;
 
-// A number that is no type.
-pub const NO_TYPE: u64 = 10;
+// A number that is no type, given for a width, an operator or a kind that there is not. An `Option` would stand in every function here,
+// and be unwrapped where reading has let no such number through.
+pub const NO_TYPE: u64 = TYPES;
 
 // Operators, in `BinaryOp` order, and how many there are.
 pub const ADD: u64 = 0;
@@ -233,7 +235,9 @@ pub fn binary_type(operator: u64, a: u64, b: u64) -> u64
 pub fn variable_type(types: &[u8], number: u64) -> u64
     ensures { result ≡ get_or types.now number signed8 }
 {
-    types.get(number as usize).map_or(SIGNED_8, |t| u64::from(*t))
+    types
+        .get(number as usize)
+        .map_or(SIGNED_8, |t| u64::from(*t))
 }
 
 // The type of the tree that a record makes, from the types of its last child, b, and of the one before, a.
@@ -253,8 +257,8 @@ fn record_type(tag: u64, types: &[u8], a: u64, b: u64) -> u64
     }
 }
 
-// Where the last tree of a list of trees starts: from the end back, with the number of trees that are still to be passed. The
-// count ends it, and not the words.
+// Where the last tree of a list of trees starts: from the end back, with the number of trees that are still to be passed. That count
+// ends it, and not the words: a `for` over the records would have to be left from inside, and to say what holds if they run out.
 fn last_start(rs: &[u64]) -> usize
     requires trees { Trees rs.now }
     requires bound { 1 ≤ tree_count rs.now }
@@ -423,6 +427,8 @@ impl<'a> Tree<'a> {
 
     // The static type of the tree, given its variables' types: one pass over the records, with the types of the trees that are complete so far
     // on a stack above two empty entries.
+    // The stack is not the one with which sheets are read: any number may be a type here, which takes entries of 64 bits, and with those
+    // reading nodes takes 3 to 5 in a hundred longer.
     pub fn static_type(self, types: &[u8]) -> u64
         requires { length self.words.now ≤ 256 }
         ensures { result ≡ type_of types.now (tree_of self.entry.words.now) }
