@@ -1,19 +1,17 @@
 -- What is held, slot by slot: what stands where, what ends, and what is held instead.
-use Prim.Native.Nat.{ℕ, zero, suc, ◌+◌, ◌*◌, ◌%◌, ◌≤◌, ◌<◌}
+use Prim.Native.Nat.{ℕ, zero, suc, ◌+◌, ◌*◌, ◌≤◌, ◌<◌}
 use mathlib.Core.Path.{◌≡◌, refl, sym, ap, fun_ext, ◌∙◌}
 use mathlib.Core.Bool.{Bool, true, false, cond, not, ◌&&◌, ◌||◌}
 use mathlib.Core.List.{List, [], ◌∷◌}
 use native.Mathlib.Decide.{dec_lt, ℕ_discrete}
 use native.Mathlib.Omega.{arith}
 use lib.Dec.{eqb, lit<}
-use lib.ListN.{length, get_or, take, drop, set, replicate}
-use lib.Seq.{get_or-take}
-use borrow.Author.Tests.{eq-eqb, ne_eqb, eqb-true, eqb-false}
+use lib.ListN.{length, get_or, take, set, replicate}
+use borrow.Author.Tests.{ne_eqb, eqb-true, eqb-false}
 use Rattle.expr.specs.Codes.{kind_variable}
-use Rattle.expr.specs.Tree.{Expr, Wf, tree_of, tag_of, kind_of, argument_of}
+use Rattle.expr.specs.Tree.{Expr, Wf, tree_of, tag_of, kind_of}
 use Rattle.expr.specs.Tree.Expr.{variable, constant, condition_true, condition_false, effect, load, cast, binary, ternary}
-use Rattle.expr.specs.Scan.{any_node, any_tag}
-use Rattle.expr.proofs.Laws.{kind-of, argument-of, wf-two, flat-even}
+use Rattle.expr.proofs.Laws.{kind-of, argument-of, wf-two}
 use Rattle.substitution.specs.declared.slot.Slot.{Slot}
 use Rattle.substitution.specs.Substitution.{Entry, free, held, Table, nothing_held, entry_reads, kept, ended, holdable, entry_of, assigned}
 use Rattle.substitution.specs.Held.{entry_in, table_in, ended_tag}

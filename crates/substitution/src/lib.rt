@@ -19,7 +19,7 @@ fn pending(left: u64, tag: u64) -> u64
     ensures { result ≡ pending_after left tag }
 {
     if left == 0 {
-        if expr::kind(tag) == expr::LOAD { 1 } else { 0 }
+        u64::from(expr::kind(tag) == expr::LOAD)
     } else {
         left - 1 + expr::arity(tag)
     }
@@ -113,12 +113,12 @@ impl<const N: usize> Held<N> {
         if expr::kind(tag) != expr::VARIABLE || w == v {
             return false;
         }
-        self.slots.get(w as usize).is_some_and(|slot| -> bool
-            requires { v < N }
-            ensures { result ≡ entry_reads v (entry_in slot.entry.now) }
-        {
-            slot.reads(v)
-        })
+        self.slots.get(w as usize).is_some_and(
+            |slot| -> bool
+                requires { v < N }
+                ensures { result ≡ entry_reads v (entry_in slot.entry.now) }
+            { slot.reads(v) },
+        )
     }
 
     // Whether a value reads a variable other than v whose held value ends when v is assigned.
@@ -126,12 +126,12 @@ impl<const N: usize> Held<N> {
         requires { v < N }
         ensures { result ≡ any_node (ended v (table_of self.now)) (tree_of value.entry.words.now) }
     {
-        value.words.chunks_exact(2).any(|record| -> bool
-            requires { (v < N) × (length record.now ≡ 2) }
-            ensures { result ≡ ended_tag v (table_of self.entry.now) (get_or record.entry.now 0 0) }
-        {
-            self.is_ended(v, record[0])
-        })
+        value.words.chunks_exact(2).any(
+            |record| -> bool
+                requires { (v < N) × (length record.now ≡ 2) }
+                ensures { result ≡ ended_tag v (table_of self.entry.now) (get_or record.entry.now 0 0) }
+            { self.is_ended(v, record[0]) },
+        )
     }
 
     // Whether a substituted value that is assigned to v is held.

@@ -26,6 +26,7 @@ fn variables<const N: usize>(tree: Tree) -> [bool; N]
     let mut read = [false; N];
     for record in tree.words.chunks_exact(2) {
         if expr::kind(record[0]) == expr::VARIABLE {
+            // a test and an index: what `get_mut` leaves in the array has no name that the proof may cite
             let v = expr::argument(record[0]) as usize;
             if v < N {
                 read[v] = true;
