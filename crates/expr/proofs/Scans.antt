@@ -10,8 +10,7 @@ use Rattle.std.specs.List.{IsSubsliceAt, slice_get}
 use Rattle.std.specs.Iterator.Runs.{Run, YieldsRun, ItemsMapToExactChunks, AnyItem, AllItems}
 use native.Mathlib.Omega.{arith}
 use lib.Dec.{eqb, lit<}
-use lib.ListN.{length, get_or, drop, drop_of_length-le}
-use lib.Seq.{drop-cons, drop-drop}
+use lib.ListN.{length, get_or}
 use Rattle.expr.specs.Tree.{Expr, tag_of, own, flat, tree_of, Wf}
 use Rattle.expr.specs.Tree.Expr.{variable, constant, condition_true, condition_false, effect, load, cast, binary, ternary}
 use Rattle.expr.specs.Scan.{any_node, any_tag, has_own_value, has_load, is_effect, is_load, is_variable, of_kind, of_variable}
@@ -23,32 +22,6 @@ unfolding any_tag
 any_append p [] rest h = refl
 any_append p (t ∷ []) rest h = absurd (omega (arith, h))
 any_append p (t ∷ v ∷ ws) rest h = ap (λ (b : Bool). p t || b) (any_append p ws rest (omega (arith, h))) ∙ sym (or_assoc (p t) (any_tag p ws) (any_tag p rest))
-
-any-first : (p : ℕ → Bool) (t : ℕ) (rest : List ℕ) → any_tag p (t ∷ rest) ≡ (p t || any_tag p (drop 1 rest))
-unfolding any_tag
-any-first p t [] = sym (or-false (p t))
-any-first p t (v ∷ rest) = refl
-
--- one record of the words, and the rest
-pub any_next : (p : ℕ → Bool) (ws : List ℕ) (i : ℕ) → i < length ws → any_tag p (drop i ws) ≡ (p (get_or ws i 0) || any_tag p (drop (i + 2) ws))
-any_next p ws i h =
-    ap (any_tag p) (drop-cons ws i 0 h)
-    ∙ any-first p (get_or ws i 0) (drop (suc i) ws)
-    ∙ ap (λ (l : List ℕ). p (get_or ws i 0) || any_tag p l) (drop-drop 1 (suc i) ws ∙ ap (λ (n : ℕ). drop n ws) next)
-  where
-    next : suc i + 1 ≡ i + 2
-    next = omega arith
-
--- the record at i passes the test, or the scan goes on behind it
-pub any_here : (p : ℕ → Bool) (ws : List ℕ) (i : ℕ) → i < length ws → p (get_or ws i 0) ≡ true → any_tag p (drop i ws) ≡ true
-any_here p ws i h e = any_next p ws i h ∙ ap (λ (b : Bool). b || any_tag p (drop (i + 2) ws)) e
-
-pub any-on : (p : ℕ → Bool) (ws : List ℕ) (i : ℕ) → i < length ws → p (get_or ws i 0) ≡ false → any_tag p (drop i ws) ≡ any_tag p (drop (i + 2) ws)
-any-on p ws i h e = any_next p ws i h ∙ ap (λ (b : Bool). b || any_tag p (drop (i + 2) ws)) e
-
-pub any-end : (p : ℕ → Bool) (ws : List ℕ) (i : ℕ) → length ws ≤ i → any_tag p (drop i ws) ≡ false
-unfolding any_tag
-any-end p ws i h = ap (any_tag p) (drop_of_length-le ws h)
 
 -- a scan of whole records, from where a record passes the test, or that none does
 any-place : (p : ℕ → Bool) (ws : List ℕ) (k : ℕ) → k * 2 + 2 ≤ length ws → p (get_or ws (k * 2) 0) ≡ true → any_tag p ws ≡ true

@@ -85,9 +85,6 @@ other_slot (x ∷ rest) (suc i) s (suc k) off = other_slot rest i s k (λ z. off
 pub record Clearing {n : ℕ} (slots : List (Slot n)) (i : ℕ) : Type 0 where
   pub done : (k : ℕ) → k < i → table_in slots k ≡ free
 
-pub clear_none : {n : ℕ} (slots : List (Slot n)) → Clearing slots 0
-clear_none slots = record { done = λ k h. absurd (omega arith) }
-
 pub clear_more : {n : ℕ} {slots : List (Slot n)} {i : ℕ} (s : Slot n) → Clearing slots i → i < length slots → entry_in s ≡ free → Clearing (set slots i s) (i + 1)
 clear_more {slots} {i} s c below none = record { done = λ k h. by k h (ℕ_discrete k i) }
   where
@@ -114,9 +111,6 @@ kept_free v h k none = rw none (by (eqb k v))
 pub record Ending (v : ℕ) (h : Table) {n : ℕ} (slots : List (Slot n)) (i : ℕ) : Type 0 where
   pub done : (k : ℕ) → k < i → table_in slots k ≡ kept v h k
   pub rest : (k : ℕ) → i ≤ k → table_in slots k ≡ h k
-
-pub end_none : (v : ℕ) {n : ℕ} (slots : List (Slot n)) → Ending v (table_in slots) slots 0
-end_none v slots = record { done = λ k h. absurd (omega arith); rest = λ k h. refl }
 
 module _ {v : ℕ} {h : Table} {n : ℕ} {slots : List (Slot n)} {i : ℕ} (c : Ending v h slots i) where
   end_set : (s : Slot n) → i < length slots → entry_in s ≡ kept v h i → Ending v h (set slots i s) (i + 1)
