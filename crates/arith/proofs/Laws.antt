@@ -1,7 +1,7 @@
 -- The laws of patterns and the numbers that they stand for, over any width. Assumes nothing.
-use Rattle.std.proofs.Common.{◌≡◌, ℕ, zero, suc, ◌+◌, ◌-◌, ◌*◌, ◌/◌, ◌%◌, ◌^◌, ◌<◌, ◌≤◌, Bool, true, false, cond, not, ◌&&◌, ◌||◌, eqb, ltb, leb, List, [], ◌∷◌, get_or, ℤ, pos, negsuc, neg_ℤ, nat_abs, sym, refl, ap, ◌∙◌, ap₂, mod-lt, mod-eq_of_lt, mul_assoc, div-lt_iff_lt-mul, mul-le-mul, div-add-mod', div-le_self, arith, lit<, lit≤, pow_pos, pow_mono, ltb-false, ltb-true, le-ltb, lt-ltb, eqb-true, le-leb, leb-false, leb-true}
+use Rattle.std.proofs.Common.{◌≡◌, ℕ, zero, suc, ◌+◌, ◌-◌, ◌*◌, ◌/◌, ◌%◌, ◌^◌, ◌<◌, ◌≤◌, Bool, true, false, cond, not, ◌&&◌, ◌||◌, eqb, ltb, leb, List, [], ◌∷◌, get_or, ℤ, pos, negsuc, neg_ℤ, nat_abs, sym, refl, ap, ◌∙◌, ap₂, mod-lt, mod-eq_of_lt, mul_assoc, div-lt_iff_lt-mul, div-add-mod', div-le_self, arith, lit<, lit≤, pow_pos, pow_mono, ltb-false, ltb-true, le-ltb, lt-ltb, eqb-true, le-leb, leb-false, leb-true}
 use mathlib.Core.Bool.{beq}
-use native.Mathlib.Nat.{mod-le, mod_self, mod-add-mod, add-mod_right, le-pred_of_lt}
+use native.Mathlib.Nat.{mod-le, mod_self, mod-add-mod, add-mod_right}
 use lib.Arith.{digits_mod}
 use lib.Signed.{lt_z, le_z, non_neg, quot_z, rem_z, shr_z}
 use lib.Pow.{mod-mod-pow}
@@ -25,21 +25,21 @@ unfolding bits
 by_bits P e a b c d t =
     every P (8 ∷ 16 ∷ 32 ∷ 64 ∷ 8 ∷ 16 ∷ 32 ∷ 64 ∷ 64 ∷ 1 ∷ []) 64 (a, (b, (c, (d, (a, (b, (c, (d, (d, (e, tt)))))))))) d t
 
-pub bits-le : (t : ℕ) → bits t ≤ 64
-bits-le t = by_bits (λ (b : ℕ). b ≤ 64) (lit≤ tt) (lit≤ tt) (lit≤ tt) (lit≤ tt) (lit≤ tt) t
+pub bits_le : (t : ℕ) → bits t ≤ 64
+bits_le t = by_bits (λ (b : ℕ). b ≤ 64) (lit≤ tt) (lit≤ tt) (lit≤ tt) (lit≤ tt) (lit≤ tt) t
 
 pub bits_pos : (t : ℕ) → 1 ≤ bits t
 bits_pos t = by_bits (λ (b : ℕ). 1 ≤ b) (lit≤ tt) (lit≤ tt) (lit≤ tt) (lit≤ tt) (lit≤ tt) t
 
 -- 2 ^ bits is some 2 ^ 64 at most
 pub full : (t : ℕ) → 2 ^ bits t ≤ 2 ^ 64
-full t = pow_mono (bits-le t)
+full t = pow_mono (bits_le t)
 
 pub some : (t : ℕ) → 0 < 2 ^ bits t
 some t = pow_pos (bits t)
 
-pub mask-of : (t : ℕ) → (2 ^ 64 - 1) / 2 ^ (64 - bits t) ≡ 2 ^ bits t - 1
-mask-of t = by_bits (λ (b : ℕ). (2 ^ 64 - 1) / 2 ^ (64 - b) ≡ 2 ^ b - 1) refl refl refl refl refl t
+pub mask_of : (t : ℕ) → (2 ^ 64 - 1) / 2 ^ (64 - bits t) ≡ 2 ^ bits t - 1
+mask_of t = by_bits (λ (b : ℕ). (2 ^ 64 - 1) / 2 ^ (64 - b) ≡ 2 ^ b - 1) refl refl refl refl refl t
 
 -- what wraps at 64 bits and is then truncated wraps at the width
 pub low_bits : (t x : ℕ) → x % 2 ^ 64 % 2 ^ bits t ≡ x % 2 ^ bits t
@@ -68,10 +68,10 @@ pub multiple : (t : ℕ) → 2 ^ (64 - bits t) * 2 ^ bits t ≡ 2 ^ 64
 multiple t = by_bits (λ (b : ℕ). 2 ^ (64 - b) * 2 ^ b ≡ 2 ^ 64) refl refl refl refl refl t
 
 -- what a number leaves at 64 bits, truncated, is what it leaves at the width
-pub residue-cut : (t : ℕ) (z : ℤ) → residue (2 ^ 64) z % 2 ^ bits t ≡ residue (2 ^ bits t) z
+pub residue_cut : (t : ℕ) (z : ℤ) → residue (2 ^ 64) z % 2 ^ bits t ≡ residue (2 ^ bits t) z
 unfolding residue
-residue-cut t (pos n) = low_bits t n
-residue-cut t (negsuc n) =
+residue_cut t (pos n) = low_bits t n
+residue_cut t (negsuc n) =
     let m = 2 ^ bits t in
     let h : n % 2 ^ 64 < 2 ^ (64 - bits t) * m = rw (multiple t) (omega arith) in
     ap (λ (k : ℕ). (k - 1 - n % 2 ^ 64) % m) (sym (multiple t))
@@ -79,16 +79,16 @@ residue-cut t (negsuc n) =
     ∙ ap (λ (k : ℕ). m - 1 - k) (low_bits t n)
 
 -- the test of the top bit: above the half of the largest pattern
-pub half-test : (m x : ℕ) → 0 < m → ltb ((m - 1) / 2) x ≡ leb m (2 * x)
-half-test m x h = by (leb m (2 * x)) refl
+pub half_test : (m x : ℕ) → 0 < m → ltb ((m - 1) / 2) x ≡ leb m (2 * x)
+half_test m x h = by (leb m (2 * x)) refl
   where
     by : (b : Bool) → leb m (2 * x) ≡ b → ltb ((m - 1) / 2) x ≡ leb m (2 * x)
     by true e = let g : m ≤ 2 * x = leb-true m (2 * x) e in lt-ltb ((m - 1) / 2) x (omega arith) ∙ sym e
     by false e = let g : 2 * x < m = leb-false m (2 * x) e in le-ltb ((m - 1) / 2) x (omega arith) ∙ sym e
 
 -- at most the largest pattern is below all of them
-pub below-full : (m x : ℕ) → 0 < m → leb x (m - 1) ≡ ltb x m
-below-full m x h = by (ltb x m) refl
+pub below_full : (m x : ℕ) → 0 < m → leb x (m - 1) ≡ ltb x m
+below_full m x h = by (ltb x m) refl
   where
     by : (b : Bool) → ltb x m ≡ b → leb x (m - 1) ≡ b
     by true e = let l : x < m = ltb-true x m e in le-leb x (m - 1) (omega arith)
@@ -130,13 +130,13 @@ module _ (t x : ℕ) where
     magnitude-lt = by_sign (λ (b : Bool) (z : ℤ). nat_abs z < 2 ^ bits t) (λ e. omega (arith, upper e, some t)) (λ e. h)
 
     -- the sign copied up to 64 bits
-    pub widened-negative : (m : ℕ) → m ≡ 2 ^ bits t - 1 → negative t x ≡ true → x + (2 ^ 64 - 1 - m) ≡ residue (2 ^ 64) (number t x)
+    pub widened_negative : (m : ℕ) → m ≡ 2 ^ bits t - 1 → negative t x ≡ true → x + (2 ^ 64 - 1 - m) ≡ residue (2 ^ 64) (number t x)
     unfolding residue
-    widened-negative m e n = rw (number-negative n) (omega (arith, full t))
+    widened_negative m e n = rw (number-negative n) (omega (arith, full t))
 
-    pub widened-plain : negative t x ≡ false → x ≡ residue (2 ^ 64) (number t x)
+    pub widened_plain : negative t x ≡ false → x ≡ residue (2 ^ 64) (number t x)
     unfolding residue
-    widened-plain n = rw (number-plain n) (omega (arith, full t))
+    widened_plain n = rw (number-plain n) (omega (arith, full t))
 
 -- the pattern of a negation
 pub negation : (m x : ℕ) → x < m → (0 + (m - x)) % m ≡ residue m (neg_ℤ (pos x))
@@ -173,17 +173,17 @@ remainder-signs (negsuc a) b = refl
 
 -- a division by magnitudes, x of a and y of b
 module _ (t a b : ℕ) {x y : ℕ} (left : a < 2 ^ bits t) (x-is : x ≡ nat_abs (number t a)) (y-is : y ≡ nat_abs (number t b)) where
-  pub divisor-positive : (b ≡ 0 → ⊥) → 0 < y
-  divisor-positive h = rw y-is (by_sign t b (λ (n : Bool) (z : ℤ). 0 < nat_abs z) (λ e. omega arith) (λ e. omega arith))
+  pub divisor_positive : (b ≡ 0 → ⊥) → 0 < y
+  divisor_positive h = rw y-is (by_sign t b (λ (n : Bool) (z : ℤ). 0 < nat_abs z) (λ e. omega arith) (λ e. omega arith))
 
   dividend-lt : x < 2 ^ bits t
   dividend-lt = rw x-is (magnitude-lt t a left)
 
-  pub quotient-lt : x / y < 2 ^ bits t
-  quotient-lt = omega (arith, div-le_self x y, dividend-lt)
+  pub quotient_lt : x / y < 2 ^ bits t
+  quotient_lt = omega (arith, div-le_self x y, dividend-lt)
 
-  pub remainder-lt : x % y < 2 ^ bits t
-  remainder-lt = omega (arith, mod-le x y, dividend-lt)
+  pub remainder_lt : x % y < 2 ^ bits t
+  remainder_lt = omega (arith, mod-le x y, dividend-lt)
 
   pub quotient_is : {na nb : Bool} {q : ℕ} → na ≡ negative t a → nb ≡ negative t b
       → q ≡ wrap t (cond (not (beq na nb)) (neg_ℤ (pos (x / y))) (pos (x / y))) → q ≡ quotient t a b
@@ -195,8 +195,8 @@ module _ (t a b : ℕ) {x y : ℕ} (left : a < 2 ^ bits t) (x-is : x ≡ nat_abs
   remainder_is {na} {r} f e = e ∙ rw (f ∙ sign-is t a, x-is, y-is) (ap (wrap t) (sym (remainder-signs (number t a) (number t b))))
 
 -- a difference at 64 bits, truncated
-pub difference-wraps : (t a b s : ℕ) → b < 2 ^ bits t → (s + b) % 2 ^ 64 ≡ a → s % 2 ^ bits t ≡ (a + (2 ^ bits t - b)) % 2 ^ bits t
-difference-wraps t a b s h e =
+pub difference_wraps : (t a b s : ℕ) → b < 2 ^ bits t → (s + b) % 2 ^ 64 ≡ a → s % 2 ^ bits t ≡ (a + (2 ^ bits t - b)) % 2 ^ bits t
+difference_wraps t a b s h e =
     let m = 2 ^ bits t in
     let same : s + b + (m - b) ≡ s + m = omega arith in
     sym (add-mod_right s m)
@@ -206,9 +206,9 @@ difference-wraps t a b s h e =
     ∙ mod-add-mod a m (m - b)
 
 -- a negative value is shifted as its complement
-pub shift-negative : (t a k m : ℕ) → m ≡ 2 ^ bits t - 1 → a < 2 ^ bits t → negative t a ≡ true → m - (m - a) / 2 ^ k ≡ shift_right t a k
+pub shift_negative : (t a k m : ℕ) → m ≡ 2 ^ bits t - 1 → a < 2 ^ bits t → negative t a ≡ true → m - (m - a) / 2 ^ k ≡ shift_right t a k
 unfolding shift_right residue
-shift-negative t a k m e h n =
+shift_negative t a k m e h n =
     rw (number-negative t a n)
     (ap₂ (λ (u v : ℕ). u - v / 2 ^ k) e f ∙ ap (λ (v : ℕ). 2 ^ bits t - 1 - v) (sym (mod-eq_of_lt small)))
   where
@@ -218,9 +218,9 @@ shift-negative t a k m e h n =
     small : (2 ^ bits t - suc a) / 2 ^ k < 2 ^ bits t
     small = omega (arith, div-le_self (2 ^ bits t - suc a) (2 ^ k), some t)
 
-pub shift-plain : (t a k : ℕ) → a < 2 ^ bits t → negative t a ≡ false → a / 2 ^ k ≡ shift_right t a k
+pub shift_plain : (t a k : ℕ) → a < 2 ^ bits t → negative t a ≡ false → a / 2 ^ k ≡ shift_right t a k
 unfolding shift_right residue
-shift-plain t a k h n = rw (number-plain t a n) (sym (mod-eq_of_lt (omega (arith, div-le_self a (2 ^ k)))))
+shift_plain t a k h n = rw (number-plain t a n) (sym (mod-eq_of_lt (omega (arith, div-le_self a (2 ^ k)))))
 
 -- every width divides 2 ^ 8, and 2 ^ 8 every signed type's 2 ^ bits
 width-divides : (t : ℕ) → 256 / bits t * bits t ≡ 256
@@ -259,10 +259,10 @@ ltb-mirror m a b ha hb = by (ltb a b) refl
     by false e = let g : b ≤ a = ltb-false a b e in le-ltb (m - suc b) (m - suc a) (omega arith) ∙ sym e
 
 -- the order of numbers by their signs and patterns
-pub below-is : (t a b : ℕ) (na nb : Bool) → na ≡ negative t a → nb ≡ negative t b → a < 2 ^ bits t → b < 2 ^ bits t
+pub below_is : (t a b : ℕ) (na nb : Bool) → na ≡ negative t a → nb ≡ negative t b → a < 2 ^ bits t → b < 2 ^ bits t
     → (na && not nb || (na || not nb) && ltb a b) ≡ below t a b
 unfolding below
-below-is t a b na nb ea eb ha hb =
+below_is t a b na nb ea eb ha hb =
     rw (ea, eb)
     (by_sign t a (λ (u : Bool) (z : ℤ). (u && not (negative t b) || (u || not (negative t b)) && ltb a b) ≡ lt_z z (number t b))
     (λ e. by_sign t b (λ (v : Bool) (z : ℤ). (true && not v || (true || not v) && ltb a b) ≡ lt_z (negsuc (2 ^ bits t - suc a)) z)
@@ -289,18 +289,6 @@ le-lt (negsuc a) (negsuc b) = leb-ltb b a
 pub at-most : (t a b : ℕ) → at_most t a b ≡ not (below t b a)
 unfolding at_most below
 at-most t a b = le-lt (number t a) (number t b)
-
--- halves: the product of two 32-bit numbers has 64 bits, and the high halves' product leaves nothing
-pub halves-fit : (a b : ℕ) → a < 2 ^ 32 → b < 2 ^ 32 → a * b < 2 ^ 64
-halves-fit a b ha hb = omega (arith, mul-le-mul (le-pred_of_lt ha) (le-pred_of_lt hb))
-
-pub product-halves : (a b : ℕ) → (a % 2 ^ 32 * (b % 2 ^ 32) + (a / 2 ^ 32 * (b % 2 ^ 32) + a % 2 ^ 32 * (b / 2 ^ 32)) % 2 ^ 64 % 2 ^ 32 * 2 ^ 32) % 2 ^ 64 ≡ a * b % 2 ^ 64
-product-halves a b =
-    by (a / 2 ^ 32) (a % 2 ^ 32) (b / 2 ^ 32) (b % 2 ^ 32)
-    ∙ ap₂ (λ (u v : ℕ). u * v % 2 ^ 64) (div-add-mod' a (2 ^ 32)) (div-add-mod' b (2 ^ 32))
-  where
-    by : (ah al bh bl : ℕ) → (al * bl + (ah * bl + al * bh) % 2 ^ 64 % 2 ^ 32 * 2 ^ 32) % 2 ^ 64 ≡ (ah * 2 ^ 32 + al) * (bh * 2 ^ 32 + bl) % 2 ^ 64
-    by ah al bh bl = omega arith
 
 -- every result is a pattern of its type
 pub residue-lt : (m : ℕ) (z : ℤ) → 0 < m → residue m z < m
@@ -340,4 +328,4 @@ convert-lt s t x = by (eqb t 9) refl
 
 pub count-lt : (t s x : ℕ) → count t s x < 64
 unfolding count
-count-lt t s x = omega (arith, residue-lt (bits t) (number s x) (bits_pos t), bits-le t)
+count-lt t s x = omega (arith, residue-lt (bits t) (number s x) (bits_pos t), bits_le t)

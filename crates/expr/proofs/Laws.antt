@@ -136,10 +136,6 @@ trees-flats s = ap flats (parse-of-flats s)
 pub wf-parse : (ws : List ℕ) → Wf ws → parse [] ws ≡ tree_of ws ∷ []
 wf-parse ws h = ap (parse []) (sym h) ∙ parse-of-flat (tree_of ws)
 
-pub wf-trees : (ws : List ℕ) → Wf ws → Trees ws
-unfolding Trees flats
-wf-trees ws h = ap flats (wf-parse ws h) ∙ h
-
 one-tree : (ws : List ℕ) (s : List Expr) → flats s ≡ ws → length s ≡ 1 → flat (child s 0) ≡ ws
 unfolding flats
 one-tree ws [] e n = absurd (omega (arith, n))
@@ -315,11 +311,3 @@ wf-even ws h = rw (← h) (flat-even (tree_of ws))
 
 pub wf-two : (ws : List ℕ) → Wf ws → 2 ≤ length ws
 wf-two ws h = rw (← h) (flat-two (tree_of ws))
-
--- trees after trees
-pub parse-join : (a b : List ℕ) → Trees a → Trees b → parse [] (a ++ b) ≡ parse [] b ++ parse [] a
-unfolding Trees
-parse-join a b h k =
-    ap₂ (λ (x y : List ℕ). parse [] (x ++ y)) (sym h) (sym k)
-    ∙ ap (parse []) (sym (flats-append (parse [] b) (parse [] a)))
-    ∙ parse-of-flats (parse [] b ++ parse [] a)

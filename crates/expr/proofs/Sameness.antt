@@ -36,5 +36,5 @@ pointwise-words [] (y ∷ b) = refl
 pointwise-words (x ∷ a) [] = refl
 pointwise-words (x ∷ a) (y ∷ b) = ap (λ (p : Bool). eqb x y && p) (pointwise-words a b)
 
-pub equal-words : (a b : List ℕ) → Wf a → Wf b → pointwise eqb a b ≡ same_tree (tree_of a) (tree_of b)
-equal-words a b h k = pointwise-words a b ∙ sym (same-words a b h k)
+pub equal_words : (a b : List ℕ) → Wf a → Wf b → pointwise eqb a b ≡ same_tree (tree_of a) (tree_of b)
+equal_words a b h k = pointwise-words a b ∙ sym (same-words a b h k)

@@ -2,14 +2,18 @@
 use mathlib.Core.Path.{◌≡◌, refl, sym, ap, ap₂, ◌∙◌}
 use mathlib.Core.Bool.{Bool, true, false, ◌&&◌, ◌||◌, or-false, or_assoc, or_comm}
 use mathlib.Core.List.{List, [], ◌∷◌, ◌++◌}
-use Prim.Native.Nat.{ℕ, ◌+◌, ◌*◌, ◌%◌, ◌<◌, suc, ◌≤◌}
+use Prim.Native.Nat.{ℕ, ◌+◌, ◌*◌, ◌%◌, ◌<◌, zero, suc, ◌≤◌}
+use denote.Ref.{Bor}
+use Rattle.std.specs.Bool.{MatchBool}
+use Rattle.std.specs.Prelude.{Option, None, Some, IfSome, IsSomeAnd}
+use Rattle.std.specs.List.{IsSubsliceAt, slice_get}
+use Rattle.std.specs.Iterator.Runs.{Run, YieldsRun, ItemsMapToExactChunks, AnyItem, AllItems}
 use native.Mathlib.Omega.{arith}
 use lib.Dec.{eqb, lit<}
-use lib.ListN.{length, get_or, length-append, drop, drop_of_length-le}
-use lib.Seq.{drop-cons, drop-drop}
+use lib.ListN.{length, get_or}
 use Rattle.expr.specs.Tree.{Expr, tag_of, own, flat, tree_of, Wf}
 use Rattle.expr.specs.Tree.Expr.{variable, constant, condition_true, condition_false, effect, load, cast, binary, ternary}
-use Rattle.expr.specs.Scan.{any_node, any_tag, is_effect, is_load, is_variable, of_kind, of_variable}
+use Rattle.expr.specs.Scan.{any_node, any_tag, has_own_value, has_load, is_effect, is_load, is_variable, of_kind, of_variable}
 use Rattle.expr.proofs.Laws.{kind-of, argument-of, flat-even}
 
 -- words after whole records
@@ -19,71 +23,56 @@ any_append p [] rest h = refl
 any_append p (t ∷ []) rest h = absurd (omega (arith, h))
 any_append p (t ∷ v ∷ ws) rest h = ap (λ (b : Bool). p t || b) (any_append p ws rest (omega (arith, h))) ∙ sym (or_assoc (p t) (any_tag p ws) (any_tag p rest))
 
-any-first : (p : ℕ → Bool) (t : ℕ) (rest : List ℕ) → any_tag p (t ∷ rest) ≡ (p t || any_tag p (drop 1 rest))
+-- a scan of whole records, from where a record passes the test, or that none does
+any-place : (p : ℕ → Bool) (ws : List ℕ) (k : ℕ) → k * 2 + 2 ≤ length ws → p (get_or ws (k * 2) 0) ≡ true → any_tag p ws ≡ true
 unfolding any_tag
-any-first p t [] = sym (or-false (p t))
-any-first p t (v ∷ rest) = refl
+any-place p [] k h e = absurd (omega (arith, h))
+any-place p (t ∷ []) k h e = absurd (omega (arith, h))
+any-place p (t ∷ v ∷ ws) zero h e = ap (λ (b : Bool). b || any_tag p ws) e
+any-place p (t ∷ v ∷ ws) (suc k) h e =
+    let next : suc k * 2 ≡ suc (suc (k * 2)) = omega arith in
+    ap (λ (b : Bool). p t || b) (any-place p ws k (omega (arith, h)) (rw next at e)) ∙ or_comm (p t) true
 
--- one record of the words, and the rest
-pub any_next : (p : ℕ → Bool) (ws : List ℕ) (i : ℕ) → i < length ws → any_tag p (drop i ws) ≡ (p (get_or ws i 0) || any_tag p (drop (i + 2) ws))
-any_next p ws i h =
-    ap (any_tag p) (drop-cons ws i 0 h)
-    ∙ any-first p (get_or ws i 0) (drop (suc i) ws)
-    ∙ ap (λ (l : List ℕ). p (get_or ws i 0) || any_tag p l) (drop-drop 1 (suc i) ws ∙ ap (λ (n : ℕ). drop n ws) next)
-  where
-    next : suc i + 1 ≡ i + 2
-    next = omega arith
-
--- the record at i passes the test, or the scan goes on behind it
-pub any_here : (p : ℕ → Bool) (ws : List ℕ) (i : ℕ) → i < length ws → p (get_or ws i 0) ≡ true → any_tag p (drop i ws) ≡ true
-any_here p ws i h e = any_next p ws i h ∙ ap (λ (b : Bool). b || any_tag p (drop (i + 2) ws)) e
-
-pub any-on : (p : ℕ → Bool) (ws : List ℕ) (i : ℕ) → i < length ws → p (get_or ws i 0) ≡ false → any_tag p (drop i ws) ≡ any_tag p (drop (i + 2) ws)
-any-on p ws i h e = any_next p ws i h ∙ ap (λ (b : Bool). b || any_tag p (drop (i + 2) ws)) e
-
-pub any-end : (p : ℕ → Bool) (ws : List ℕ) (i : ℕ) → length ws ≤ i → any_tag p (drop i ws) ≡ false
+none-place : (p : ℕ → Bool) (ws : List ℕ) → length ws % 2 ≡ 0 → ((k : ℕ) → k * 2 + 2 ≤ length ws → p (get_or ws (k * 2) 0) ≡ false) → any_tag p ws ≡ false
 unfolding any_tag
-any-end p ws i h = ap (any_tag p) (drop_of_length-le ws h)
+none-place p [] even f = refl
+none-place p (t ∷ []) even f = absurd (omega (arith, even))
+none-place p (t ∷ v ∷ ws) even f =
+    ap₂ (λ (a b : Bool). a || b) (f 0 (omega arith)) (none-place p ws (omega (arith, even)) (λ k h.
+    let next : suc k * 2 ≡ suc (suc (k * 2)) = omega arith in
+    rw next at (f (suc k) (omega (arith, h)))))
 
--- what a pass over the records has: a scan of all the words is one of those that are left, in records of two words
-pub record Scanned (p : ℕ → Bool) (rs rest : List ℕ) (size : ℕ) : Type 0 where
-  pub scan : any_tag p rs ≡ any_tag p rest
-  pub whole : length rest % 2 ≡ 0
-  pub two : size ≡ 2
+slice_get-none : {A : Type 0} (xs : List A) (k : ℕ) → None ≡ slice_get xs k → length xs ≤ k
+slice_get-none [] k h = omega arith
+slice_get-none (x ∷ xs) zero h = cc
+slice_get-none (x ∷ xs) (suc k) h = omega (arith, slice_get-none xs k h)
 
-module _ (p : ℕ → Bool) (rs : List ℕ) where
-  pub scan-start : {rest : List ℕ} {size : ℕ} → length rs % 2 ≡ 0 → rest ≡ rs → size ≡ 2 → Scanned p rs rest size
-  scan-start even is two = record { scan = ap (any_tag p) (sym is); whole = rw is even; two = two }
+-- what `any` over the records of words gives is their scan: chunks are what its run reads, and the test is what it asks of each
+module _ {S : Type 0} {steps : S → Option (Bor (List ℕ)) → S → Type 0} (run : Run steps) (p : ℕ → Bool) (ws : List ℕ) (chunks : ItemsMapToExactChunks run (λ x. x.now) 2 ws) where
+  abbrev pub passes : Bool → Bor (List ℕ) → Type 0
+  passes b x = p (get_or x.now 0 0) ≡ b
 
-  any-record : (r rest : List ℕ) → length r ≡ 2 → any_tag p (r ++ rest) ≡ (p (get_or r 0 0) || any_tag p rest)
-  unfolding any_tag
-  any-record [] rest h = absurd (omega (arith, h))
-  any-record (t ∷ []) rest h = absurd (omega (arith, h))
-  any-record (t ∷ v ∷ []) rest h = refl
-  any-record (t ∷ v ∷ u ∷ r) rest h = absurd (omega (arith, h))
+  abbrev Record : ℕ → Bor (List ℕ) → Type 0
+  Record k x = (length x.now ≡ 2) × (k * 2 + 2 ≤ length ws) × IsSubsliceAt 2 ws (k * 2) x.now
 
-  any-empty : (rest : List ℕ) → length rest < 2 → length rest % 2 ≡ 0 → any_tag p rest ≡ false
-  unfolding any_tag
-  any-empty [] h e = refl
-  any-empty (t ∷ []) h e = absurd (omega (arith, e))
-  any-empty (t ∷ v ∷ rest) h e = absurd (omega (arith, h))
+  record-passes : (b : Bool) (k : ℕ) (o : Option (Bor (List ℕ))) → IfSome o (Record k) → IsSomeAnd o (passes b) → (k * 2 + 2 ≤ length ws) × (p (get_or ws (k * 2) 0) ≡ b)
+  record-passes b k None at t = absurd t
+  record-passes b k (Some x) at t =
+      let first : k * 2 + 0 ≡ k * 2 = omega arith in
+      (at.1, sym (ap p (rw first at (at.2.2 0 0 (lit< tt)))) ∙ t)
 
-  module _ {rest : List ℕ} {size : ℕ} (h : Scanned p rs rest size) where
-    -- the next record passes the test, or the scan goes on behind it
-    pub scan-here : (r after : List ℕ) → rest ≡ r ++ after → length r ≡ size → p (get_or r 0 0) ≡ true → true ≡ any_tag p rs
-    scan-here r after is long e = sym (h.scan ∙ ap (any_tag p) is ∙ any-record r after (long ∙ h.two) ∙ ap (λ (b : Bool). b || any_tag p after) e)
+  here : (k : ℕ) → k < run.len → (o : Option (Bor (List ℕ))) → o ≡ run.at k → IfSome o (passes false) → IsSomeAnd o (passes false)
+  unfolding YieldsRun
+  here k l None is t = absurd (omega (arith, slice_get-none run.items k (is ∙ run.gave.1 k), run.long, l))
+  here k l (Some x) is t = t
 
-    pub scan-on : (r after : List ℕ) {size' : ℕ} → rest ≡ r ++ after → length r ≡ size → size' ≡ size → p (get_or r 0 0) ≡ false
-        → Scanned p rs after size'
-    scan-on r after is long same e =
-        record {
-          scan = h.scan ∙ ap (any_tag p) is ∙ any-record r after (long ∙ h.two) ∙ ap (λ (b : Bool). b || any_tag p after) e;
-          whole = omega (arith, h.whole, h.two, long, ap length is, length-append r after);
-          two = same ∙ h.two;
-        }
-
-    pub scan-end : length rest < size → false ≡ any_tag p rs
-    scan-end less = sym (h.scan ∙ any-empty rest (rw h.two at less) h.whole)
+  pub any-run : (r : Bool) → length ws % 2 ≡ 0 → MatchBool r (AnyItem run (passes true)) ((run.whole ≡ true) × AllItems run (passes false)) → r ≡ any_tag p ws
+  any-run true even h =
+      let f = record-passes true h.0 (run.at h.0) (chunks.2 h.0) h.2 in sym (any-place p ws h.0 f.0 f.1)
+  any-run false even h =
+      sym (none-place p ws even (λ k l.
+      let few : k < run.len = omega (arith, chunks.1 h.0, l) in
+      (record-passes false k (run.at k) (chunks.2 k) (here k few (run.at k) refl (h.1 k))).1))
 
 turn : (a b r : Bool) → (a || (b || r)) ≡ (r || (a || b))
 turn a b r = sym (or_assoc a b r) ∙ or_comm (a || b) r
@@ -123,7 +112,7 @@ module _ (p : ℕ → Bool) (q : Expr → Bool) (agree : (e : Expr) → q e ≡ 
 kind-eq : (k a j : ℕ) → k < 16 → eqb k j ≡ of_kind j (k + 16 * a)
 kind-eq k a j h = rw (kind-of k a h)
 
-pub effect-tag : (e : Expr) → is_effect e ≡ of_kind 4 (tag_of e)
+effect-tag : (e : Expr) → is_effect e ≡ of_kind 4 (tag_of e)
 unfolding is_effect tag_of
 effect-tag (variable n) = kind-eq 0 n 4 (lit< tt)
 effect-tag (constant w x) = kind-eq 1 w 4 (lit< tt)
@@ -146,6 +135,13 @@ load-tag (load t a) = kind-eq 5 t 5 (lit< tt)
 load-tag (cast t a) = kind-eq 6 t 5 (lit< tt)
 load-tag (binary o a b) = kind-eq 7 o 5 (lit< tt)
 load-tag (ternary c a b) = refl
+
+-- an effect or a load stands in a tree where a record of its kind stands among the words
+pub any_effect : (ws : List ℕ) → Wf ws → any_tag (of_kind 4) ws ≡ has_own_value (tree_of ws)
+any_effect = any-tree (of_kind 4) is_effect effect-tag
+
+pub any_load : (ws : List ℕ) → Wf ws → any_tag (of_kind 5) ws ≡ has_load (tree_of ws)
+any_load = any-tree (of_kind 5) is_load load-tag
 
 variable-eq : (k a v : ℕ) → k < 16 → (eqb k 0 && eqb a v) ≡ of_variable v (k + 16 * a)
 variable-eq k a v h = rw (kind-of k a h, argument-of k a h)

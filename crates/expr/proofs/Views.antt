@@ -53,41 +53,45 @@ number-named Cast = refl
 number-named Binary = refl
 number-named Ternary = refl
 
-pub root-named : (e : Expr) (k : ℕ) → k ≡ kind_of (tag_of e) → named k ≡ root_of e
-root-named e k h = ap named (h ∙ kind-number e) ∙ number-named (root_of e)
+pub root_by_kind : (e : Expr) → root_of e ≡ named (kind_of (tag_of e))
+root_by_kind e = sym (ap named (kind-number e) ∙ number-named (root_of e))
 
-pub argument-root : (e : Expr) → argument_of (tag_of e) ≡ root_argument e
+pub argument_root : (e : Expr) → argument_of (tag_of e) ≡ root_argument e
 unfolding tag_of root_argument
-argument-root (variable n) = argument-of 0 n (lit< tt)
-argument-root (constant w x) = argument-of 1 w (lit< tt)
-argument-root condition_true = refl
-argument-root condition_false = refl
-argument-root (effect t) = argument-of 4 t (lit< tt)
-argument-root (load t a) = argument-of 5 t (lit< tt)
-argument-root (cast t a) = argument-of 6 t (lit< tt)
-argument-root (binary o a b) = argument-of 7 o (lit< tt)
-argument-root (ternary c a b) = refl
+argument_root (variable n) = argument-of 0 n (lit< tt)
+argument_root (constant w x) = argument-of 1 w (lit< tt)
+argument_root condition_true = refl
+argument_root condition_false = refl
+argument_root (effect t) = argument-of 4 t (lit< tt)
+argument_root (load t a) = argument-of 5 t (lit< tt)
+argument_root (cast t a) = argument-of 6 t (lit< tt)
+argument_root (binary o a b) = argument-of 7 o (lit< tt)
+argument_root (ternary c a b) = refl
 
 module _ (ws : List ℕ) (w : Wf ws) where
+  -- the root's two words, by a name that code can say
+  pub two : 2 ≤ length ws
+  two = wf-two ws w
+
   place : length ws - 2 + 2 ≡ length ws
   place = root-place ws w
 
-  pub tag-there : get_or ws (length ws - 2) 0 ≡ tag_of (tree_of ws)
-  tag-there = (root ws (length ws - 2) w place).tag
+  pub tag_there : get_or ws (length ws - 2) 0 ≡ tag_of (tree_of ws)
+  tag_there = (root ws (length ws - 2) w place).tag
 
-  pub value-there : get_or ws (length ws - 1) 0 ≡ value_of (tree_of ws)
-  value-there =
+  pub value_there : get_or ws (length ws - 1) 0 ≡ value_of (tree_of ws)
+  value_there =
       let last : length ws - 1 ≡ length ws - 2 + 1 = omega (arith, wf-two ws w) in
       ap (λ (i : ℕ). get_or ws i 0) last ∙ (root ws (length ws - 2) w place).value
 
-  pub kind-within : kind_of (tag_of (tree_of ws)) ≤ 8
-  kind-within = rw tag-there at (root-formed ws (length ws - 2) w place).kind
+  pub kind_within : kind_of (tag_of (tree_of ws)) ≤ 8
+  kind_within = rw tag_there at (root-formed ws (length ws - 2) w place).kind
 
   kind-there : (r : Root) → root_of (tree_of ws) ≡ r → get_or ws (length ws - 2) 0 % 16 ≡ number r
-  kind-there r h = ap kind_of tag-there ∙ kind-number (tree_of ws) ∙ ap number h
+  kind-there r h = ap kind_of tag_there ∙ kind-number (tree_of ws) ∙ ap number h
 
   argument-there : get_or ws (length ws - 2) 0 / 16 ≡ root_argument (tree_of ws)
-  argument-there = ap argument_of tag-there ∙ argument-root (tree_of ws)
+  argument-there = ap argument_of tag_there ∙ argument_root (tree_of ws)
 
   pub child_of : root_of (tree_of ws) ≡ Cast → OneChild ws (length ws - 2) (cast (root_argument (tree_of ws)))
   child_of h = rw argument-there at (cast-child ws (length ws - 2) w place (kind-there Cast h))

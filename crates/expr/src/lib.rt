@@ -9,28 +9,43 @@ ghost use Rattle.expr.specs.Root.{root_of, root_argument};
 ghost use Rattle.expr.specs.Scan.{has_own_value, has_load, plain_expr, reads as reads_of, any_tag, of_kind, same_tree};
 ghost use Rattle.expr.specs.Types.{bits, promoted as promoted_of, common as common_of, plain_type, same_type, together, constant_type, binary_type, record_type, type_of};
 
-// Kinds of records, and how many there are.
-pub const VARIABLE: u64 = 0;
+// What the root of a tree is, with the number that its kind of record has in a tag word.
+#[derive(Clone, Copy, PartialEq, Eq, Debug)]
+pub enum Root {
+    Variable = 0,
+    Constant = 1,
+    True = 2,
+    False = 3,
+    Effect = 4,
+    Load = 5,
+    Cast = 6,
+    Binary = 7,
+    Ternary = 8,
+}
 
-pub const CONSTANT: u64 = 1;
+// The numbers alone, which tag words and bytes of a sheet are compared with, and how many there are.
+pub const VARIABLE: u64 = Root::Variable as u64;
 
-pub const TRUE: u64 = 2;
+pub const CONSTANT: u64 = Root::Constant as u64;
 
-pub const FALSE: u64 = 3;
+pub const TRUE: u64 = Root::True as u64;
 
-pub const EFFECT: u64 = 4;
+pub const FALSE: u64 = Root::False as u64;
 
-pub const LOAD: u64 = 5;
+pub const EFFECT: u64 = Root::Effect as u64;
 
-pub const CAST: u64 = 6;
+pub const LOAD: u64 = Root::Load as u64;
 
-pub const BINARY: u64 = 7;
+pub const CAST: u64 = Root::Cast as u64;
 
-pub const TERNARY: u64 = 8;
+pub const BINARY: u64 = Root::Binary as u64;
+
+pub const TERNARY: u64 = Root::Ternary as u64;
 
 pub const KINDS: u64 = 9;
 
-// Types, and how many there are. Numbers, as every function here takes any number for a type or an operator.
+// Types, and how many there are. Numbers, as are operators: every function here has an answer for any number, and a sheet's bytes are
+// used as they stand. Enums would need a conversion that may fail at each byte, and the fact at each use that it did not.
 pub const SIGNED_8: u64 = 0;
 
 pub const SIGNED_16: u64 = 1;
@@ -53,8 +68,9 @@ pub const BOOL: u64 = 9;
 
 pub const TYPES: u64 = 10;
 
-// A number that is no type.
-pub const NO_TYPE: u64 = 10;
+// A number that is no type, given for a width, an operator or a kind that there is not. An `Option` would stand in every function here,
+// and be unwrapped where reading has let no such number through.
+pub const NO_TYPE: u64 = TYPES;
 
 // Operators, in `BinaryOp` order, and how many there are.
 pub const ADD: u64 = 0;
@@ -219,11 +235,9 @@ pub fn binary_type(operator: u64, a: u64, b: u64) -> u64
 pub fn variable_type(types: &[u8], number: u64) -> u64
     ensures { result ≡ get_or types.now number signed8 }
 {
-    let i = number as usize;
-    if i < types.len() {
-        return types[i] as u64;
-    }
-    SIGNED_8
+    types
+        .get(number as usize)
+        .map_or(SIGNED_8, |t| u64::from(*t))
 }
 
 // The type of the tree that a record makes, from the types of its last child, b, and of the one before, a.
@@ -243,8 +257,8 @@ fn record_type(tag: u64, types: &[u8], a: u64, b: u64) -> u64
     }
 }
 
-// Where the last tree of a list of trees starts: from the end back, with the number of trees that are still to be passed. The
-// count ends it, and not the words.
+// Where the last tree of a list of trees starts: from the end back, with the number of trees that are still to be passed. That count
+// ends it, and not the words: a `for` over the records would have to be left from inside, and to say what holds if they run out.
 fn last_start(rs: &[u64]) -> usize
     requires trees { Trees rs.now }
     requires bound { 1 ≤ tree_count rs.now }
@@ -257,20 +271,6 @@ fn last_start(rs: &[u64]) -> usize
         left = left - 1 + arity(rs[at]);
     }
     at
-}
-
-// What the root of a tree is.
-#[derive(Clone, Copy, PartialEq, Eq, Debug)]
-pub enum Root {
-    Variable,
-    Constant,
-    True,
-    False,
-    Effect,
-    Load,
-    Cast,
-    Binary,
-    Ternary,
 }
 
 // Words that are exactly one tree.
@@ -289,6 +289,7 @@ impl<'a> Tree<'a> {
     }
 
     // The tag word of the root.
+    #[tactic(auto, using(crate::proofs::Views::two, crate::proofs::Views::tag_there))]
     fn tag(self) -> u64
         ensures { result ≡ tag_of (tree_of self.entry.words.now) }
     {
@@ -296,6 +297,7 @@ impl<'a> Tree<'a> {
     }
 
     // What the root is.
+    #[tactic(auto, using(crate::proofs::Views::kind_within, crate::proofs::Views::root_by_kind))]
     pub fn root(self) -> Root
         ensures { result ≡ root_of (tree_of self.entry.words.now) }
     {
@@ -314,6 +316,7 @@ impl<'a> Tree<'a> {
     }
 
     // The root's argument: a variable's number, a constant's width, a type or an operator.
+    #[tactic(auto, using(crate::proofs::Views::argument_root))]
     pub fn argument(self) -> u64
         ensures { result ≡ root_argument (tree_of self.entry.words.now) }
     {
@@ -321,6 +324,7 @@ impl<'a> Tree<'a> {
     }
 
     // A constant's value; 0 for any other root.
+    #[tactic(auto, using(crate::proofs::Views::two, crate::proofs::Views::value_there))]
     pub fn value(self) -> u64
         ensures { result ≡ value_of (tree_of self.entry.words.now) }
     {
@@ -328,6 +332,7 @@ impl<'a> Tree<'a> {
     }
 
     // What is cast.
+    #[tactic(auto, using(crate::proofs::Views::two, crate::proofs::Views::child_of))]
     pub fn child(self) -> Tree<'a>
         requires { root_of (tree_of self.words.now) ≡ Root.Cast }
         ensures tree { tree_of self.entry.words.now ≡ cast_tree (root_argument (tree_of self.entry.words.now)) (tree_of result.words.now) }
@@ -339,6 +344,7 @@ impl<'a> Tree<'a> {
     }
 
     // An operator's sides.
+    #[tactic(auto, using(crate::proofs::Views::two, crate::proofs::Views::sides_of))]
     pub fn sides(self) -> (Tree<'a>, Tree<'a>)
         requires { root_of (tree_of self.words.now) ≡ Root.Binary }
         ensures tree { tree_of self.entry.words.now ≡ binary_tree (root_argument (tree_of self.entry.words.now)) (tree_of result.0.words.now) (tree_of result.1.words.now) }
@@ -357,6 +363,7 @@ impl<'a> Tree<'a> {
     }
 
     // A ternary's condition and its two arms.
+    #[tactic(auto, using(crate::proofs::Views::two, crate::proofs::Views::front_of, crate::proofs::Views::arms_of))]
     pub fn arms(self) -> (Tree<'a>, Tree<'a>, Tree<'a>)
         requires { root_of (tree_of self.words.now) ≡ Root.Ternary }
         ensures tree { tree_of self.entry.words.now ≡ ternary_tree (tree_of result.0.words.now) (tree_of result.1.words.now) (tree_of result.2.words.now) }
@@ -382,15 +389,13 @@ impl<'a> Tree<'a> {
     fn has_kind(self, k: u64) -> bool
         ensures { result ≡ any_tag (of_kind k) self.entry.words.now }
     {
-        for record in self.words.chunks_exact(2) {
-            if kind(record[0]) == k {
-                return true;
-            }
-        }
-        false
+        self.words
+            .chunks_exact(2)
+            .any(|record| kind(record[0]) == k)
     }
 
     // Whether something with a value of its own at each occurrence stands in the tree.
+    #[tactic(auto, using(crate::proofs::Scans::any_effect))]
     pub fn has_own_value(self) -> bool
         ensures { result ≡ has_own_value (tree_of self.entry.words.now) }
     {
@@ -398,6 +403,7 @@ impl<'a> Tree<'a> {
     }
 
     // Whether a load stands in the tree.
+    #[tactic(auto, using(crate::proofs::Scans::any_load))]
     fn has_load(self) -> bool
         ensures { result ≡ has_load (tree_of self.entry.words.now) }
     {
@@ -415,17 +421,14 @@ impl<'a> Tree<'a> {
     pub fn reads(self, v: u64) -> bool
         ensures { result ≡ reads_of v (tree_of self.entry.words.now) }
     {
-        for record in self.words.chunks_exact(2) {
-            let tag = record[0];
-            if (kind(tag) == VARIABLE) & (argument(tag) == v) {
-                return true;
-            }
-        }
-        false
+        self.words.chunks_exact(2).any(|record| (kind(record[0]) == VARIABLE)
+            & (argument(record[0]) == v))
     }
 
     // The static type of the tree, given its variables' types: one pass over the records, with the types of the trees that are complete so far
     // on a stack above two empty entries.
+    // The stack is not the one with which sheets are read: any number may be a type here, which takes entries of 64 bits, and with those
+    // reading nodes takes 3 to 5 in a hundred longer.
     pub fn static_type(self, types: &[u8]) -> u64
         requires { length self.words.now ≤ 256 }
         ensures { result ≡ type_of types.now (tree_of self.entry.words.now) }
@@ -443,6 +446,7 @@ impl<'a> Tree<'a> {
     }
 
     // Whether two trees are the same, record for record.
+    #[tactic(auto, using(crate::proofs::Sameness::equal_words))]
     pub fn same(self, other: Tree) -> bool
         ensures { result ≡ same_tree (tree_of self.entry.words.now) (tree_of other.entry.words.now) }
     {

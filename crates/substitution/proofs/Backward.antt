@@ -188,8 +188,7 @@ none-held h d none n e is there =
     let kind : kind_of (tag_of d) ≡ 0 = ap kind_of tag ∙ kind-of 0 n (lit< tt) in
     let number : argument_of (tag_of d) ≡ n = ap argument_of tag ∙ argument-of 0 n (lit< tt) in
     let empty : h n ≡ free = rw (eq-eqb (kind_of (tag_of d)) 0 kind, number) at none in
-    let z : ◌≡◌ {A = ℕ} 0 1 = cc in
-    omega arith
+    cc
 
 -- where something is, it is what is held for its variable
 record Stands (h : Table) (left tag : ℕ) (e : Expr) : Type 0 where
@@ -203,8 +202,8 @@ stands h left tag e is = by (eqb left 0) (eqb (kind_of tag) kind_variable) refl 
   where
     by : (a b : Bool) → eqb left 0 ≡ a → eqb (kind_of tag) kind_variable ≡ b → cond (a && b) (h (argument_of tag)) free ≡ held e → Stands h left tag e
     by true true p q is = record { outside = eqb-true left 0 p; kind = eqb-true (kind_of tag) kind_variable q; value = is }
-    by true false p q is = let z : ◌≡◌ {A = ℕ} 0 1 = cc in absurd (omega arith)
-    by false b p q is = let z : ◌≡◌ {A = ℕ} 0 1 = cc in absurd (omega arith)
+    by true false p q is = cc
+    by false b p q is = cc
 
 -- the last record of words, and the words before it
 pub record Split (rest front record_lem : List ℕ) : Type 0 where

@@ -1,39 +1,23 @@
 -- What is held, slot by slot: what stands where, what ends, and what is held instead.
-use Prim.Native.Nat.{ℕ, zero, suc, ◌+◌, ◌*◌, ◌%◌, ◌≤◌, ◌<◌}
+use Prim.Native.Nat.{ℕ, zero, suc, ◌+◌, ◌*◌, ◌≤◌, ◌<◌}
 use mathlib.Core.Path.{◌≡◌, refl, sym, ap, fun_ext, ◌∙◌}
 use mathlib.Core.Bool.{Bool, true, false, cond, not, ◌&&◌, ◌||◌}
 use mathlib.Core.List.{List, [], ◌∷◌}
 use native.Mathlib.Decide.{dec_lt, ℕ_discrete}
 use native.Mathlib.Omega.{arith}
 use lib.Dec.{eqb, lit<}
-use lib.ListN.{length, get_or, take, drop, set, replicate}
-use lib.Seq.{get_or-take}
-use borrow.Author.Tests.{eq-eqb, ne_eqb, eqb-true, eqb-false}
+use lib.ListN.{length, get_or, take, set, replicate}
+use borrow.Author.Tests.{ne_eqb, eqb-true, eqb-false}
 use Rattle.expr.specs.Codes.{kind_variable}
-use Rattle.expr.specs.Tree.{Expr, Wf, tree_of, tag_of, kind_of, argument_of}
+use Rattle.expr.specs.Tree.{Expr, Wf, tree_of, tag_of, kind_of}
 use Rattle.expr.specs.Tree.Expr.{variable, constant, condition_true, condition_false, effect, load, cast, binary, ternary}
-use Rattle.expr.specs.Scan.{any_node, any_tag}
-use Rattle.expr.proofs.Scans.{any-tree, any_here, any-on, any-end}
-use Rattle.expr.proofs.Laws.{kind-of, argument-of, wf-two, flat-even}
+use Rattle.expr.proofs.Laws.{kind-of, argument-of, wf-two}
 use Rattle.substitution.specs.declared.slot.Slot.{Slot}
 use Rattle.substitution.specs.Substitution.{Entry, free, held, Table, nothing_held, entry_reads, kept, ended, holdable, entry_of, assigned}
 use Rattle.substitution.specs.Held.{entry_in, table_in, ended_tag}
 
 -- a record that is another variable whose held value ends
 module _ (v : ℕ) (h : Table) (tag : ℕ) where
-  pub ended-other : {k w : ℕ} {r : Bool} → k ≡ kind_of tag → k ≡ kind_variable → w ≡ argument_of tag → (w ≡ v → ⊥) → r ≡ entry_reads v (h w)
-      → r ≡ ended_tag v h tag
-  unfolding ended_tag
-  ended-other {k} {w} {r} kind is number off reads-it =
-      let kind-is : kind_of tag ≡ kind_variable = sym kind ∙ is in
-      rw (eq-eqb (kind_of tag) kind_variable kind-is, ← number, ne_eqb w v off) reads-it
-
-  pub ended-own : {k w : ℕ} → k ≡ kind_of tag → k ≡ kind_variable → w ≡ argument_of tag → w ≡ v → false ≡ ended_tag v h tag
-  unfolding ended_tag
-  ended-own {k} {w} kind is number same =
-      let kind-is : kind_of tag ≡ kind_variable = sym kind ∙ is in
-      rw (eq-eqb (kind_of tag) kind_variable kind-is, ← number, eq-eqb w v same)
-
   pub ended-none : {k : ℕ} → k ≡ kind_of tag → (k ≡ kind_variable → ⊥) → false ≡ ended_tag v h tag
   unfolding ended_tag
   ended-none {k} kind off = rw (ne_eqb (kind_of tag) kind_variable (λ z. off (kind ∙ z)))
@@ -55,63 +39,41 @@ ended-tag v h (cast t a) = ended-none v h (6 + 16 * t) (sym (kind-of 6 t (lit< t
 ended-tag v h (binary o a b) = ended-none v h (7 + 16 * o) (sym (kind-of 7 o (lit< tt))) (omega arith)
 ended-tag v h (ternary c a b) = ended-none v h 8 refl (omega arith)
 
-pub words-even : (ws : List ℕ) → Wf ws → length ws % 2 ≡ 0
-words-even ws wf = ap (λ (l : List ℕ). length l % 2) (sym wf) ∙ flat-even (tree_of ws)
-
--- the scan of a value for such a record: it is in the rest of the words, or nowhere
-module _ (v : ℕ) (h : Table) (value rest : List ℕ) (so_far : any_tag (ended_tag v h) value ≡ any_tag (ended_tag v h) rest) where
-  pub scan_found : {first : List ℕ} {t : Bool} → Wf value → first ≡ take 2 rest → 2 ≤ length rest → t ≡ ended_tag v h (get_or first 0 0) → t ≡ true
-      → true ≡ any_node (ended v h) (tree_of value)
-  scan_found {first} {t} wf first-is long is found =
-      let tag : get_or first 0 0 ≡ get_or rest 0 0 = ap (λ (l : List ℕ). get_or l 0 0) first-is ∙ get_or-take 2 rest 0 0 (omega arith) in
-      sym (sym (any-tree (ended_tag v h) (ended v h) (ended-tag v h) value wf) ∙ so_far
-      ∙ any_here (ended_tag v h) rest 0 (omega arith) (ap (ended_tag v h) (sym tag) ∙ sym is ∙ found))
-
-  pub scan_on : {first after : List ℕ} {t : Bool} → first ≡ take 2 rest → after ≡ drop 2 rest → 2 ≤ length rest → t ≡ ended_tag v h (get_or first 0 0) → t ≡ false
-      → any_tag (ended_tag v h) value ≡ any_tag (ended_tag v h) after
-  scan_on {first} {after} {t} first-is after-is long is none =
-      let tag : get_or first 0 0 ≡ get_or rest 0 0 = ap (λ (l : List ℕ). get_or l 0 0) first-is ∙ get_or-take 2 rest 0 0 (omega arith) in
-      so_far ∙ any-on (ended_tag v h) rest 0 (omega arith) (ap (ended_tag v h) (sym tag) ∙ sym is ∙ none) ∙ ap (any_tag (ended_tag v h)) (sym after-is)
-
-  pub scan_end : Wf value → length rest % 2 ≡ 0 → length rest < 2 → false ≡ any_node (ended v h) (tree_of value)
-  scan_end wf even short =
-      sym (sym (any-tree (ended_tag v h) (ended v h) (ended-tag v h) value wf) ∙ so_far ∙ any-end (ended_tag v h) rest 0 (omega arith))
-
 -- what stands where
-pub beyond : (slots : List Slot) (v : ℕ) → length slots ≤ v → table_in slots v ≡ free
+pub beyond : {n : ℕ} (slots : List (Slot n)) (v : ℕ) → length slots ≤ v → table_in slots v ≡ free
 unfolding table_in
 beyond [] v far = refl
 beyond (s ∷ rest) zero far = absurd (omega arith)
 beyond (s ∷ rest) (suc v) far = beyond rest v (omega arith)
 
-pub there : (slots : List Slot) (v : ℕ) (d : Slot) → v < length slots → table_in slots v ≡ entry_in (get_or slots v d)
+pub there : {n : ℕ} (slots : List (Slot n)) (v : ℕ) (d : Slot n) → v < length slots → table_in slots v ≡ entry_in (get_or slots v d)
 unfolding table_in
 there [] v d below = absurd (omega arith)
 there (s ∷ rest) zero d below = refl
 there (s ∷ rest) (suc v) d below = there rest v d (omega arith)
 
-all-free : (n : ℕ) (s : Slot) → entry_in s ≡ free → (v : ℕ) → table_in (replicate n s) v ≡ free
+all-free : {m : ℕ} (n : ℕ) (s : Slot m) → entry_in s ≡ free → (v : ℕ) → table_in (replicate n s) v ≡ free
 unfolding table_in
 all-free zero s none v = refl
 all-free (suc n) s none zero = none
 all-free (suc n) s none (suc v) = all-free n s none v
 
 -- slots that hold nothing
-pub none_held : (n : ℕ) (s : Slot) → entry_in s ≡ free → table_in (replicate n s) ≡ nothing_held
+pub none_held : {m : ℕ} (n : ℕ) (s : Slot m) → entry_in s ≡ free → table_in (replicate n s) ≡ nothing_held
 none_held n s none = fun_ext (all-free n s none)
 
 -- a slot that holds a tree
-pub entry_held : (s : Slot) (ws : List ℕ) → Wf ws → s.length ≡ length ws → take (length ws) s.words.0 ≡ ws → entry_in s ≡ held (tree_of ws)
-entry_held s ws wf size is = rw (size, ne_eqb (length ws) 0 (λ z. omega (arith, wf-two ws wf)), is)
+pub entry_held : (n : ℕ) (words ws : List ℕ) → Wf ws → n ≡ length ws → take (length ws) words ≡ ws → cond (eqb n 0) free (held (tree_of (take n words))) ≡ held (tree_of ws)
+entry_held n words ws wf size is = rw (size, ne_eqb (length ws) 0 (λ z. omega (arith, wf-two ws wf)), is)
 
 -- one slot is written
-own-slot : (slots : List Slot) (i : ℕ) (s : Slot) → i < length slots → table_in (set slots i s) i ≡ entry_in s
+own-slot : {n : ℕ} (slots : List (Slot n)) (i : ℕ) (s : Slot n) → i < length slots → table_in (set slots i s) i ≡ entry_in s
 unfolding table_in
 own-slot [] i s below = absurd (omega arith)
 own-slot (x ∷ rest) zero s below = refl
 own-slot (x ∷ rest) (suc i) s below = own-slot rest i s (omega arith)
 
-other_slot : (slots : List Slot) (i : ℕ) (s : Slot) (k : ℕ) → (k ≡ i → ⊥) → table_in (set slots i s) k ≡ table_in slots k
+other_slot : {n : ℕ} (slots : List (Slot n)) (i : ℕ) (s : Slot n) (k : ℕ) → (k ≡ i → ⊥) → table_in (set slots i s) k ≡ table_in slots k
 unfolding table_in
 other_slot [] i s k off = refl
 other_slot (x ∷ rest) zero s zero off = absurd (off refl)
@@ -120,20 +82,17 @@ other_slot (x ∷ rest) (suc i) s zero off = refl
 other_slot (x ∷ rest) (suc i) s (suc k) off = other_slot rest i s k (λ z. off (ap suc z))
 
 -- all that is held ends: the slots before i are free
-pub record Clearing (slots : List Slot) (i : ℕ) : Type 0 where
+pub record Clearing {n : ℕ} (slots : List (Slot n)) (i : ℕ) : Type 0 where
   pub done : (k : ℕ) → k < i → table_in slots k ≡ free
 
-pub clear_none : (slots : List Slot) → Clearing slots 0
-clear_none slots = record { done = λ k h. absurd (omega arith) }
-
-pub clear_more : {slots : List Slot} {i : ℕ} (s : Slot) → Clearing slots i → i < length slots → entry_in s ≡ free → Clearing (set slots i s) (i + 1)
+pub clear_more : {n : ℕ} {slots : List (Slot n)} {i : ℕ} (s : Slot n) → Clearing slots i → i < length slots → entry_in s ≡ free → Clearing (set slots i s) (i + 1)
 clear_more {slots} {i} s c below none = record { done = λ k h. by k h (ℕ_discrete k i) }
   where
     by : (k : ℕ) → k < i + 1 → Dec (k ≡ i) → table_in (set slots i s) k ≡ free
     by k h (yes e) = rw e (own-slot slots i s below ∙ none)
     by k h (no off) = other_slot slots i s k off ∙ c.done k (omega arith)
 
-pub clear_end : {slots : List Slot} {i : ℕ} → Clearing slots i → length slots ≤ i → table_in slots ≡ nothing_held
+pub clear_end : {n : ℕ} {slots : List (Slot n)} {i : ℕ} → Clearing slots i → length slots ≤ i → table_in slots ≡ nothing_held
 clear_end {slots} {i} c end = fun_ext (λ k. by k (dec_lt k i))
   where
     by : (k : ℕ) → Dec (k < i) → table_in slots k ≡ free
@@ -149,15 +108,12 @@ kept_free v h k none = rw none (by (eqb k v))
     by false = refl
 
 -- what an assignment to v ends, slot by slot: those before i are passed
-pub record Ending (v : ℕ) (h : Table) (slots : List Slot) (i : ℕ) : Type 0 where
+pub record Ending (v : ℕ) (h : Table) {n : ℕ} (slots : List (Slot n)) (i : ℕ) : Type 0 where
   pub done : (k : ℕ) → k < i → table_in slots k ≡ kept v h k
   pub rest : (k : ℕ) → i ≤ k → table_in slots k ≡ h k
 
-pub end_none : (v : ℕ) (slots : List Slot) → Ending v (table_in slots) slots 0
-end_none v slots = record { done = λ k h. absurd (omega arith); rest = λ k h. refl }
-
-module _ {v : ℕ} {h : Table} {slots : List Slot} {i : ℕ} (c : Ending v h slots i) where
-  end_set : (s : Slot) → i < length slots → entry_in s ≡ kept v h i → Ending v h (set slots i s) (i + 1)
+module _ {v : ℕ} {h : Table} {n : ℕ} {slots : List (Slot n)} {i : ℕ} (c : Ending v h slots i) where
+  end_set : (s : Slot n) → i < length slots → entry_in s ≡ kept v h i → Ending v h (set slots i s) (i + 1)
   end_set s below is = record {
     done = λ k less. by k less (ℕ_discrete k i);
     rest = λ k more. other_slot slots i s k (λ e. omega arith) ∙ c.rest k (omega arith);
@@ -167,7 +123,7 @@ module _ {v : ℕ} {h : Table} {slots : List Slot} {i : ℕ} (c : Ending v h slo
       by k less (yes e) = rw e (own-slot slots i s below ∙ is)
       by k less (no off) = other_slot slots i s k off ∙ c.done k (omega arith)
 
-  pub end_more : (d new : Slot) → i < length slots
+  pub end_more : (d new : Slot n) → i < length slots
       → entry_in new ≡ cond (eqb i v || entry_reads v (entry_in (get_or slots i d))) free (entry_in (get_or slots i d)) → Ending v h (set slots i new) (i + 1)
   unfolding kept
   end_more d new below ends =
@@ -185,7 +141,7 @@ module _ {v : ℕ} {h : Table} {slots : List Slot} {i : ℕ} (c : Ending v h slo
           beyond slots k (omega arith) ∙ sym (kept_free v h k none)
 
 -- the value is held, or it is not
-pub assigned_held : (g : Table) (v : ℕ) (e : Expr) (slots : List Slot) (s : Slot) → table_in slots ≡ kept v g → v < length slots → entry_in s ≡ held e
+pub assigned_held : (g : Table) (v : ℕ) (e : Expr) {n : ℕ} (slots : List (Slot n)) (s : Slot n) → table_in slots ≡ kept v g → v < length slots → entry_in s ≡ held e
     → holdable v g e ≡ true → table_in (set slots v s) ≡ assigned v e g
 unfolding assigned
 assigned_held g v e slots s before below is yes-held = fun_ext (λ w. by w (eqb w v) refl)

@@ -10,7 +10,6 @@ use mathlib.Core.Bool.{Bool, true, false, cond, not, ◌||◌, false≢true}
 use mathlib.Core.List.{List, [], ◌∷◌}
 use Prim.Native.Nat.{ℕ, suc, ◌^◌, ◌<◌}
 use native.Mathlib.Nat.{mod-eq_of_lt}
-use native.Mathlib.Omega.{arith}
 use lib.Dec.{eqb}
 use lib.ListN.{get_or}
 use borrow.Author.Tests.{eq-eqb, ne_eqb, eqb-true, eqb-false, not-true}
@@ -44,7 +43,7 @@ or_map {a} {b} {a'} {b'} f g h = by a a' f h
     by false false f h = g h
 
 pub not-held : {e : Expr} → held e ≡ free → ⊥
-not-held h = let z : ◌≡◌ {A = ℕ} 0 1 = cc in omega arith
+not-held h = cc
 
 pub record Present (types : List ℕ) (h : Table) (ρ ν : Values) : Type 0 where
   pub held_typed : (v : ℕ) (e : Expr) → h v ≡ held e → Alike (type_of types e) (get_or types v 0)
@@ -297,7 +296,7 @@ pub into-same : {a b : Expr} → into a ≡ into b → a ≡ b
 into-same q = cc
 
 pub never : {a : Expr} → too_long ≡ into a → ⊥
-never q = let z : ◌≡◌ {A = ℕ} 0 1 = cc in omega arith
+never q = cc
 
 -- What holds of every evaluation of the substituted condition, and where there is no outcome, holds of the outcome of every run.
 module _ (types : List ℕ) (condition result : Expr) (P : Option Bool → Type 0) (without : P None)

@@ -8,11 +8,11 @@ use Rattle.substitution.specs.declared.slot.Slot.{Slot}
 use Rattle.substitution.specs.Substitution.{Entry, free, held, Table, substitute, entry_reads, assigned, long}
 
 -- what a slot holds
-abbrev pub entry_in : Slot → Entry
+abbrev pub entry_in : {n : ℕ} → Slot n → Entry
 entry_in s = cond (eqb s.length 0) free (held (tree_of (take s.length s.words.0)))
 
 -- what slots hold, each for the variable of its number
-unfoldable pub table_in : List Slot → Table
+unfoldable pub table_in : {n : ℕ} → List (Slot n) → Table
 table_in [] v = free
 table_in (s ∷ rest) zero = entry_in s
 table_in (s ∷ rest) (suc v) = table_in rest v

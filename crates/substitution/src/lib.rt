@@ -3,11 +3,11 @@
 
 mod slot;
 
-ghost use Rattle.std.specs.Prelude.{◌≡◌, ℕ, ◌+◌, ◌≤◌, ◌<◌, ◌++◌, length, drop, MatchOption};
+ghost use Rattle.std.specs.Prelude.{◌≡◌, ℕ, ◌+◌, ◌≤◌, ◌<◌, ◌++◌, length, get_or, drop, MatchOption};
 ghost use Rattle.expr.specs.Tree.{tree_of};
 ghost use Rattle.expr.specs.Scan.{any_node};
 ghost use Rattle.substitution.specs.Substitution.{nothing_held, substitute as substitute_of, entry_reads, ended, holdable, kept, assigned};
-ghost use Rattle.substitution.specs.Held.{table_of, Holds, Made, Assigned, entry_for, pending_after, ended_tag};
+ghost use Rattle.substitution.specs.Held.{entry_in, table_of, Holds, Made, Assigned, entry_for, pending_after, ended_tag};
 
 use expr::Tree;
 use slot::Slot;
@@ -19,7 +19,7 @@ fn pending(left: u64, tag: u64) -> u64
     ensures { result ≡ pending_after left tag }
 {
     if left == 0 {
-        if expr::kind(tag) == expr::LOAD { 1 } else { 0 }
+        u64::from(expr::kind(tag) == expr::LOAD)
     } else {
         left - 1 + expr::arity(tag)
     }
@@ -38,7 +38,7 @@ fn put_before(list: &mut [u64], at: usize, words: &[u64]) -> Option<usize>
 // What is held for each of N variables.
 #[derive(Drop)]
 pub struct Held<const N: usize> {
-    slots: [Slot; N],
+    slots: [Slot<N>; N],
 }
 
 impl<const N: usize> Held<N> {
@@ -48,7 +48,7 @@ impl<const N: usize> Held<N> {
         ensures { table_of result ≡ nothing_held }
     {
         Held {
-            slots: [Slot::EMPTY; N],
+            slots: [Slot::empty(); N],
         }
     }
 
@@ -66,11 +66,7 @@ impl<const N: usize> Held<N> {
     fn of(&self, v: u64) -> Option<Tree<'_>>
         ensures { Holds result (table_of self.now v) }
     {
-        let place = v as usize;
-        if place < N {
-            return self.slots[place].tree();
-        }
-        None
+        self.slots.get(v as usize)?.tree()
     }
 
     // What is held for the variable that a record is, if no tree under a load is still to come.
@@ -108,37 +104,40 @@ impl<const N: usize> Held<N> {
     }
 
     // Whether a record is a variable other than v whose held value ends when v is assigned.
-    #[tactic(auto, unfolding(crate::specs::Held::ended_tag))]
+    #[tactic(auto, unfolding(crate::specs::Held::ended_tag), using(crate::proofs::Entries::there, crate::proofs::Entries::beyond))]
     fn is_ended(&self, v: u64, tag: u64) -> bool
+        requires { v < N }
         ensures { result ≡ ended_tag v (table_of self.now) tag }
     {
         let w = expr::argument(tag);
         if expr::kind(tag) != expr::VARIABLE || w == v {
             return false;
         }
-        match self.of(w) {
-            Some(value) => value.reads(v),
-            None => false,
-        }
+        self.slots.get(w as usize).is_some_and(
+            |slot| -> bool
+                requires { v < N }
+                ensures { result ≡ entry_reads v (entry_in slot.entry.now) }
+            { slot.reads(v) },
+        )
     }
 
     // Whether a value reads a variable other than v whose held value ends when v is assigned.
     fn reads_ended(&self, value: Tree, v: u64) -> bool
+        requires { v < N }
         ensures { result ≡ any_node (ended v (table_of self.now)) (tree_of value.entry.words.now) }
     {
-        let mut rest = value.words;
-        while let Some((record, after)) = rest.split_first_chunk::<2>() {
-            if self.is_ended(v, record[0]) {
-                return true;
-            }
-            rest = after;
-        }
-        false
+        value.words.chunks_exact(2).any(
+            |record| -> bool
+                requires { (v < N) × (length record.now ≡ 2) }
+                ensures { result ≡ ended_tag v (table_of self.entry.now) (get_or record.entry.now 0 0) }
+            { self.is_ended(v, record[0]) },
+        )
     }
 
     // Whether a substituted value that is assigned to v is held.
     #[tactic(auto, unfolding(crate::specs::Substitution::holdable))]
     fn is_holdable(&self, value: Tree, v: u64) -> bool
+        requires { v < N }
         ensures { result ≡ holdable v (table_of self.now) (tree_of value.entry.words.now) }
     {
         value.is_plain() && !self.reads_ended(value, v)
@@ -146,6 +145,7 @@ impl<const N: usize> Held<N> {
 
     // Ends what is held for v, and all that reads v.
     fn end(&mut self, v: u64)
+        requires { v < N }
         ensures { table_of self.new ≡ kept v (table_of self.old) }
     {
         for (w, slot) in self.slots.iter_mut().enumerate() {

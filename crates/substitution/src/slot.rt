@@ -1,6 +1,7 @@
-// What is held for one variable, in 256 words of its own.
-ghost use Rattle.std.specs.Prelude.{◌≡◌, ◌≤◌, ◌<◌, ◌||◌, cond, length, take};
+// What is held for one of N variables, in 256 words of its own.
+ghost use Rattle.std.specs.Prelude.{◌≡◌, ℕ, ◌≤◌, ◌<◌, ◌||◌, false, cond, length, get_or, take};
 ghost use Rattle.expr.specs.Tree.{Wf, tree_of};
+ghost use Rattle.expr.specs.Scan.{reads as reads_of};
 
 use expr::Tree;
 
@@ -18,23 +19,48 @@ impl Words {
     }
 }
 
-// The words of a tree, the first `length` of 256, or nothing where `length` is 0.
-#[derive(Clone, Copy)]
-pub(crate) struct Slot {
-    words: Words,
-    length: usize,
-    ghost few: { length ≤ 256 },
-    ghost whole: { 0 < length → Wf (take length words.0) },
+// Which of N variables a tree reads, in one pass over its records.
+fn variables<const N: usize>(tree: Tree) -> [bool; N]
+    ensures { (v : ℕ) → v < N → get_or result v false ≡ reads_of v (tree_of tree.entry.words.now) }
+{
+    let mut read = [false; N];
+    for record in tree.words.chunks_exact(2) {
+        if expr::kind(record[0]) == expr::VARIABLE {
+            // a test and an index: what `get_mut` leaves in the array has no name that the proof may cite
+            let v = expr::argument(record[0]) as usize;
+            if v < N {
+                read[v] = true;
+            }
+        }
+    }
+    read
 }
 
-impl Slot {
+// The words of a tree, the first `length` of 256, with the variables that it reads; or nothing where `length` is 0.
+#[derive(Clone, Copy)]
+pub(crate) struct Slot<const N: usize> {
+    words: Words,
+    length: usize,
+    read: [bool; N],
+    ghost few: { length ≤ 256 },
+    ghost whole: { 0 < length → Wf (take length words.0) },
+    ghost reads: { 0 < length → (v : ℕ) → v < N → get_or read v false ≡ reads_of v (tree_of (take length words.0)) },
+}
+
+impl<const N: usize> Slot<N> {
     ghost use Rattle.substitution.specs.Substitution.{free, held, entry_reads};
     ghost use Rattle.substitution.specs.Held.{entry_in, Holds};
 
-    pub(crate) const EMPTY: Slot = Slot {
-        words: Words([0; 256]),
-        length: 0,
-    };
+    // Nothing is held.
+    pub(crate) fn empty() -> Self
+        ensures { entry_in result ≡ free }
+    {
+        Slot {
+            words: Words([0; 256]),
+            length: 0,
+            read: [false; N],
+        }
+    }
 
     // The tree that is held.
     pub(crate) fn tree(&self) -> Option<Tree<'_>>
@@ -48,12 +74,10 @@ impl Slot {
 
     // Whether what is held reads variable v.
     pub(crate) fn reads(&self, v: u64) -> bool
+        requires { v < N }
         ensures { result ≡ entry_reads v (entry_in self.now) }
     {
-        match self.tree() {
-            Some(tree) => tree.reads(v),
-            None => false,
-        }
+        self.length != 0 && self.read[v as usize]
     }
 
     // Ends what is held.
@@ -63,11 +87,12 @@ impl Slot {
         self.length = 0;
     }
 
-    // Ends what is held, if it is held for v itself, or reads v.
+    // Ends what is held, if it is held for v itself, or reads v. Where nothing is held, `read` may say anything: then ending it changes nothing.
     pub(crate) fn end(&mut self, own: bool, v: u64)
+        requires { v < N }
         ensures { entry_in self.new ≡ cond (own || entry_reads v (entry_in self.old)) free (entry_in self.old) }
     {
-        if own || self.reads(v) {
+        if own || self.read[v as usize] {
             self.clear();
         }
     }
@@ -81,6 +106,7 @@ impl Slot {
         // while its words are written, nothing is held
         self.clear();
         self.words.put(tree.words);
+        self.read = variables(tree);
         self.length = tree.words.len();
     }
 }

@@ -1,7 +1,6 @@
 -- The operators on optional values. A value is the bit pattern of its type; a division by zero leaves none. What is lazy and what has
 -- no value is said here, and nowhere else.
-use Rattle.std.specs.Prelude.{Option, Some, None, Bool, true, false, cond, not, ◌||◌, List, [], ◌∷◌, ◌++◌, map, ℕ, ◌%◌, ◌^◌, ◌<◌, eqb, get_or}
-use Rattle.std.specs.Coded.{Unit-prop, le_prop}
+use Rattle.std.specs.Prelude.{Option, Some, None, IfSome, Bool, true, false, cond, not, ◌||◌, List, [], ◌∷◌, ◌++◌, map, ℕ, ◌%◌, ◌^◌, ◌<◌, eqb, get_or}
 use Rattle.std.specs.Int.Bits.{bit_and, bit_or, bit_xor}
 use Rattle.expr.specs.Codes.{op_logical_and, op_logical_or}
 use Rattle.expr.specs.Types.{promoted, together}
@@ -9,12 +8,7 @@ use Rattle.arith.specs.Numbers.{bits, convert, sum, difference, product, quotien
 
 -- a value, where there is one, is a pattern of the type
 abbrev pub Typed : ℕ → Option ℕ → Type 0
-Typed t (Some x) = x < 2 ^ bits t
-Typed t None = Unit {0}
-
-pub Typed-prop : (t : ℕ) (v : Option ℕ) → IsProp (Typed t v)
-Typed-prop t (Some x) = le_prop
-Typed-prop t None = Unit-prop
+Typed t v = IfSome v (λ x. x < 2 ^ bits t)
 
 -- A number that is chosen freely stands for a value of type t: the pattern of its low bits.
 abbrev pub chosen : ℕ → ℕ → Option ℕ

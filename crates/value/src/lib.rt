@@ -1,6 +1,7 @@
 // The value of an expression on given values of its variables.
 #![tactic(auto)]
 
+ghost use Rattle.std.proofs.Props.{props};
 ghost use Rattle.std.specs.Prelude.{◌≡◌, None, true, cond, ◌+◌, ◌-◌, ◌^◌, ◌≤◌, ◌<◌, length, get_or, is_some, IfSome};
 ghost use Rattle.expr.specs.Codes.{signed32};
 ghost use Rattle.expr.specs.Root.{root_of, root_argument};
@@ -10,7 +11,7 @@ ghost use Rattle.expr.specs.Tree.Expr.{cast as cast_tree, binary as binary_tree,
 ghost use Rattle.expr.specs.Types.{binary_type, type_of};
 ghost use Rattle.expr.specs.declared.Root.TheVariants as root;
 ghost use Rattle.arith.specs.Numbers.{bits};
-ghost use Rattle.value.specs.Operators.{Typed, Typed-prop, integer_of, chosen as chosen_of, flag, taken as taken_at, arithmetics, shifts, comparisons, no_operation, operators, no_operator, strict as strict_of, is_logic as is_logic_of, connect};
+ghost use Rattle.value.specs.Operators.{Typed, integer_of, chosen as chosen_of, flag, taken as taken_at, arithmetics, shifts, comparisons, no_operation, operators, no_operator, strict as strict_of, is_logic as is_logic_of, connect};
 ghost use Rattle.value.specs.Evaluation.{evaluated, settled};
 
 use expr::{Root, Tree};
@@ -20,7 +21,7 @@ use expr::{Root, Tree};
 pub struct TypedValue {
     pub value: Option<u64>,
     pub typing: u64,
-    ghost typed: { Typed typing value } by { Typed-prop typing value },
+    ghost typed: { Typed typing value } by { Prim.hlevel props },
 }
 
 impl TypedValue {
@@ -197,8 +198,7 @@ fn is_logic(operator: u64) -> bool
 fn lent(values: &[u64], number: u64) -> u64
     ensures { result ≡ get_or values.now number 0 }
 {
-    let i = number as usize;
-    if i < values.len() { values[i] } else { 0 }
+    values.get(number as usize).copied().unwrap_or(0)
 }
 
 // A tree that can be evaluated: at most 128 records, without load and effect.
@@ -216,6 +216,7 @@ impl<'a> Plain<'a> {
         ensures plain { is_some result ≡ plain_expr (tree_of tree.entry.words.now) }
         ensures same { IfSome result (λ e. e.tree.words.now ≡ tree.entry.words.now) }
     {
+        // a test, and no `then_some`: the struct can be made only where the tree is plain
         if tree.is_plain() {
             Some(Plain { tree })
         } else {

@@ -8,9 +8,6 @@ use Rattle.expr.proofs.Laws.{wf-two}
 use Rattle.expr.proofs.Views.{before, front_of, arms_of}
 use Rattle.expr.proofs.Tree.arms.Goals as goal
 
-pub overflow_sub-n : goal.overflow_sub-n
-overflow_sub-n c = omega (arith, wf-two c.args.self.words.now c.args.self.wf)
-
 pub last_start-m-requires : goal.last_start-m-requires
 last_start-m-requires c =
     let p = before c.args.self.words.now c.args.self.wf Ternary (lit≤ tt) c.requires in record { trees = p.0; bound = p.1 }
@@ -18,22 +15,6 @@ last_start-m-requires c =
 pub last_start-l-requires : goal.last_start-l-requires
 last_start-l-requires c =
     let p = front_of c.args.self.words.now c.args.self.wf c.requires c.last_start-m.result c.last_start-m.ensures in record { trees = p.0; bound = p.1 }
-
-pub invariant_of-result : goal.invariant_of-result
-invariant_of-result c =
-    record { wf = (arms_of c.args.self.words.now c.args.self.wf c.requires c.last_start-m.result c.last_start-m.ensures c.last_start-l.result c.last_start-l.ensures).condition_wf }
-
-pub invariant_of-result-2 : goal.invariant_of-result-2
-invariant_of-result-2 c =
-    record { wf = (arms_of c.args.self.words.now c.args.self.wf c.requires c.last_start-m.result c.last_start-m.ensures c.last_start-l.result c.last_start-l.ensures).then_wf }
-
-pub invariant_of-result-3 : goal.invariant_of-result-3
-invariant_of-result-3 c =
-    record { wf = (arms_of c.args.self.words.now c.args.self.wf c.requires c.last_start-m.result c.last_start-m.ensures c.last_start-l.result c.last_start-l.ensures).otherwise_wf }
-
-pub returns-clause-tree : goal.returns-clause-tree
-returns-clause-tree c =
-    (arms_of c.args.self.words.now c.args.self.wf c.requires c.last_start-m.result c.last_start-m.ensures c.last_start-l.result c.last_start-l.ensures).tree
 
 pub returns-clause-size : goal.returns-clause-size
 returns-clause-size c =

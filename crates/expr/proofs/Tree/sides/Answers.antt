@@ -8,21 +8,9 @@ use Rattle.expr.proofs.Laws.{wf-two}
 use Rattle.expr.proofs.Views.{before, sides_of}
 use Rattle.expr.proofs.Tree.sides.Goals as goal
 
-pub overflow_sub-n : goal.overflow_sub-n
-overflow_sub-n c = omega (arith, wf-two c.args.self.words.now c.args.self.wf)
-
 pub last_start-m-requires : goal.last_start-m-requires
 last_start-m-requires c =
     let p = before c.args.self.words.now c.args.self.wf Binary (lit≤ tt) c.requires in record { trees = p.0; bound = p.1 }
-
-pub invariant_of-result : goal.invariant_of-result
-invariant_of-result c = record { wf = (sides_of c.args.self.words.now c.args.self.wf c.requires c.last_start-m.result c.last_start-m.ensures).left_wf }
-
-pub invariant_of-result-2 : goal.invariant_of-result-2
-invariant_of-result-2 c = record { wf = (sides_of c.args.self.words.now c.args.self.wf c.requires c.last_start-m.result c.last_start-m.ensures).right_wf }
-
-pub returns-clause-tree : goal.returns-clause-tree
-returns-clause-tree c = (sides_of c.args.self.words.now c.args.self.wf c.requires c.last_start-m.result c.last_start-m.ensures).tree
 
 pub returns-clause-size : goal.returns-clause-size
 returns-clause-size c =
