@@ -26,8 +26,8 @@ use Rattle.parity.specs.declared.Entry.TheVariants.{Both, Keeps, Clears, Atom}
 use Rattle.parity.specs.declared.Pair.TheVariants.{Sum, Product, Or}
 use Rattle.parity.specs.LowBit.{atom_bit, low_bit}
 use Rattle.parity.proofs.Entries.{bit_of, rule-entry}
-use Rattle.parity.proofs.Atoms.{Extends, Noting, noting, before, place-stays, place-new, atoms-grow, extends-refl, extends-trans}
-use Rattle.parity.proofs.Atoms.Noting.{known, new}
+use Rattle.parity.proofs.Numbers.{Extends, Noting, noting, before, place-stays, place-new, atoms-grow, extends-refl, extends-trans}
+use Rattle.parity.proofs.Numbers.Noting.{known, new}
 
 -- bits by the number of an atom
 abbrev pub Bits : Type 0

@@ -1,5 +1,5 @@
 -- laws of the definitions, which other proofs cite
-pub mod Atoms
+pub mod Numbers
 pub mod Ordered
 -- the two tables of what is entered
 pub mod LowBits
