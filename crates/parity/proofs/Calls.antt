@@ -5,7 +5,7 @@ use mathlib.Core.Bool.{true, false}
 use mathlib.Core.List.{List, ◌++◌}
 use native.Mathlib.Omega.{arith}
 use lib.ListN.{length, take, drop, length-append, length-drop}
-use lib.Seq.{length-take-le, take-take, drop-drop, take_at, drop_at, take-append-le}
+use lib.Seq.{length-take-le, take_at, drop_at, take-append-le}
 use borrow.Author.Tests.{eq-eqb, ne_eqb}
 use Rattle.expr.specs.Tree.{Expr, Wf, tree_of, value_of, flat}
 use Rattle.expr.specs.Tree.Expr.{variable, constant, condition_true, condition_false, effect, load, cast, binary, ternary}
@@ -18,7 +18,6 @@ use Rattle.parity.specs.declared.Pair.{Pair}
 use Rattle.parity.specs.declared.Entry.{Entry}
 use Rattle.parity.specs.declared.TooMany.{TooMany}
 use Rattle.std.specs.Prelude.{Result, Ok, Err}
-use Rattle.std.proofs.lemmas.Slice.{between_is}
 use Rattle.parity.specs.Lent.{pair_of, Lent, Sides, Made, Given}
 use Rattle.parity.proofs.Ordered.{parity-ascending, parity-few, atoms-few}
 use Rattle.parity.proofs.Rooms.{leaves, parity-terms, eight-each, pairs-room, products-lent}
@@ -80,7 +79,7 @@ low-other l (binary o a b) h c d = absurd (d refl)
 low-other l (ternary c a b) h d e = refl
 
 -- both sides, where the left one's polynomial is made
-module _ {left right : List ℕ} {l : List Expr} {terms scratch : List ℕ} (left_wf : Wf left) (right_wf : Wf right) (two : Lent (length left + length right + 2) (length l) terms scratch) where
+module _ (left right : List ℕ) (l : List Expr) {terms scratch : List ℕ} (left_wf : Wf left) (right_wf : Wf right) (two : Lent (length left + length right + 2) (length l) terms scratch) where
   module _ {l₁ : List Expr} {terms₁ : List ℕ} {r₁ : Result ℕ TooMany} {n : ℕ} (g : Given (parity l (tree_of left)) l₁ terms₁ r₁) (e : r₁ ≡ Ok n) where
     x-told : Told (parity l (tree_of left)).fits (parity l (tree_of left)).poly terms₁ n
     x-told = told g.made e

@@ -1,5 +1,5 @@
 -- Answers within the limits: what a step makes of one, and that it passes the limits on.
-use Rattle.std.proofs.Common.{◌≡◌, ℕ, Bool, true, false, Result, Ok, Err, IsErr, refl, arith}
+use Rattle.std.proofs.Common.{◌≡◌, Bool, true, false, Result, Ok, Err, IsErr, refl}
 use Rattle.parity.specs.declared.TooMany.{TooMany}
 use Rattle.parity.specs.Lent.{too_many, within}
 

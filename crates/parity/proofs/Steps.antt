@@ -1,24 +1,21 @@
 -- The laws that the code's steps cite: a constant, how an operator enters, the index of an atom, and two polynomials that stand
 -- one behind the other and are put together at the start.
-use Prim.Native.Nat.{ℕ, zero, suc, ◌+◌, ◌*◌, ◌-◌, ◌/◌, ◌%◌, ◌^◌, ◌≤◌, ◌<◌}
-use mathlib.Core.Path.{◌≡◌, refl, sym, ap, ap₂, ◌∙◌}
+use Prim.Native.Nat.{ℕ, ◌+◌, ◌*◌, ◌-◌, ◌%◌, ◌^◌, ◌≤◌, ◌<◌}
+use mathlib.Core.Path.{◌≡◌, refl, sym, ap, ◌∙◌}
 use mathlib.Core.Bool.{Bool, true, false, cond, ◌&&◌}
 use mathlib.Core.List.{List, [], ◌∷◌, ◌++◌, append_assoc}
 use Rattle.std.specs.Prelude.{Some, None, Result, Ok, Err}
 use native.Mathlib.Nat.{mod-eq_of_lt, pow-le-pow_right, lt_of_le_of_lt}
-use native.Mathlib.Numerals.{add-one}
 use native.Mathlib.Omega.{arith}
-use lib.Dec.{leb, ltb, lit<}
-use lib.ListN.{length, get_or, take, drop, set, length-append, length-take, length-drop, get_or-append}
+use lib.Dec.{leb, lit<}
+use lib.ListN.{length, take, drop, set, length-take, length-drop}
 use borrow.Rule.Slice.PartMut.{put_mid}
 use Rattle.std.proofs.lemmas.Slice.{put_mid-paste}
-use lib.Seq.{length-take-le, take_at, drop_at, take-length, drop-cons, drop-length, get_or_at, take-suc-set, paste}
-use borrow.Author.Tests.{ne_eqb, lt-leb, le-leb, leb-true, ltb-true, ltb-false, lt-ltb, le-ltb}
+use lib.Seq.{length-take-le, take_at, drop_at, take-length, paste}
+use borrow.Author.Tests.{lt-leb, le-leb, leb-true}
 use Rattle.search.specs.Ascending.{Ascending}
-use Rattle.expr.specs.Tree.{Expr, Wf, tree_of, value_of}
+use Rattle.expr.specs.Tree.{Expr, Wf, value_of}
 use Rattle.expr.specs.Tree.Expr.{variable, constant, condition_true, condition_false, effect, load, cast, binary, ternary}
-use Rattle.expr.specs.declared.Tree.{Tree}
-use Rattle.expr.specs.Scan.{same_tree}
 use Rattle.expr.proofs.Laws.{wf-two}
 use Rattle.expr.specs.Root.{root_of}
 use Rattle.expr.specs.declared.Root.TheVariants.{Constant}
@@ -26,11 +23,9 @@ use Rattle.expr.proofs.Views.{constant-root}
 use Rattle.poly.specs.Terms.{Written, sum, product, sum_product}
 use Rattle.poly.proofs.Running.{length-times, times_one, written-ordered}
 use Rattle.poly.proofs.Values.{ascending-sum}
-use Rattle.parity.specs.Parity.{constant_of, entered, few, few_pairs, joined, constant_poly, place, number_in, noted, atom_low}
-use Rattle.parity.specs.declared.Entry.TheVariants.{Both, Atom}
-use Rattle.parity.specs.declared.Pair.TheVariants.{Sum}
+use Rattle.parity.specs.Parity.{constant_of, few, few_pairs, joined, constant_poly, number_in, noted, atom_low}
 use Rattle.parity.specs.declared.TooMany.{TooMany}
-use Rattle.parity.specs.Lent.{too_many, within, exprs, Lent, Sides, Made, Given}
+use Rattle.parity.specs.Lent.{too_many, within, Lent, Sides, Made, Given}
 use Rattle.parity.proofs.Numbers.{number-upto}
 use Rattle.laws.proofs.Booleans.{and_both}
 
@@ -216,24 +211,13 @@ module _ {terms : List ℕ} {n k : ℕ} {scratch : List ℕ} (s : Sides terms n 
         let fit = and_both (few_pairs (take n terms) (take k (drop n terms))) (few (product (take n terms) (take k (drop n terms)))) t.fit in
         rw (fit.0, fit.1) (limited-made (rw (join-sum.terms, join-product) at v) l)
 
--- as many atoms as trees
-pub length-exprs : (l : List Tree) → length (exprs l) ≡ length l
-unfolding exprs
-length-exprs [] = refl
-length-exprs (t ∷ l) = ap suc (length-exprs l)
-
-pub exprs-more : (l : List Tree) (t : Tree) → exprs (l ++ (t ∷ [])) ≡ exprs l ++ (tree_of t.words.now ∷ [])
-unfolding exprs
-exprs-more [] t = refl
-exprs-more (u ∷ l) t = ap (λ (es : List Expr). tree_of u.words.now ∷ es) (exprs-more l t)
-
 pub pow_small : (n : ℕ) → n < 64 → (1 * 2 ^ n) % 2 ^ 64 ≡ 2 ^ n
 pow_small n h =
     let most : 2 ^ n ≤ 2 ^ 63 = pow-le-pow_right (lit< tt) {i = n} {j = 63} (omega arith) in
     let one : 1 * 2 ^ n ≡ 2 ^ n = omega arith in
     rw one (mod-eq_of_lt (lt_of_le_of_lt most (lit< tt)))
 
-module _ {l : List Expr} {e : Expr} (few : length l < 64) {n : ℕ} (is : n ≡ number_in l e) where
+module _ (l : List Expr) (e : Expr) (few : length l < 64) {n : ℕ} (is : n ≡ number_in l e) where
   pub number_small : n < 64
   number_small = omega (arith, number-upto l e)
 

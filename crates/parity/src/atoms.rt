@@ -9,6 +9,7 @@ use expr::Tree;
 pub struct Atoms<'a> {
     list: [Tree<'a>; 64],
     count: usize,
+    ghost full: { length list ≡ 64 },
     ghost few: { count ≤ 64 },
 }
 
@@ -17,6 +18,7 @@ impl<'a> Atoms<'a> {
     ghost use Rattle.parity.specs.Lent.{trees_of};
 
     // No atoms yet. Any tree fills the table.
+    #[tactic(auto, unfolding(crate::specs::Lent::exprs))]
     pub fn new(filler: Tree<'a>) -> Atoms<'a>
         ensures { trees_of result ≡ [] }
     {
@@ -24,13 +26,6 @@ impl<'a> Atoms<'a> {
             list: [filler; 64],
             count: 0,
         }
-    }
-
-    // Takes the numbers back.
-    pub fn clear(&mut self)
-        ensures { trees_of self.new ≡ [] }
-    {
-        self.count = 0;
     }
 
     // The number of the first atom that is the same as a part, or how many there are.

@@ -10,15 +10,15 @@ ghost use Rattle.poly.specs.Terms.{Written, toggle, sum, sum_times, sum_product,
 // Adds a term to the first count, and gives the new count.
 fn toggle(list: &mut [u64], count: usize, term: u64) -> usize
     requires { (count < length list.old) × Ascending (take count list.old) }
-    ensures { Written (toggle term (take count list.old)) result (count + 1) list.old list.new }
+    ensures { (result ≡ length (toggle term (take count list.old))) × (list.new ≡ over (toggle term (take count list.old)) list.old) }
 {
     match list[..count].binary_search(&term) {
         Ok(at) => {
-            list.copy_within(at + 1..count, at);
+            list[at..count].copy_within(1.., 0);
             count - 1
         }
         Err(at) => {
-            list.copy_within(at..count, at + 1);
+            list[at..count + 1].copy_within(..count - at, 1);
             list[at] = term;
             count + 1
         }

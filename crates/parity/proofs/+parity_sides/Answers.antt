@@ -1,6 +1,5 @@
 -- `sides` is called on the two sides of a part and calls `parity` on each: the measures are twice the words, and one more for `parity`.
 use Rattle.std.proofs.Common.{refl, sym, ◌∙◌, arith}
-use Rattle.expr.proofs.Laws.{wf-two}
 use Rattle.parity.proofs.Calls.{lent-smaller, given-same, given-as, low-constant, low-cast, low-binary, low-other, two-right, two-sides, two-given}
 use Rattle.parity.proofs.Steps.{constant-made, lent-count}
 use Rattle.parity.proofs.+parity_sides.Goals as goal
@@ -17,6 +16,10 @@ parity-sides-requires-in-Both t c =
 pub parity-parity-requires-in-Keeps : goal.parity-parity-requires-in-Keeps
 parity-parity-requires-in-Keeps t c =
     (omega (arith, c.decreases, c.sides.ensures.size), lent-smaller c.requires (omega (arith, c.sides.ensures.size)))
+
+pub parity-atom-requires-in_default-clause-room : goal.parity-atom-requires-in_default-clause-room
+parity-atom-requires-in_default-clause-room t c =
+    lent-count c.args.part.wf c.requires
 
 pub parity-returns-in-Constant : goal.parity-returns-in-Constant
 parity-returns-in-Constant t c =
@@ -55,13 +58,13 @@ parity-returns-in_default t c =
 
 pub sides-parity-requires-2 : goal.sides-parity-requires-2
 sides-parity-requires-2 t c =
-    (omega (arith, c.decreases), two-right c.args.left.wf c.args.right.wf c.requires c.parity.ensures c.in_ok-n.was c.parity.auto.terms c.parity.auto.scratch)
+    (omega (arith, c.decreases), two-right _ _ _ c.args.left.wf c.args.right.wf c.requires c.parity.ensures c.in_ok-n.was c.parity.auto.terms c.parity.auto.scratch)
 
 pub sides-combined-requires : goal.sides-combined-requires
 sides-combined-requires t c =
-    two-sides c.args.left.wf c.args.right.wf c.requires c.parity.ensures c.in_ok-n.was c.parity-2.ensures c.in_ok-k.was _ c.parity.auto.terms c.parity-2.auto.terms
+    two-sides _ _ _ c.args.left.wf c.args.right.wf c.requires c.parity.ensures c.in_ok-n.was c.parity-2.ensures c.in_ok-k.was _ c.parity.auto.terms c.parity-2.auto.terms
     (c.parity-2.auto.scratch ∙ c.parity.auto.scratch)
 
 pub sides-returns : goal.sides-returns
 sides-returns t c =
-    two-given c.args.left.wf c.args.right.wf c.requires c.parity.ensures c.in_ok-n.was c.parity-2.ensures c.in_ok-k.was _ c.args.pair _ _ c.combined.ensures
+    two-given _ _ _ c.args.left.wf c.args.right.wf c.requires c.parity.ensures c.in_ok-n.was c.parity-2.ensures c.in_ok-k.was _ c.args.pair _ _ c.combined.ensures

@@ -2,8 +2,8 @@ use Rattle.std.proofs.Common.{arith}
 use Rattle.parity.proofs.Steps.{told, join-few, join-taken, join-ordered}
 use Rattle.parity.proofs.join_sides.Goals as goal
 
-pub add-2-requires : goal.add-2-requires
-add-2-requires c =
+pub add-requires : goal.add-requires
+add-requires c =
     let t = told c.product_sides.ensures c.in_ok-count.was in
     let long = c.product_sides.auto.scratch in
     let put = c.copy_from_slice.ensures.after in
