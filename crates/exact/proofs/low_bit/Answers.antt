@@ -1,8 +1,8 @@
 use Rattle.exact.proofs.Steps.{lent_whole, low-past, low-told}
 use Rattle.exact.proofs.low_bit.Goals as goal
 
-pub parity-n-requires : goal.parity-n-requires
-parity-n-requires c = lent_whole c.new-atoms.ensures c.requires.part_len_bound c.requires.buffers
+pub parity-requires : goal.parity-requires
+parity-requires c = lent_whole c.new-atoms.ensures c.requires.part_len_bound c.requires.buffers
 
 pub returns-in_err-n : goal.returns-in_err-n
 returns-in_err-n c =

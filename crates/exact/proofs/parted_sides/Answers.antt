@@ -1,8 +1,8 @@
 use Rattle.exact.proofs.Steps.{lent_whole, parted-past, parted-told}
 use Rattle.exact.proofs.parted_sides.Goals as goal
 
-pub sides-n-requires : goal.sides-n-requires
-sides-n-requires c = lent_whole c.new-atoms.ensures c.requires.sides_len_bound c.requires.buffers
+pub sides-requires : goal.sides-requires
+sides-requires c = lent_whole c.new-atoms.ensures c.requires.sides_len_bound c.requires.buffers
 
 pub returns-in_err-n : goal.returns-in_err-n
 returns-in_err-n c =
