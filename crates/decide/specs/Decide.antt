@@ -42,10 +42,11 @@ abbrev pub asked : Bool → Bool → Bool
 asked true b = b
 asked false b = not b
 
--- Sides whose low bits always differ are never equal (N6).
+-- what the sides' low bits say, from whether they always differ
 abbrev pub on_parity : Bool → Bool → Verdict
 on_parity equal differ = cond differ (said Parity (asked equal false)) Undecided
 
+-- Sides whose low bits always differ are never equal (N6).
 abbrev pub odd_sides : Bool → Expr → Expr → Verdict
 odd_sides equal a b = on_parity equal (is_one (difference a b))
 

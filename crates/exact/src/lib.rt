@@ -72,11 +72,7 @@ fn is_one(poly: &[u64]) -> bool
 
 // The low bit of a part by itself. Not inlined, so that a call of `exact` within another has no table of atoms.
 #[inline(never)]
-fn low_bit(
-    part: Tree,
-    terms: &mut [u64],
-    scratch: &mut [u64],
-) -> Result<Option<u64>, TooMany>
+fn low_bit(part: Tree, terms: &mut [u64], scratch: &mut [u64]) -> Result<Option<u64>, TooMany>
     requires part_len_bound { length part.words.now ≤ 256 }
     requires buffers { Buffers (length part.words.now) terms.old scratch.old }
     ensures { result ≡ within (parity_of [] (tree_of part.entry.words.now)).fits (low (tree_of part.entry.words.now)) }
@@ -117,11 +113,7 @@ fn even_only(v: Option<u64>) -> Option<u64>
 }
 
 // The value of an exact side.
-pub fn exact(
-    part: Tree,
-    terms: &mut [u64],
-    scratch: &mut [u64],
-) -> Result<Option<u64>, TooMany>
+pub fn exact(part: Tree, terms: &mut [u64], scratch: &mut [u64]) -> Result<Option<u64>, TooMany>
     requires part_len_bound { length part.words.now ≤ 256 }
     requires buffers { Buffers (length part.words.now) terms.old scratch.old }
     ensures { result ≡ within (exact_fits (tree_of part.entry.words.now)) (exact_of (tree_of part.entry.words.now)) }

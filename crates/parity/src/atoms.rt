@@ -4,7 +4,7 @@ ghost use Rattle.expr.specs.Tree.{tree_of};
 
 use expr::Tree;
 
-// The atoms that have a number, each at its own; another tree stands where there is none yet.
+// The atoms that have a number, each at its own; another tree stands where there is none yet. An array with a count, since nothing here allocates.
 #[derive(Drop)]
 pub struct Atoms<'a> {
     list: [Tree<'a>; 64],

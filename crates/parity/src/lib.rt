@@ -114,13 +114,9 @@ fn limited(count: usize) -> Result<usize, TooMany>
     Ok(count)
 }
 
-// The sum of the sides, at the start.
-fn add_sides(
-    terms: &mut [u64],
-    n: usize,
-    k: usize,
-    scratch: &mut [u64],
-) -> Result<usize, TooMany>
+// The sum of the sides, at the start. The lists and their counts are no struct, here and below: a fact in it, as `Sides`, would have to hold at
+// each return, and each of these functions writes over what `Sides` tells of.
+fn add_sides(terms: &mut [u64], n: usize, k: usize, scratch: &mut [u64]) -> Result<usize, TooMany>
     requires { Sides terms.old n k scratch.old }
     ensures { Made (few (sum_of (take n terms.old) (take k (drop n terms.old)))) (sum_of (take n terms.old) (take k (drop n terms.old))) terms.new result }
 {
@@ -129,12 +125,7 @@ fn add_sides(
 }
 
 // The product of the sides, at the start of the scratch.
-fn product_sides(
-    terms: &[u64],
-    n: usize,
-    k: usize,
-    scratch: &mut [u64],
-) -> Result<usize, TooMany>
+fn product_sides(terms: &[u64], n: usize, k: usize, scratch: &mut [u64]) -> Result<usize, TooMany>
     requires { Sides terms.now n k scratch.old }
     ensures { Made (few_pairs (take n terms.now) (take k (drop n terms.now)) && few (product_of (take n terms.now) (take k (drop n terms.now)))) (product_of (take n terms.now) (take k (drop n terms.now))) scratch.new result }
 {
@@ -160,12 +151,7 @@ fn multiply_sides(
 }
 
 // The or of the sides, at the start: their sum, with their product added to it.
-fn join_sides(
-    terms: &mut [u64],
-    n: usize,
-    k: usize,
-    scratch: &mut [u64],
-) -> Result<usize, TooMany>
+fn join_sides(terms: &mut [u64], n: usize, k: usize, scratch: &mut [u64]) -> Result<usize, TooMany>
     requires { Sides terms.old n k scratch.old }
     ensures { Made (pair_fits Pair.Or (take n terms.old) (take k (drop n terms.old))) (joined_of (take n terms.old) (take k (drop n terms.old))) terms.new result }
 {
@@ -175,7 +161,8 @@ fn join_sides(
     limited(poly::add(terms, sum, &scratch[..count]))
 }
 
-// A part's polynomial from its sides', which stand one after the other.
+// A part's polynomial from its sides', which stand one after the other. The pair is a value that the definitions name: with a closure in its
+// place the same three calls would stand in `entered`.
 fn combined(
     pair: Pair,
     terms: &mut [u64],
