@@ -114,7 +114,8 @@ fn either(left: Verdict, right: Verdict) -> Verdict
     negated(both(negated(left), negated(right)))
 }
 
-// A comparison of equal sides.
+// A comparison of equal sides. An operator and its sides are what a tree gives when it is asked (`argument`, `sides`): a struct of the three would be
+// made in `decide` alone, and taken apart in each step.
 fn equal_sides(operator: u64, left: Tree, right: Tree) -> Verdict
     ensures { result ≡ equal_sides operator (tree_of left.entry.words.now) (tree_of right.entry.words.now) }
 {

@@ -180,7 +180,8 @@ fn combined(
     }
 }
 
-// The polynomial of a part with both sides entered: the right side's atoms have their numbers after the left side's.
+// The polynomial of a part with both sides entered: the right side's atoms have their numbers after the left side's. The right side gets the rest of
+// `terms` and all of `scratch`, so a struct of the two lists would be taken apart and made anew here.
 #[cycle(parity_sides)]
 pub fn sides<'a>(
     pair: Pair,

@@ -19,7 +19,7 @@ pub enum Reason {
 }
 
 impl Reason {
-    // The number of the reason.
+    // The number of the reason: its variant's. As `From<Reason> for u8` this would be the same cast under a name that says less.
     pub fn number(self) -> u8
         ensures { result ≡ reason_number self }
     {
