@@ -135,7 +135,8 @@ pub fn exact(part: Tree, terms: &mut [u64], scratch: &mut [u64]) -> Result<Optio
     }
 }
 
-// A constant as written: one inside casts, & 1 and % 2. This goes on where `exact` asks for a low bit.
+// A constant as written: one inside casts, & 1 and % 2. This goes on where `exact` asks for a low bit. A match of truth values, as two of its arms
+// go on, and not a test for one kind.
 pub fn written(part: Tree) -> bool
     ensures { result ≡ written_of (tree_of part.entry.words.now) }
 {
