@@ -1,7 +1,7 @@
 -- The laws of the calls by which `parity` goes through a part: what a child borrows, and what a part's polynomial is by its root.
 use Prim.Native.Nat.{ℕ, ◌+◌, ◌*◌, ◌-◌, ◌≤◌, ◌<◌}
 use mathlib.Core.Path.{◌≡◌, refl, sym, ap, subst, ◌∙◌}
-use mathlib.Core.Bool.{true, false}
+use mathlib.Core.Bool.{true}
 use mathlib.Core.List.{List, ◌++◌}
 use native.Mathlib.Omega.{arith}
 use lib.ListN.{length, take, drop, length-append, length-drop}
@@ -17,11 +17,11 @@ use Rattle.parity.specs.Parity.{Low, constant_poly, entered, atom_low, pair_poly
 use Rattle.parity.specs.declared.Pair.{Pair}
 use Rattle.parity.specs.declared.Entry.{Entry}
 use Rattle.parity.specs.declared.TooMany.{TooMany}
-use Rattle.std.specs.Prelude.{Result, Ok, Err}
+use Rattle.std.specs.Prelude.{Result, Ok}
 use Rattle.parity.specs.Lent.{pair_of, Lent, Sides, Made, Given}
 use Rattle.parity.proofs.Ordered.{parity-ascending, parity-few, atoms-few}
 use Rattle.parity.proofs.Rooms.{leaves, parity-terms, eight-each, pairs-room, products-lent}
-use Rattle.parity.proofs.Steps.{Told, told, passed, made_none, told-within}
+use Rattle.parity.proofs.Steps.{Told, told, told-within}
 
 pub wf-length : (ws : List ℕ) → Wf ws → length (flat (tree_of ws)) ≡ length ws
 wf-length ws w = ap length w
@@ -41,9 +41,6 @@ given-same f a m = record { made = rw f m; numbered = λ _. a }
 -- what is given of one result is given of an equal one
 pub given-as : {low low' : Low} {l : List Expr} {terms : List ℕ} {r : Result ℕ TooMany} → low ≡ low' → Given low' l terms r → Given low l terms r
 given-as {l = l} {terms = terms} {r = r} e g = subst (λ (x : Low). Given x l terms r) (sym e) g
-
-pub given-none : {low : Low} {x : TooMany} (l : List Expr) (terms : List ℕ) → low.fits ≡ false → Given low l terms (Err x)
-given-none {low} l terms h = record { made = made_none low.poly terms h; numbered = λ k. cc }
 
 -- a part's polynomial by its root
 module _ (l : List Expr) (e : Expr) where
@@ -116,10 +113,6 @@ module _ (left right : List ℕ) (l : List Expr) {terms scratch : List ℕ} (lef
       h' : Given (parity (parity l (tree_of left)).atoms (tree_of right)) l₂ rest₂ r₂
       h' = rw left-atoms at h
 
-      -- the right side passes the limits
-      pub right-none : {x : TooMany} → r₂ ≡ Err x → (pair : Pair) → (pair_of pair l (tree_of left) (tree_of right)).fits ≡ false
-      right-none f pair = rw (x-told.fit, passed h'.made f)
-
       module _ {k : ℕ} (f : r₂ ≡ Ok k) where
         y-told : Told (parity (parity l (tree_of left)).atoms (tree_of right)).fits (parity (parity l (tree_of left)).atoms (tree_of right)).poly rest₂ k
         y-told = told h'.made f
@@ -170,7 +163,3 @@ module _ (left right : List ℕ) (l : List Expr) {terms scratch : List ℕ} (lef
             made = rw (x-told.fit, y-told.fit) (rw (first, second) at m);
             numbered = λ _. h'.numbered y-told.fit;
           }
-
-  pub left-none : {l₁ : List Expr} {terms₁ : List ℕ} {r₁ : Result ℕ TooMany} {x : TooMany} → Given (parity l (tree_of left)) l₁ terms₁ r₁ → r₁ ≡ Err x
-      → (pair : Pair) → (pair_of pair l (tree_of left) (tree_of right)).fits ≡ false
-  left-none g e pair = rw (passed g.made e)

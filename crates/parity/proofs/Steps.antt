@@ -7,12 +7,12 @@ use mathlib.Core.List.{List, [], ◌∷◌, ◌++◌, append_assoc}
 use Rattle.std.specs.Prelude.{Some, None, Result, Ok, Err}
 use native.Mathlib.Nat.{mod-eq_of_lt, pow-le-pow_right, lt_of_le_of_lt}
 use native.Mathlib.Omega.{arith}
-use lib.Dec.{leb, lit<}
+use lib.Dec.{lit<}
 use lib.ListN.{length, take, drop, set, length-take, length-drop}
 use borrow.Rule.Slice.PartMut.{put_mid}
 use Rattle.std.proofs.lemmas.Slice.{put_mid-paste}
 use lib.Seq.{length-take-le, take_at, drop_at, take-length, paste}
-use borrow.Author.Tests.{lt-leb, le-leb, leb-true}
+use borrow.Author.Tests.{leb-true}
 use Rattle.search.specs.Ascending.{Ascending}
 use Rattle.expr.specs.Tree.{Expr, Wf, value_of}
 use Rattle.expr.specs.Tree.Expr.{variable, constant, condition_true, condition_false, effect, load, cast, binary, ternary}
@@ -20,14 +20,13 @@ use Rattle.expr.proofs.Laws.{wf-two}
 use Rattle.expr.specs.Root.{root_of}
 use Rattle.expr.specs.declared.Root.TheVariants.{Constant}
 use Rattle.expr.proofs.Views.{constant-root}
-use Rattle.poly.specs.Terms.{Written, sum, product, sum_product}
+use Rattle.poly.specs.Terms.{Written, sum, product}
 use Rattle.poly.proofs.Running.{length-times, times_one, written-ordered}
 use Rattle.poly.proofs.Values.{ascending-sum}
-use Rattle.parity.specs.Parity.{constant_of, few, few_pairs, joined, constant_poly, number_in, noted, atom_low}
+use Rattle.parity.specs.Parity.{constant_of, few, few_pairs, constant_poly, number_in, noted, atom_low}
 use Rattle.parity.specs.declared.TooMany.{TooMany}
-use Rattle.parity.specs.Lent.{too_many, within, Lent, Sides, Made, Given}
+use Rattle.parity.specs.Lent.{too_many, Lent, Sides, Made, Given}
 use Rattle.parity.proofs.Numbers.{number-upto}
-use Rattle.laws.proofs.Booleans.{and_both}
 
 -- a constant's value, by its root
 pub constant_told : (e : Expr) → root_of e ≡ Constant → Some (value_of e) ≡ constant_of e
@@ -76,9 +75,6 @@ passed {fits} {poly} {terms} {r} {x} m e = go fits refl (sym m.size ∙ e)
     go true f h = cc
     go false f h = f
 
-pub made_none : {fits : Bool} {x : TooMany} (poly terms : List ℕ) → fits ≡ false → Made fits poly terms (Err x)
-made_none {fits} poly terms h = record { size = rw h refl; stands = λ k. cc }
-
 -- a list copied into another stands there, and what is before it is as it was
 pub copied-part : (l q : List ℕ) (at k : ℕ) → length q ≡ k → at + k ≤ length l → take k (drop at (paste l at q (length q))) ≡ q
 copied-part l q at k e h =
@@ -103,10 +99,6 @@ length-behind terms n k h = length-take-le k (drop n terms) (omega (arith, lengt
 pub length-sum : (p q : List ℕ) → length (sum p q) ≤ length p + length q
 length-sum p q = rw (sym (times_one p q)) (length-times p 0 q)
 
--- a polynomial at the start, its count held to the limit
-pub limited-made : {poly old new : List ℕ} {count room : ℕ} {r : Result ℕ TooMany} → Written poly count room old new → r ≡ within (leb count 256) count → Made (few poly) poly new r
-limited-made w e = record { size = rw w.count at e; stands = λ _. rw w.count at w.terms }
-
 pub told-within : {fits : Bool} {poly terms : List ℕ} {n : ℕ} → Told fits poly terms n → n ≤ length terms
 told-within {terms = terms} {n = n} t = omega (arith, t.count, ap length t.stands, length-take n terms)
 
@@ -121,45 +113,6 @@ module _ (terms : List ℕ) (n k : ℕ) (scratch : List ℕ) (s : Sides terms n 
 
   right-count : length (take k (drop n terms)) ≡ k
   right-count = length-behind terms n k (omega (arith, s.left, s.right, s.space))
-
-  -- the sum
-  pub sum-made : (copy new : List ℕ) (count room : ℕ) (r : Result ℕ TooMany)
-      → copy ≡ paste scratch 0 (take (n + k - n) (drop n terms)) (length (take (n + k - n) (drop n terms)))
-      → Written (sum (take n terms) (take k copy)) count room terms new
-      → r ≡ within (leb count 256) count
-      → Made (few (sum (take n terms) (take k (drop n terms)))) (sum (take n terms) (take k (drop n terms))) new r
-  sum-made copy new count room r e w l =
-      let right : take k copy ≡ take k (drop n terms) =
-      rw (behind terms n k (n + k) refl) at (ap (take k) e)
-      ∙ copied-part scratch (take k (drop n terms)) 0 k right-count (omega (arith, s.right, s.copies)) in
-      limited-made (rw right at w) l
-
-  -- the product
-  pub pairs-past : (b : Bool) → 4096 < n * k → (few_pairs (take n terms) (take k (drop n terms)) && b) ≡ false
-  pairs-past b h = rw (left-count, right-count, lt-leb (n * k) 4096 h)
-
-  pub product-room : n * k ≤ 4096 → 0 + length (take n terms) * length (take (n + k - n) (drop n terms)) ≤ length scratch
-  product-room h = rw (behind terms n k (n + k) refl, left-count, right-count) (omega (arith, s.products h))
-
-  pub product-made : (new : List ℕ) (count room : ℕ) (r : Result ℕ TooMany) → n * k ≤ 4096
-      → Written (sum_product (take 0 scratch) (take n terms) (take (n + k - n) (drop n terms))) count room scratch new
-      → r ≡ within (leb count 256) count
-      → Made (few_pairs (take n terms) (take k (drop n terms)) && few (product (take n terms) (take k (drop n terms)))) (product (take n terms) (take k (drop n terms))) new r
-  product-made new count room r h w l =
-      let pairs : few_pairs (take n terms) (take k (drop n terms)) ≡ true = rw (left-count, right-count) (le-leb (n * k) 4096 h) in
-      rw pairs (limited-made (rw (behind terms n k (n + k) refl) at w) l)
-
--- a polynomial moved from the start of one list to that of another
-pub moved_made : {fits : Bool} {poly from : List ℕ} {n : ℕ} (terms : List ℕ) → Told fits poly from n → n ≤ length terms
-    → Made fits poly (paste terms 0 (take n from) (length (take n from))) (Ok n)
-moved_made {fits} {poly} {from} {n} terms t h = record {
-  size = rw (t.fit, t.count);
-  stands = λ _.
-      let long : length (take n from) ≡ n = length-take-le n from (told-within t) in
-      ap (λ (j : ℕ). take j (paste terms 0 (take n from) (length (take n from)))) (sym t.count)
-      ∙ copied-part terms (take n from) 0 n long (omega arith)
-      ∙ t.stands;
-}
 
 module _ {terms : List ℕ} {n k : ℕ} {scratch : List ℕ} (s : Sides terms n k scratch) where
   -- the or: the product stands at the start of one list, and the right side is copied behind it
@@ -203,13 +156,6 @@ module _ {terms : List ℕ} {n k : ℕ} {scratch : List ℕ} (s : Sides terms n 
 
     pub join-taken : length (take count copy) ≤ 256
     join-taken = omega (arith, ap length join-product, t.count, join-count)
-
-    pub join-made : (new : List ℕ) (whole room' : ℕ) (r : Result ℕ TooMany) → Written (sum (take sums mid) (take count copy)) whole room' mid new
-        → r ≡ within (leb whole 256) whole
-        → Made (few_pairs (take n terms) (take k (drop n terms)) && (few (product (take n terms) (take k (drop n terms))) && few (joined (take n terms) (take k (drop n terms))))) (joined (take n terms) (take k (drop n terms))) new r
-    join-made new whole room' r v l =
-        let fit = and_both (few_pairs (take n terms) (take k (drop n terms))) (few (product (take n terms) (take k (drop n terms)))) t.fit in
-        rw (fit.0, fit.1) (limited-made (rw (join-sum.terms, join-product) at v) l)
 
 pub pow_small : (n : ℕ) → n < 64 → (1 * 2 ^ n) % 2 ^ 64 ≡ 2 ^ n
 pow_small n h =

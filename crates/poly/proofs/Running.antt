@@ -6,7 +6,7 @@ use mathlib.Core.List.{List, [], ◌∷◌}
 use native.Mathlib.Nat.{mul-le-mul_right, suc-mul}
 use native.Mathlib.Numerals.{add-one}
 use native.Mathlib.Omega.{arith}
-use lib.ListN.{length, get_or, take, drop, length-take}
+use lib.ListN.{length, get_or, take, drop}
 use lib.Seq.{take-append_seam, drop-append-add, drop-drop, drop-cons, drop-length, length-take-le}
 use lib.Dec.{ltb, eqb}
 use lib.Bits.{bit_or}
@@ -90,12 +90,6 @@ pub record Times (old new : List ℕ) (count x : ℕ) (b : List ℕ) (n i : ℕ)
   pub within : i ≤ length b
   pub run : Running (sum_times (take n new) x (drop i b)) (sum_times (take count old) x b) old new n (count + i) (count + length b)
 
-pub times_none : (l : List ℕ) (n x : ℕ) (b : List ℕ) → Ascending (take n l) → Times l l n x b n 0
-times_none l n x b up = record {
-  within = omega arith;
-  run = record { due = refl; ordered = up; few = omega arith; long = refl; beyond = refl };
-}
-
 pub times_more : {old new new' b : List ℕ} {n count x i : ℕ} (m : ℕ) → Times old new count x b n i
     → i < length b → count + length b ≤ length old → length new' ≡ length new
     → (m ≡ length (toggle (bit_or x (get_or b i 0)) (take n new))) × (new' ≡ over (toggle (bit_or x (get_or b i 0)) (take n new)) new)
@@ -178,9 +172,6 @@ products-done {old} {new} {a} {b} {n} {count} {i} so_far end room =
     let all : i ≡ length a = omega (arith, so_far.within) in
     running-done (rw (all, drop-length a) at so_far.run) (omega arith) room
 
--- For callers: what stands at the start fits the list, and ascends where the definition does.
-pub written-fits : {t old new : List ℕ} {n room : ℕ} → Written t n room old new → n ≤ length new
-written-fits {new = new} {n = n} w = omega (arith, w.count, ap length w.terms, length-take n new)
-
+-- For callers: what stands at the start ascends where the definition does.
 pub written-ordered : {t old new : List ℕ} {n room : ℕ} → Written t n room old new → Ascending t → Ascending (take n new)
 written-ordered w up = rw w.terms up
