@@ -5,7 +5,6 @@ use Prim.Native.Nat.{ℕ}
 use mathlib.Core.Path.{◌≡◌, ◌∙◌}
 use mathlib.Core.Bool.{Bool, true, false, cond}
 use mathlib.Core.List.{[], ◌∷◌}
-use native.Mathlib.Omega.{arith}
 use Rattle.expr.specs.Codes.{op_equal, op_not_equal}
 use Rattle.expr.specs.Tree.{Expr}
 use Rattle.expr.specs.Tree.Expr.{binary}
@@ -35,15 +34,15 @@ differs-one a b h = one-everywhere (difference a b) (ascending-sum (parity [] a)
 
 -- a later step decides where an earlier one does not
 else-decided : (v w : Verdict) → (w ≡ Undecided → ⊥) → or_else v w ≡ Undecided → ⊥
-else-decided (Always r) w h e = let z : ◌≡◌ {A = ℕ} 0 1 = cc in omega arith
-else-decided (Never r) w h e = let z : ◌≡◌ {A = ℕ} 0 1 = cc in omega arith
+else-decided (Always r) w h e = cc
+else-decided (Never r) w h e = cc
 else-decided Undecided w h e = h e
-else-decided NoBranch w h e = let z : ◌≡◌ {A = ℕ} 0 1 = cc in omega arith
+else-decided NoBranch w h e = cc
 
 -- No equality, == or !=, is left undecided whose sides' low bits differ for every choice of atom bits.
 pub decided : (equal : Bool) (a b : Expr) → AlwaysDiffer a b → decide (binary (cond equal op_equal op_not_equal) a b) ≡ Undecided → ⊥
 unfolding decide
 decided true a b h =
-    else-decided (equal_sides op_equal a b) (equality true a b) (else-decided (on_exact true (exact_sides a b)) (odd_sides true a b) (λ e. let z : ◌≡◌ {A = ℕ} 0 1 = cc (rw (differs-one a b h) at e) in omega arith))
+    else-decided (equal_sides op_equal a b) (equality true a b) (else-decided (on_exact true (exact_sides a b)) (odd_sides true a b) (λ e. cc (rw (differs-one a b h) at e)))
 decided false a b h =
-    else-decided (equal_sides op_not_equal a b) (equality false a b) (else-decided (on_exact false (exact_sides a b)) (odd_sides false a b) (λ e. let z : ◌≡◌ {A = ℕ} 0 1 = cc (rw (differs-one a b h) at e) in omega arith))
+    else-decided (equal_sides op_not_equal a b) (equality false a b) (else-decided (on_exact false (exact_sides a b)) (odd_sides false a b) (λ e. cc (rw (differs-one a b h) at e)))

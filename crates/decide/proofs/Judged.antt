@@ -42,12 +42,6 @@ equality-found o a b {v} f g h is =
     let all : equality_fits a b ≡ true = equality-limits a b ∙ rw (f, g, h) refl in
     rw (all, is) refl
 
-pub equality-past : (o : ℕ) (a b : Expr) {q : Result Verdict TooMany} → (sum_fits a b && (exact_fits a && exact_fits b)) ≡ false → IsErr q
-    → q ≡ equality_answer o a b
-equality-past o a b f is =
-    let none : equality_fits a b ≡ false = equality-limits a b ∙ f in
-    rw none (only is)
-
 -- a cast by its root, and a root that is no cast
 pub unsigned_told : (e : Expr) → root_of e ≡ Cast → unsigned (root_argument e) ≡ unsigned_cast e
 unsigned_told e h = sym (ap unsigned_cast (by-root e Cast h))

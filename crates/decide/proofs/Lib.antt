@@ -6,5 +6,3 @@ pub mod Reasons
 pub mod Sound
 -- laws of the code's steps
 pub mod Judged
--- buffers for an equality
-pub mod Rooms

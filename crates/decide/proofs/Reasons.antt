@@ -42,7 +42,7 @@ moved : (R : ℕ → ℕ → Type 0) {v r w q : ℕ} → decision v r ≡ decisi
 moved R {v} {r} {w} {q} e h = let p : v ≡ w = cc in let s : r ≡ q = cc in rw (p, s) at h
 
 open' : {A : Type 0} {v r : ℕ} → undecided ≡ decision v r → A
-open' e = let z : ◌≡◌ {A = ℕ} 0 1 = cc in absurd (omega arith)
+open' e = cc
 
 -- ---- the steps' tests and their premises
 
@@ -69,10 +69,10 @@ module _ (a b : Expr) where
   compared_is = go (exact a) refl (exact b) refl (written a) refl (written b) refl
     where
       none_left : exact a ≡ None → (x y : ℕ) → ExactValues a b x y → ⊥
-      none_left e x y h = let f = (value_found a x).1 h.left in let z : ◌≡◌ {A = ℕ} 0 1 = cc in omega arith
+      none_left e x y h = let f = (value_found a x).1 h.left in cc
 
       none_right : exact b ≡ None → (x y : ℕ) → ExactValues a b x y → ⊥
-      none_right e x y h = let f = (value_found b y).1 h.right in let z : ◌≡◌ {A = ℕ} 0 1 = cc in omega arith
+      none_right e x y h = let f = (value_found b y).1 h.right in cc
 
       found : {x y : ℕ} → exact a ≡ Some x → exact b ≡ Some y → (AsWritten a → AsWritten b → ⊥) → ExactValues a b x y
       found {x} {y} p q n = record { left = (value_found a x).0 p; right = (value_found b y).0 q; apart = n }
@@ -184,9 +184,9 @@ data Judged : Verdict → Type 0 where
   open-still : Judged Undecided
 
 judged-is : (v : Verdict) → Judged v → v ≡ NoBranch → ⊥
-judged-is v always e = let z : ◌≡◌ {A = ℕ} 0 1 = cc in omega arith
-judged-is v never e = let z : ◌≡◌ {A = ℕ} 0 1 = cc in omega arith
-judged-is v open-still e = let z : ◌≡◌ {A = ℕ} 0 1 = cc in omega arith
+judged-is v always e = cc
+judged-is v never e = cc
+judged-is v open-still e = cc
 
 judged-else : {v w : Verdict} → Judged v → Judged w → Judged (or_else v w)
 judged-else always q = always
@@ -304,43 +304,43 @@ module _ (a b : Expr) (left right : ℕ → ℕ → Type 0) where
 -- && from what its halves say
 and-left-says : (d k : Verdict) {r : ℕ} → Says d 0 r → Says (both d k) 0 r
 and-left-says (Never p) k h = h
-and-left-says (Always p) k h = let z : ◌≡◌ {A = ℕ} 0 1 = cc in absurd (omega arith)
+and-left-says (Always p) k h = cc
 and-left-says Undecided k h = open' h
-and-left-says NoBranch k h = let z : ◌≡◌ {A = ℕ} 0 1 = cc in absurd (omega arith)
+and-left-says NoBranch k h = cc
 
 and-right-says : (d k : Verdict) {r : ℕ} → Judged d → ((q : ℕ) → Says d 0 q → ⊥) → Says k 0 r → Says (both d k) 0 r
 and-right-says (Never p) k j n h = absurd (n (reason_number p) refl)
 and-right-says (Always p) (Never q) j n h = h
-and-right-says (Always p) (Always q) j n h = let z : ◌≡◌ {A = ℕ} 0 1 = cc in absurd (omega arith)
+and-right-says (Always p) (Always q) j n h = cc
 and-right-says (Always p) Undecided j n h = h
-and-right-says (Always p) NoBranch j n h = let z : ◌≡◌ {A = ℕ} 0 1 = cc in absurd (omega arith)
+and-right-says (Always p) NoBranch j n h = cc
 and-right-says Undecided (Never q) j n h = h
-and-right-says Undecided (Always q) j n h = let z : ◌≡◌ {A = ℕ} 0 1 = cc in absurd (omega arith)
+and-right-says Undecided (Always q) j n h = cc
 and-right-says Undecided Undecided j n h = h
-and-right-says Undecided NoBranch j n h = let z : ◌≡◌ {A = ℕ} 0 1 = cc in absurd (omega arith)
+and-right-says Undecided NoBranch j n h = cc
 and-right-says NoBranch k j n h = absurd (judged-is NoBranch j refl)
 
 and-both-says : (d k : Verdict) {r q : ℕ} → Says d 1 r → Says k 1 q → Says (both d k) 1 7
 and-both-says (Always p) (Always q) h m = refl
-and-both-says (Always p) (Never q) h m = let z : ◌≡◌ {A = ℕ} 0 1 = cc in absurd (omega arith)
+and-both-says (Always p) (Never q) h m = cc
 and-both-says (Always p) Undecided h m = open' m
-and-both-says (Always p) NoBranch h m = let z : ◌≡◌ {A = ℕ} 0 1 = cc in absurd (omega arith)
-and-both-says (Never p) k h m = let z : ◌≡◌ {A = ℕ} 0 1 = cc in absurd (omega arith)
+and-both-says (Always p) NoBranch h m = cc
+and-both-says (Never p) k h m = cc
 and-both-says Undecided k h m = open' h
-and-both-says NoBranch k h m = let z : ◌≡◌ {A = ℕ} 0 1 = cc in absurd (omega arith)
+and-both-says NoBranch k h m = cc
 
 -- always and never exchanged
 negated-holds : (d : Verdict) {r : ℕ} → Says d 1 r → Says (negated d) 0 r
 negated-holds (Always p) {r} h = let e : reason_number p ≡ r = cc in ap (decision 0) e
-negated-holds (Never p) h = let z : ◌≡◌ {A = ℕ} 0 1 = cc in absurd (omega arith)
+negated-holds (Never p) h = cc
 negated-holds Undecided h = open' h
-negated-holds NoBranch h = let z : ◌≡◌ {A = ℕ} 0 1 = cc in absurd (omega arith)
+negated-holds NoBranch h = cc
 
 negated-fails : (d : Verdict) {r : ℕ} → Says d 0 r → Says (negated d) 1 r
 negated-fails (Never p) {r} h = let e : reason_number p ≡ r = cc in ap (decision 1) e
-negated-fails (Always p) h = let z : ◌≡◌ {A = ℕ} 0 1 = cc in absurd (omega arith)
+negated-fails (Always p) h = cc
 negated-fails Undecided h = open' h
-negated-fails NoBranch h = let z : ◌≡◌ {A = ℕ} 0 1 = cc in absurd (omega arith)
+negated-fails NoBranch h = cc
 
 negated-twice : (d : Verdict) → negated (negated d) ≡ d
 negated-twice (Always p) = refl

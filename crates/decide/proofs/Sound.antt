@@ -61,7 +61,7 @@ meets-said r false t e = e
 -- logic
 
 apart : {X : Type 0} → (Some true) ≡ Some false → X
-apart e = let z : ◌≡◌ {A = ℕ} 0 1 = cc in absurd (omega arith)
+apart e = cc
 
 -- the left half of && holds, so the right one decides; or it fails, and the whole does
 both-on : (l r : Verdict) (u : Option Bool) → Meets l (Some true) → Meets r u → Meets (both l r) u
@@ -119,7 +119,7 @@ either_meets l r None u some' p q = absurd (some' refl)
 
 -- a value has an outcome
 has-outcome : (u : Option ℕ) → Has u → truth_of u ≡ None → ⊥
-has-outcome (Some x) h e = let z : ◌≡◌ {A = ℕ} 0 1 = cc in omega arith
+has-outcome (Some x) h e = cc
 has-outcome None h e = h
 
 outcome-has : (u : Option ℕ) → (truth_of u ≡ None → ⊥) → Has u
@@ -214,7 +214,7 @@ equal-truths o b e = first (eqb o 10) refl (eqb o 13) refl (eqb o 15) refl e
     second true p y q z r e = of-equal o 11 b false (eqb-true o 11 p) (omega arith) e (λ s x. equal-truth s s x x false ∙ ap (λ (t : Bool). outcome (not t)) (again s x))
     second false p true q z r e = of-equal o 12 b false (eqb-true o 12 q) (omega arith) e (λ s x. less-truth s s x x ∙ ap outcome (same s x))
     second false p false q true r e = of-equal o 14 b false (eqb-true o 14 r) (omega arith) e (λ s x. greater-truth s s x x ∙ ap outcome (same s x))
-    second false p false q false r e = let z : ◌≡◌ {A = ℕ} 0 1 = cc in absurd (omega arith)
+    second false p false q false r e = cc
 
     first : (x : Bool) → eqb o 10 ≡ x → (y : Bool) → eqb o 13 ≡ y → (z : Bool) → eqb o 15 ≡ z
         → cond (x || (y || z)) (Some true) (cond (eqb o 11 || (eqb o 12 || eqb o 14)) (Some false) None) ≡ Some b → OfEqual o b

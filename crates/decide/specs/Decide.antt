@@ -42,9 +42,13 @@ abbrev pub asked : Bool → Bool → Bool
 asked true b = b
 asked false b = not b
 
+-- what the sides' low bits say, from whether they always differ
+abbrev pub on_parity : Bool → Bool → Verdict
+on_parity equal differ = cond differ (said Parity (asked equal false)) Undecided
+
 -- Sides whose low bits always differ are never equal (N6).
 abbrev pub odd_sides : Bool → Expr → Expr → Verdict
-odd_sides equal a b = cond (is_one (difference a b)) (said Parity (asked equal false)) Undecided
+odd_sides equal a b = on_parity equal (is_one (difference a b))
 
 abbrev pub on_exact : Bool → Option Bool → Verdict
 on_exact equal None = Undecided

@@ -3,11 +3,11 @@
 
 ghost use Rattle.std.specs.Prelude.{◌≡◌, ◌+◌, ◌≤◌, ◌<◌, false, cond, length};
 ghost use Rattle.expr.specs.Tree.{tree_of};
-ghost use Rattle.parity.specs.Lent.{terms_room, within, LentTwo};
+ghost use Rattle.parity.specs.Lent.{terms_room, within};
 ghost use Rattle.exact.specs.Exact.{compared};
 ghost use Rattle.exact.specs.Answers.{Buffers};
-ghost use Rattle.decide.specs.Decide.{said as said_of, asked as asked_of, or_else, equal_sides, on_exact, unsigned, unsigned_cast, above_zero, mirrored as mirrored_of, unsigned_zero, both as both_of, negated as negated_of, either as either_of, decide as decide_of, fits};
-ghost use Rattle.decide.specs.Answers.{equality_answer, SidesOf};
+ghost use Rattle.decide.specs.Decide.{said as said_of, or_else, equal_sides, on_exact, on_parity, unsigned, unsigned_cast, above_zero, mirrored as mirrored_of, unsigned_zero, both as both_of, negated as negated_of, either as either_of, decide as decide_of, fits};
+ghost use Rattle.decide.specs.Answers.{equality_answer};
 
 use expr::{Root, Tree};
 use parity::TooMany;
@@ -23,20 +23,13 @@ fn said(reason: Reason, holds: bool) -> Verdict
     }
 }
 
-// == where `equal`, else !=: from whether the sides are equal.
-fn asked(equal: bool, same: bool) -> bool
-    ensures { result ≡ asked_of equal same }
-{
-    if equal { same } else { !same }
-}
-
 // The first of two steps that decides.
 fn or_else(first: Verdict, second: Verdict) -> Verdict
     ensures { result ≡ or_else first second }
 {
     match first {
         Verdict::Undecided => second,
-        decided => decided,
+        Verdict::Always(_) | Verdict::Never(_) | Verdict::NoBranch => first,
     }
 }
 
@@ -45,19 +38,19 @@ fn exact_verdict(equal: bool, a: Option<u64>, b: Option<u64>, as_written: bool) 
     ensures { result ≡ on_exact equal (compared a b as_written) }
 {
     match (a, b) {
-        (Some(x), Some(y)) if !as_written => said(Reason::ExactSides, asked(equal, x == y)),
+        (Some(x), Some(y)) if !as_written => said(Reason::ExactSides, equal == (x == y)),
         _ => Verdict::Undecided,
     }
 }
 
 // What the sides' low bits say of an equality, from whether they always differ.
 fn parity_verdict(equal: bool, differ: bool) -> Verdict
-    ensures { result ≡ cond differ (said_of Reason.Parity (asked_of equal false)) Verdict.Undecided }
+    ensures { result ≡ on_parity equal differ }
 {
     if !differ {
         return Verdict::Undecided;
     }
-    said(Reason::Parity, asked(equal, false))
+    said(Reason::Parity, !equal)
 }
 
 // Against 0 on its right.
@@ -93,11 +86,11 @@ fn both(left: Verdict, right: Verdict) -> Verdict
         Verdict::Always(_) => match right {
             Verdict::Always(_) => Verdict::Always(Reason::Halves),
             Verdict::Never(reason) => Verdict::Never(reason),
-            _ => Verdict::Undecided,
+            Verdict::Undecided | Verdict::NoBranch => Verdict::Undecided,
         },
         Verdict::Undecided => match right {
             Verdict::Never(reason) => Verdict::Never(reason),
-            _ => Verdict::Undecided,
+            Verdict::Always(_) | Verdict::Undecided | Verdict::NoBranch => Verdict::Undecided,
         },
         Verdict::NoBranch => Verdict::Undecided,
     }
@@ -110,7 +103,7 @@ fn negated(v: Verdict) -> Verdict
     match v {
         Verdict::Always(reason) => Verdict::Never(reason),
         Verdict::Never(reason) => Verdict::Always(reason),
-        open => open,
+        Verdict::Undecided | Verdict::NoBranch => v,
     }
 }
 
@@ -121,7 +114,8 @@ fn either(left: Verdict, right: Verdict) -> Verdict
     negated(both(negated(left), negated(right)))
 }
 
-// A comparison of equal sides.
+// A comparison of equal sides. An operator and its sides are what a tree gives when it is asked (`argument`, `sides`): a struct of the three would be
+// made in `decide` alone, and taken apart in each step.
 fn equal_sides(operator: u64, left: Tree, right: Tree) -> Verdict
     ensures { result ≡ equal_sides operator (tree_of left.entry.words.now) (tree_of right.entry.words.now) }
 {
@@ -138,20 +132,18 @@ fn equal_sides(operator: u64, left: Tree, right: Tree) -> Verdict
 // == or !=: equal sides, exact sides, then parity, where every step is within the limits.
 fn equality(
     operator: u64,
-    whole: &[u64],
     left: Tree,
     right: Tree,
-    atoms: &mut [u64],
     terms: &mut [u64],
     scratch: &mut [u64],
 ) -> Result<Verdict, TooMany>
-    requires lent_two { LentTwo whole.now 0 left.words.now right.words.now atoms.old 0 terms.old }
-    requires buffers { Buffers (length left.words.now + length right.words.now + 2) atoms.old terms.old scratch.old }
+    requires sides_len_bound { length left.words.now + length right.words.now + 2 ≤ 256 }
+    requires buffers { Buffers (length left.words.now + length right.words.now + 2) terms.old scratch.old }
     ensures { result ≡ equality_answer operator (tree_of left.entry.words.now) (tree_of right.entry.words.now) }
 {
-    let differ = exact::parted_sides(whole, left, right, atoms, terms, scratch)?;
-    let a = exact::exact(left, atoms, terms, scratch)?;
-    let b = exact::exact(right, atoms, terms, scratch)?;
+    let differ = exact::parted_sides(left, right, terms, scratch)?;
+    let a = exact::exact(left, terms, scratch)?;
+    let b = exact::exact(right, terms, scratch)?;
     let equal = operator == expr::EQUAL;
     let same = equal_sides(operator, left, right);
     let as_written = exact::written(left) & exact::written(right);
@@ -166,30 +158,20 @@ fn equality(
 #[inline(never)]
 fn equality_in<const TERMS: usize, const PRODUCTS: usize>(
     operator: u64,
-    whole: &[u64],
     left: Tree,
     right: Tree,
 ) -> Result<Verdict, TooMany>
-    requires sides_of { SidesOf whole.now left.words.now right.words.now }
-    requires terms { terms_room (length whole.now) ≤ TERMS }
+    requires sides_len_bound { length left.words.now + length right.words.now + 2 ≤ 256 }
+    requires terms { terms_room (length left.words.now + length right.words.now + 2) ≤ TERMS }
     requires least { 512 ≤ PRODUCTS }
-    requires most { 36 < length whole.now → 4096 ≤ PRODUCTS }
+    requires most { 36 < length left.words.now + length right.words.now + 2 → 4096 ≤ PRODUCTS }
     requires terms_bound { TERMS ≤ 2320 }
     requires products_bound { PRODUCTS ≤ 4096 }
     ensures { result ≡ equality_answer operator (tree_of left.entry.words.now) (tree_of right.entry.words.now) }
 {
-    let mut atoms = [0u64; 64];
     let mut terms = [0u64; TERMS];
     let mut scratch = [0u64; PRODUCTS];
-    equality(
-        operator,
-        whole,
-        left,
-        right,
-        &mut atoms,
-        &mut terms,
-        &mut scratch,
-    )
+    equality(operator, left, right, &mut terms, &mut scratch)
 }
 
 // An unsigned type or a pointer.
@@ -254,11 +236,9 @@ pub fn decide(condition: Tree) -> Result<Verdict, TooMany>
                 expr::LOGICAL_AND => Ok(both(decide(left)?, decide(right)?)),
                 expr::LOGICAL_OR => Ok(either(decide(left)?, decide(right)?)),
                 expr::EQUAL | expr::NOT_EQUAL if condition.words.len() <= 36 => {
-                    equality_in::<560, 512>(operator, condition.words, left, right)
+                    equality_in::<560, 512>(operator, left, right)
                 }
-                expr::EQUAL | expr::NOT_EQUAL => {
-                    equality_in::<2320, 4096>(operator, condition.words, left, right)
-                }
+                expr::EQUAL | expr::NOT_EQUAL => equality_in::<2320, 4096>(operator, left, right),
                 _ => Ok(relation(operator, left, right)),
             }
         }

@@ -59,7 +59,7 @@ unfolding convert residue
 convert-plain s t v test is room = rw (test, is) (mod-eq_of_lt room)
 
 no_value : (z : ℕ) → None ≡ Some z → ⊥
-no_value z e = let z : ◌≡◌ {A = ℕ} 0 1 = cc in omega arith
+no_value z e = cc
 
 strict-left : (o s t : ℕ) (v : Option ℕ) → o < 16 → operate o s t None v ≡ None
 unfolding operate
@@ -208,8 +208,8 @@ decided-low (n ∷ []) γ v e = go (eqb n 0) refl e
   where
     go : (b : Bool) → eqb n 0 ≡ b → cond b (Some 1) None ≡ Some v → (value γ (n ∷ []) ≡ eqb v 1) × (v < 2)
     go true test e = let is : 1 ≡ v = cc in let z = eqb-true n 0 test in (rw (z, ← is) (value-one γ), omega arith)
-    go false test e = let z : ◌≡◌ {A = ℕ} 0 1 = cc in absurd (omega arith)
-decided-low (n ∷ k ∷ l) γ v e = let z : ◌≡◌ {A = ℕ} 0 1 = cc in absurd (omega arith)
+    go false test e = cc
+decided-low (n ∷ k ∷ l) γ v e = cc
 
 -- a polynomial that is decided gives the low bit of the part's value
 module _ (types : List ℕ) (ρ σ : Values) (m : Contents) where
@@ -329,11 +329,11 @@ module _ (types : List ℕ) (ρ σ : Values) (m : Contents) where
     binary-exact o v k (rem-two is two) found e = go (low_of a) refl found
       where
         go : (l : Option ℕ) → low_of a ≡ l → even_only l ≡ Some v → Small x v
-        go None found' e' = let z : ◌≡◌ {A = ℕ} 0 1 = cc in absurd (omega arith)
+        go None found' e' = cc
         go (Some n) found' e' = on (eqb n 0) refl e'
           where
             on : (c : Bool) → eqb n 0 ≡ c → cond c (Some 0) None ≡ Some v → Small x v
-            on false test e'' = let z : ◌≡◌ {A = ℕ} 0 1 = cc in absurd (omega arith)
+            on false test e'' = cc
             on true test e'' =
                 let d = operands o s t u w x (omega arith) e in
                 let c = constant-at (under 1 f) b 2 fit.1 two in
@@ -371,7 +371,7 @@ module _ (types : List ℕ) (ρ σ : Values) (m : Contents) where
             let c = constant-at (under 1 f) b 0 fit.1 none' in
             mul-none-right s t d.x d.y x (typed-left d.x d.left) (typed-right d.y d.right) c.1
             (joined-value 2 s t d.left c.0 (sym (ap (λ (q : ℕ). operate q s t u w) two) ∙ e))
-    binary-exact o v k no-shape found e = let z : ◌≡◌ {A = ℕ} 0 1 = cc in absurd (omega arith)
+    binary-exact o v k no-shape found e = cc
 
   -- a cast of 0 or 1
   cast-small : (s t x : ℕ) → x ≤ 1 → convert s t x ≡ x
@@ -386,12 +386,12 @@ module _ (types : List ℕ) (ρ σ : Values) (m : Contents) where
 
   cast-exact : (t k v x : ℕ) (u : Option ℕ) (l : Option ℕ) → ((n y : ℕ) → l ≡ Some n → u ≡ Some y → Exactly k y n)
       → at_most_one l ≡ Some v → taken k t u ≡ Some x → Exactly t x v
-  cast-exact t k v x u None below is e = let z : ◌≡◌ {A = ℕ} 0 1 = cc in absurd (omega arith)
+  cast-exact t k v x u None below is e = cc
   cast-exact t k v x None (Some n) below is e = absurd (no_value x e)
   cast-exact t k v x (Some y) (Some n) below is e = go (leb n 1) refl is
     where
       go : (c : Bool) → leb n 1 ≡ c → cond c (Some n) None ≡ Some v → Exactly t x v
-      go false test is' = let z : ◌≡◌ {A = ℕ} 0 1 = cc in absurd (omega arith)
+      go false test is' = cc
       go true test is' =
           let same : n ≡ v = cc in
           let few = leb-true n 1 test in
@@ -401,17 +401,17 @@ module _ (types : List ℕ) (ρ σ : Values) (m : Contents) where
   -- The value of an exact side is what `exact` finds.
   pub exact-value : (f : Effects) (e : Expr) (v x : ℕ) → Fitting e → exact e ≡ Some v → at f e ≡ Some x → Exactly (type_of types e) x v
   unfolding exact Fitting ev type_of
-  exact-value f (variable n) v x fit is e = let z : ◌≡◌ {A = ℕ} 0 1 = cc in absurd (omega arith)
+  exact-value f (variable n) v x fit is e = cc
   exact-value f (constant w n) v x fit is e =
       let same : n ≡ v = cc in
       record { is = sym (value-is e) ∙ mod-eq_of_lt fit ∙ same; plain = rw (← same) (constant-plain w n) }
-  exact-value f condition_true v x fit is e = let z : ◌≡◌ {A = ℕ} 0 1 = cc in absurd (omega arith)
-  exact-value f condition_false v x fit is e = let z : ◌≡◌ {A = ℕ} 0 1 = cc in absurd (omega arith)
-  exact-value f (effect t) v x fit is e = let z : ◌≡◌ {A = ℕ} 0 1 = cc in absurd (omega arith)
-  exact-value f (load t a) v x fit is e = let z : ◌≡◌ {A = ℕ} 0 1 = cc in absurd (omega arith)
+  exact-value f condition_true v x fit is e = cc
+  exact-value f condition_false v x fit is e = cc
+  exact-value f (effect t) v x fit is e = cc
+  exact-value f (load t a) v x fit is e = cc
   exact-value f (cast t a) v x fit is e =
       cast-exact t (type_of types a) v x (at (under 0 f) a) (exact a) (λ n y found has. exact-value (under 0 f) a n y fit found has) is e
   exact-value f (binary o a b) v x fit is e =
       let d = binary-exact f a b fit x o v (shape o a b) (shaped o a b) is e in
       exact-small (type_of types (binary o a b)) x v d.0 d.1
-  exact-value f (ternary c a b) v x fit is e = let z : ◌≡◌ {A = ℕ} 0 1 = cc in absurd (omega arith)
+  exact-value f (ternary c a b) v x fit is e = cc

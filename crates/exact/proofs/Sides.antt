@@ -28,7 +28,7 @@ use Rattle.exact.proofs.ExactValue.{decided-low, Shaped, shaped}
 use Rattle.exact.proofs.ExactValue.Shaped.{low-left, low-right, rem-two, same-sides, zero_left, zero_right, no-shape}
 
 no-option : {A : Type 0} {x : ℕ} → None ≡ Some x → A
-no-option e = let z : ◌≡◌ {A = ℕ} 0 1 = cc in absurd (omega arith)
+no-option e = cc
 
 -- a constant of that value, of some width
 pub record Written (k : ℕ) (e : Expr) : Type 0 where

@@ -1,12 +1,11 @@
 -- The laws that the code's steps cite: constants, shapes, low bits by their polynomials, exact sides by their roots.
 use Rattle.std.specs.Prelude.{Option, Some, None, Result, Ok, Err, IsErr}
 use Prim.Native.Nat.{ℕ, ◌≤◌}
-use mathlib.Core.Path.{◌≡◌, refl, sym, subst}
+use mathlib.Core.Path.{◌≡◌, refl, sym, ap, subst}
 use mathlib.Core.Bool.{Bool, true, false}
 use mathlib.Core.List.{List, []}
 use native.Mathlib.Omega.{arith}
 use lib.ListN.{length, take}
-use lib.Seq.{take-length}
 use Rattle.expr.specs.Tree.{Expr, value_of}
 use Rattle.expr.specs.Tree.Expr.{variable, constant, condition_true, condition_false, effect, load, cast, binary, ternary}
 use Rattle.expr.specs.Root.{root_of, root_argument}
@@ -14,60 +13,37 @@ use Rattle.expr.specs.declared.Root.TheVariants.{Constant, Cast, Binary}
 use Rattle.expr.proofs.Views.{constant-root}
 use Rattle.parity.specs.Parity.{parity, difference}
 use Rattle.parity.specs.declared.Pair.TheVariants.{Sum}
-use Rattle.parity.specs.declared.Size.{Size}
 use Rattle.parity.specs.declared.TooMany.{TooMany}
-use Rattle.parity.specs.Lent.{terms_room, within, pair_of, atoms_at, Lent, Given}
-use Rattle.parity.proofs.Rooms.{products-lent}
+use Rattle.parity.specs.Lent.{within, pair_of, Lent, Given}
 use Rattle.parity.proofs.Steps.{told, passed}
 use Rattle.parity.proofs.Limits.{only}
 use Rattle.exact.specs.Exact.{is_one, decided_bit, low, shape, at_most_one, shape_value, exact, shape_written, written, shape_fits, exact_fits}
 use Rattle.exact.specs.declared.Shape.{Shape}
 use Rattle.exact.specs.Answers.{Buffers, sum_fits}
 
--- the same space serves a smaller part
-pub buffers-lent : {u w : ℕ} {atoms terms scratch atoms' terms' scratch' : List ℕ} → Buffers w atoms terms scratch → u ≤ w
-    → length atoms' ≡ length atoms → length terms' ≡ length terms → length scratch' ≡ length scratch → Buffers u atoms' terms' scratch'
-buffers-lent b h l k m = record {
-  table = omega (arith, b.table, l);
-  space = omega (arith, b.space, k);
-  products = products-lent b.products h m;
-}
-
 -- a part by itself, with no atoms before it
-pub lent_whole : {part atoms terms : List ℕ} → length part ≤ 256 → 64 ≤ length atoms → terms_room (length part) ≤ length terms → Lent part 0 part atoms 0 terms
-lent_whole {part} {atoms} {terms} h table space = record {
-  stands = sym (take-length part);
-  within = omega arith;
-  small = h;
-  room = omega arith;
-  table = table;
-  parts = record { each = λ i l. absurd (omega arith) };
-  space = space;
-}
-
-none_yet : (whole : List ℕ) → atoms_at whole [] ≡ []
-unfolding atoms_at
-none_yet whole = refl
+pub lent_whole : {w : ℕ} {l : List Expr} {terms scratch : List ℕ} → l ≡ [] → w ≤ 256 → Buffers w terms scratch → Lent w (length l) terms scratch
+lent_whole none h b = record { room = omega (arith, ap length none); space = b.space; products = b.products }
 
 -- what is told of a part by itself, and of the sum of two sides, with no atoms before them
-module _ (e : Expr) {part table terms : List ℕ} {r : Result Size TooMany} (g : Given (parity (atoms_at part []) e) part table terms r) where
-  alone : Given (parity [] e) part table terms r
-  alone = rw (none_yet part) at g
+module _ (e : Expr) {l l' : List Expr} {terms : List ℕ} {r : Result ℕ TooMany} (none : l ≡ []) (g : Given (parity l e) l' terms r) where
+  alone : Given (parity [] e) l' terms r
+  alone = rw none at g
 
   pub low-past : {x : TooMany} {q : Result (Option ℕ) TooMany} → r ≡ Err x → IsErr q → q ≡ within (parity [] e).fits (low e)
   low-past h is = rw (passed alone.made h) (only is)
 
-  pub low-told : {s : Size} {v : Option ℕ} → r ≡ Ok s → v ≡ decided_bit (take s.terms terms) → Ok v ≡ within (parity [] e).fits (low e)
+  pub low-told : {n : ℕ} {v : Option ℕ} → r ≡ Ok n → v ≡ decided_bit (take n terms) → Ok v ≡ within (parity [] e).fits (low e)
   low-told h is = let t = told alone.made h in rw (t.fit, is, t.stands) refl
 
-module _ (a b : Expr) {whole table terms : List ℕ} {r : Result Size TooMany} (g : Given (pair_of Sum (atoms_at whole []) a b) whole table terms r) where
-  sum-alone : Given (pair_of Sum [] a b) whole table terms r
-  sum-alone = rw (none_yet whole) at g
+module _ (a b : Expr) {l l' : List Expr} {terms : List ℕ} {r : Result ℕ TooMany} (none : l ≡ []) (g : Given (pair_of Sum l a b) l' terms r) where
+  sum-alone : Given (pair_of Sum [] a b) l' terms r
+  sum-alone = rw none at g
 
   pub parted-past : {x : TooMany} {q : Result Bool TooMany} → r ≡ Err x → IsErr q → q ≡ within (sum_fits a b) (is_one (difference a b))
   parted-past h is = rw (passed sum-alone.made h) (only is)
 
-  pub parted-told : {s : Size} {v : Bool} → r ≡ Ok s → v ≡ is_one (take s.terms terms) → Ok v ≡ within (sum_fits a b) (is_one (difference a b))
+  pub parted-told : {n : ℕ} {v : Bool} → r ≡ Ok n → v ≡ is_one (take n terms) → Ok v ≡ within (sum_fits a b) (is_one (difference a b))
   parted-told h is = let t = told sum-alone.made h in rw (t.fit, is, t.stands) refl
 
 -- What a part's root says of it: whether it is within the limits, its value as an exact side, and whether it is a constant as written.

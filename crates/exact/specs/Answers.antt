@@ -4,9 +4,8 @@ use Rattle.expr.specs.Tree.{Expr}
 use Rattle.parity.specs.declared.Pair.TheVariants.{Sum}
 use Rattle.parity.specs.Lent.{terms_room, ProductsRoom, pair_of}
 
--- buffers for the atoms, the terms and the products of a part of w words
-pub record Buffers (w : ℕ) (atoms terms scratch : List ℕ) : Type 0 where
-  pub table : 64 ≤ length atoms
+-- buffers for the terms and the products of a part of w words
+pub record Buffers (w : ℕ) (terms scratch : List ℕ) : Type 0 where
   pub space : terms_room w ≤ length terms
   pub products : ProductsRoom w scratch
 

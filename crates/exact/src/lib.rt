@@ -5,11 +5,12 @@
 ghost use Rattle.std.specs.Prelude.{◌≡◌, [], ◌+◌, ◌≤◌, length};
 ghost use Rattle.expr.specs.Tree.{tree_of};
 ghost use Rattle.parity.specs.Parity.{parity as parity_of, difference};
-ghost use Rattle.parity.specs.Lent.{within, LentTwo};
+ghost use Rattle.parity.specs.Lent.{within};
 ghost use Rattle.exact.specs.Exact.{is_constant, same_sides, is_one, decided_bit, low, shape, at_most_one, even_only, exact as exact_of, written as written_of, exact_fits};
 ghost use Rattle.exact.specs.Answers.{Buffers, sum_fits};
 
 use expr::{Root, Tree};
+use parity::atoms::Atoms;
 use parity::{Pair, TooMany};
 
 // How a part with an operator is exact: by its left side's low bit, by its right side's, by being even, or by being 0.
@@ -26,7 +27,7 @@ pub enum Shape {
 pub fn is_constant(part: Tree, k: u64) -> bool
     ensures { result ≡ is_constant k (tree_of part.entry.words.now) }
 {
-    matches!(parity::constant_of(part), Some(x) if x == k)
+    parity::constant_of(part) == Some(k)
 }
 
 // Two sides are equal, and have no value of their own at each occurrence.
@@ -69,36 +70,32 @@ fn is_one(poly: &[u64]) -> bool
     matches!(poly, [0])
 }
 
-// The low bit of a part by itself.
-fn low_bit(
-    part: Tree,
-    atoms: &mut [u64],
-    terms: &mut [u64],
-    scratch: &mut [u64],
-) -> Result<Option<u64>, TooMany>
+// The low bit of a part by itself. Not inlined, so that a call of `exact` within another has no table of atoms.
+#[inline(never)]
+fn low_bit(part: Tree, terms: &mut [u64], scratch: &mut [u64]) -> Result<Option<u64>, TooMany>
     requires part_len_bound { length part.words.now ≤ 256 }
-    requires buffers { Buffers (length part.words.now) atoms.old terms.old scratch.old }
+    requires buffers { Buffers (length part.words.now) terms.old scratch.old }
     ensures { result ≡ within (parity_of [] (tree_of part.entry.words.now)).fits (low (tree_of part.entry.words.now)) }
 {
-    let size = parity::parity(part.words, 0, part, atoms, 0, terms, scratch)?;
-    Ok(decided_bit(&terms[..size.terms]))
+    let mut atoms = Atoms::new(part);
+    let n = parity::parity(part, &mut atoms, terms, scratch)?;
+    Ok(decided_bit(&terms[..n]))
 }
 
 // The low bits of two sides of an equality: whether their polynomials' sum is 1.
-pub fn parted_sides(
-    whole: &[u64],
-    left: Tree,
-    right: Tree,
-    atoms: &mut [u64],
+pub fn parted_sides<'a>(
+    left: Tree<'a>,
+    right: Tree<'a>,
     terms: &mut [u64],
     scratch: &mut [u64],
 ) -> Result<bool, TooMany>
-    requires lent_two { LentTwo whole.now 0 left.words.now right.words.now atoms.old 0 terms.old }
-    requires buffers { Buffers (length left.words.now + length right.words.now + 2) atoms.old terms.old scratch.old }
+    requires sides_len_bound { length left.words.now + length right.words.now + 2 ≤ 256 }
+    requires buffers { Buffers (length left.words.now + length right.words.now + 2) terms.old scratch.old }
     ensures { result ≡ within (sum_fits (tree_of left.entry.words.now) (tree_of right.entry.words.now)) (is_one (difference (tree_of left.entry.words.now) (tree_of right.entry.words.now))) }
 {
-    let size = parity::sides(Pair::Sum, whole, 0, left, right, atoms, 0, terms, scratch)?;
-    Ok(is_one(&terms[..size.terms]))
+    let mut atoms = Atoms::new(left);
+    let n = parity::sides(Pair::Sum, left, right, &mut atoms, terms, scratch)?;
+    Ok(is_one(&terms[..n]))
 }
 
 // A value that a cast keeps.
@@ -116,25 +113,20 @@ fn even_only(v: Option<u64>) -> Option<u64>
 }
 
 // The value of an exact side.
-pub fn exact(
-    part: Tree,
-    atoms: &mut [u64],
-    terms: &mut [u64],
-    scratch: &mut [u64],
-) -> Result<Option<u64>, TooMany>
+pub fn exact(part: Tree, terms: &mut [u64], scratch: &mut [u64]) -> Result<Option<u64>, TooMany>
     requires part_len_bound { length part.words.now ≤ 256 }
-    requires buffers { Buffers (length part.words.now) atoms.old terms.old scratch.old }
+    requires buffers { Buffers (length part.words.now) terms.old scratch.old }
     ensures { result ≡ within (exact_fits (tree_of part.entry.words.now)) (exact_of (tree_of part.entry.words.now)) }
 {
     match part.root() {
         Root::Constant => Ok(Some(part.value())),
-        Root::Cast => Ok(at_most_one(exact(part.child(), atoms, terms, scratch)?)),
+        Root::Cast => Ok(at_most_one(exact(part.child(), terms, scratch)?)),
         Root::Binary => {
             let (left, right) = part.sides();
             match shape_of(part.argument(), left, right) {
-                Shape::LowLeft => low_bit(left, atoms, terms, scratch),
-                Shape::LowRight => low_bit(right, atoms, terms, scratch),
-                Shape::Even => Ok(even_only(low_bit(left, atoms, terms, scratch)?)),
+                Shape::LowLeft => low_bit(left, terms, scratch),
+                Shape::LowRight => low_bit(right, terms, scratch),
+                Shape::Even => Ok(even_only(low_bit(left, terms, scratch)?)),
                 Shape::Vanishes => Ok(Some(0)),
                 Shape::Other => Ok(None),
             }
@@ -143,7 +135,8 @@ pub fn exact(
     }
 }
 
-// A constant as written: one inside casts, & 1 and % 2. This goes on where `exact` asks for a low bit.
+// A constant as written: one inside casts, & 1 and % 2. This goes on where `exact` asks for a low bit. A match of truth values, as two of its arms
+// go on, and not a test for one kind.
 pub fn written(part: Tree) -> bool
     ensures { result ≡ written_of (tree_of part.entry.words.now) }
 {

@@ -11,7 +11,7 @@ use native.Mathlib.Decide.{dec_lt}
 use lib.Dec.{eqb}
 use lib.ListN.{length, get_or, length-append, get_or-append}
 use lib.Seq.{get_or-append_seam}
-use borrow.Author.Tests.{eq-eqb, ne_eqb, eqb-true}
+use borrow.Author.Tests.{eq-eqb, eqb-true}
 use Rattle.expr.specs.Tree.{Expr}
 use Rattle.expr.specs.Tree.Expr.{variable, constant, condition_true, condition_false, effect, load, cast, binary, ternary}
 use Rattle.expr.specs.Scan.{has_own_value}
@@ -26,8 +26,8 @@ use Rattle.parity.specs.declared.Entry.TheVariants.{Both, Keeps, Clears, Atom}
 use Rattle.parity.specs.declared.Pair.TheVariants.{Sum, Product, Or}
 use Rattle.parity.specs.LowBit.{atom_bit, low_bit}
 use Rattle.parity.proofs.Entries.{bit_of, rule-entry}
-use Rattle.parity.proofs.Atoms.{Extends, Noting, noting, before, place-stays, place-new, atoms-grow, extends-refl, extends-trans}
-use Rattle.parity.proofs.Atoms.Noting.{known, new}
+use Rattle.parity.proofs.Numbers.{Extends, Noting, noting, before, place-stays, place-new, atoms-grow, extends-refl, extends-trans}
+use Rattle.parity.proofs.Numbers.Noting.{known, new}
 
 -- bits by the number of an atom
 abbrev pub Bits : Type 0
@@ -235,9 +235,6 @@ fits-same γ γ' l α φ (ternary c a b) same h = same-atom γ γ' l α φ (tern
 
 put-here : (n : ℕ) (b : Bool) (γ : Bits) → put n b γ n ≡ b
 put-here n b γ = rw (eq-eqb n n refl)
-
-put-else : (n i : ℕ) (b : Bool) (γ : Bits) → (i ≡ n → ⊥) → put n b γ i ≡ γ i
-put-else n i b γ h = rw (ne_eqb i n h)
 
 -- an atom's bit is put in: an atom that is there already has it
 filled-atom : (γ : Bits) (l : List Expr) (α : Expr → Bool) (φ : ByPath Bool) (e : Expr) → Holds γ l α

@@ -161,7 +161,7 @@ shift-low s t None y p q less h = absurd (shift-none-value s t y h)
 
 -- a part that is a constant as written
 option-apart : (k : ℕ) → None ≡ Some k → ⊥
-option-apart k e = let z : ◌≡◌ {A = ℕ} 0 1 = cc in omega arith
+option-apart k e = cc
 
 some-injective : {x y : ℕ} → Some x ≡ Some y → x ≡ y
 some-injective e = cc

@@ -1,5 +1,6 @@
 -- laws of the definitions, which other proofs cite
-pub mod Atoms
+pub mod Numbers
+pub mod Table
 pub mod Ordered
 -- the two tables of what is entered
 pub mod LowBits

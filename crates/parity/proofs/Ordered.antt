@@ -19,7 +19,7 @@ use Rattle.parity.specs.Parity.{Low, entered, number_in, noted, few, few_pairs, 
 use Rattle.parity.specs.declared.Entry.{Entry}
 use Rattle.parity.specs.declared.Entry.TheVariants.{Both, Keeps, Clears, Atom}
 use Rattle.parity.specs.declared.Pair.TheVariants.{Sum, Product, Or}
-use Rattle.parity.proofs.Atoms.{Noting, known, new, noting}
+use Rattle.parity.proofs.Numbers.{Noting, known, new, noting}
 
 -- one term is in order
 one-term : (m : ℕ) → Ascending (m ∷ [])
@@ -60,7 +60,7 @@ parity-ascending l (ternary c a b) = one-term (2 ^ number_in l (ternary c a b))
 
 last : (a b : Bool) → (a && b) ≡ true → b ≡ true
 last true b h = h
-last false b h = let z : ◌≡◌ {A = ℕ} 0 1 = cc in absurd (omega arith)
+last false b h = cc
 
 entry-few : (k : Entry) (x y own : Low) (l : List Expr) → (x.fits ≡ true → length x.poly ≤ 256) → length own.poly ≤ 256
     → (low_of k x y own l).fits ≡ true → length (low_of k x y own l).poly ≤ 256

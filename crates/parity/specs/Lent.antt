@@ -1,12 +1,12 @@
--- What the code of `parity` borrows, and what it leaves there. The atoms stand in a table as offsets in the words of one equality,
--- a polynomial at the start of a list of terms.
-use Rattle.std.specs.Prelude.{ℕ, ◌+◌, ◌*◌, ◌-◌, ◌/◌, ◌%◌, ◌≤◌, ◌<◌, ◌≡◌, Bool, true, cond, List, [], ◌∷◌, length, get_or, take, drop, Result, Ok, Err}
-use Rattle.expr.specs.Tree.{Expr, Wf, tree_of}
+-- What the code of `parity` borrows, and what it leaves there: the atoms in a table, a polynomial at the start of a list of terms.
+use Rattle.std.specs.Prelude.{ℕ, ◌+◌, ◌*◌, ◌≤◌, ◌<◌, ◌≡◌, Bool, true, cond, List, [], ◌∷◌, length, take, Result, Ok, Err}
+use Rattle.expr.specs.Tree.{Expr, tree_of}
+use Rattle.expr.specs.declared.Tree.{Tree}
 use Rattle.search.specs.Ascending.{Ascending}
 use Rattle.parity.specs.Parity.{Low, parity, pair_low}
 use Rattle.parity.specs.declared.Pair.{Pair}
-use Rattle.parity.specs.declared.Size.{Size}
 use Rattle.parity.specs.declared.TooMany.{TooMany}
+use Rattle.parity.specs.declared.atoms.Atoms.{Atoms}
 
 -- the code's answer past the limits
 abbrev pub too_many : TooMany
@@ -20,23 +20,14 @@ within fits found = cond fits (Ok found) (Err too_many)
 abbrev pub pair_of : Pair → List Expr → Expr → Expr → Low
 pair_of pair atoms a b = let x = parity atoms a in pair_low pair x (parity x.atoms b)
 
--- the words of an atom, given as 512 times its start plus its end
-abbrev pub part_at : List ℕ → ℕ → List ℕ
-part_at whole w = take (w % 512 - w / 512) (drop (w / 512) whole)
+-- the expressions that trees are
+unfoldable pub exprs : List Tree → List Expr
+exprs [] = []
+exprs (t ∷ l) = tree_of t.words.now ∷ exprs l
 
--- the trees of some atoms
-unfoldable pub atoms_at : List ℕ → List ℕ → List Expr
-atoms_at whole [] = []
-atoms_at whole (w ∷ ws) = tree_of (part_at whole w) ∷ atoms_at whole ws
-
--- an atom is one tree
-pub record Part (whole : List ℕ) (w : ℕ) : Type 0 where
-  pub order : w / 512 ≤ w % 512
-  pub end : w % 512 ≤ length whole
-  pub wf : Wf (part_at whole w)
-
-pub record Parts (whole ws : List ℕ) : Type 0 where
-  pub each : (i : ℕ) → i < length ws → Part whole (get_or ws i 0)
+-- the atoms that have a number, in order
+abbrev pub trees_of : Atoms → List Expr
+trees_of a = exprs (take a.count a.list)
 
 -- A buffer for the terms of a part of w words: eight for each word hold the left sides' terms, which stand before what is being made,
 -- and 272 more let the sides of an `or`, and their product, be added up.
@@ -49,27 +40,12 @@ pub record ProductsRoom (w : ℕ) (scratch : List ℕ) : Type 0 where
   pub least : 512 ≤ length scratch
   pub most : 36 < w → 4096 ≤ length scratch
 
--- A part of the whole from an offset on, and buffers for its atoms and its terms. Each atom takes two words or more, and each side
--- of an operator leaves two for the operator itself, so 64 entries suffice for 256 words.
-pub record Lent (whole : List ℕ) (at : ℕ) (part atoms : List ℕ) (count : ℕ) (terms : List ℕ) : Type 0 where
-  pub stands : part ≡ take (length part) (drop at whole)
-  pub within : at + length part ≤ length whole
-  pub small : length whole ≤ 256
-  pub room : 4 * count + length part ≤ 256
-  pub table : 64 ≤ length atoms
-  pub parts : Parts whole (take count atoms)
-  pub space : terms_room (length part) ≤ length terms
-
--- the same for two sides, one after the other
-pub record LentTwo (whole : List ℕ) (at : ℕ) (left right atoms : List ℕ) (count : ℕ) (terms : List ℕ) : Type 0 where
-  pub left_stands : left ≡ take (length left) (drop at whole)
-  pub right_stands : right ≡ take (length right) (drop (at + length left) whole)
-  pub within : at + (length left + length right) ≤ length whole
-  pub small : length whole ≤ 256
-  pub room : 4 * count + (length left + length right + 2) ≤ 256
-  pub table : 64 ≤ length atoms
-  pub parts : Parts whole (take count atoms)
-  pub space : terms_room (length left + length right + 2) ≤ length terms
+-- What a part of w words needs beside so many atoms. Each atom takes two words or more, and each side of an operator leaves two for the operator
+-- itself, so a table of 64 suffices for 256 words.
+pub record Lent (w count : ℕ) (terms scratch : List ℕ) : Type 0 where
+  pub room : 4 * count + w ≤ 256
+  pub space : terms_room w ≤ length terms
+  pub products : ProductsRoom w scratch
 
 -- The first n terms and the k after them are the sides' polynomials, and there is space to put them together.
 pub record Sides (terms : List ℕ) (n k : ℕ) (scratch : List ℕ) : Type 0 where
@@ -81,12 +57,11 @@ pub record Sides (terms : List ℕ) (n k : ℕ) (scratch : List ℕ) : Type 0 wh
   pub products : n * k ≤ 4096 → n * k ≤ length scratch
 
 -- A polynomial within the limits stands at the start, and its size is told; else that it passes them.
-pub record Made (fits : Bool) (poly : List ℕ) (atoms : ℕ) (terms : List ℕ) (r : Result Size TooMany) : Type 0 where
-  pub size : r ≡ within fits (record { terms = length poly; atoms = atoms })
+pub record Made (fits : Bool) (poly terms : List ℕ) (r : Result ℕ TooMany) : Type 0 where
+  pub size : r ≡ within fits (length poly)
   pub stands : fits ≡ true → take (length poly) terms ≡ poly
 
--- The same with the atoms in the table.
-pub record Given (low : Low) (whole table terms : List ℕ) (r : Result Size TooMany) : Type 0 where
-  pub made : Made low.fits low.poly (length low.atoms) terms r
-  pub atoms : low.fits ≡ true → atoms_at whole (take (length low.atoms) table) ≡ low.atoms
-  pub parts : low.fits ≡ true → Parts whole (take (length low.atoms) table)
+-- The same with the atoms.
+pub record Given (low : Low) (atoms : List Expr) (terms : List ℕ) (r : Result ℕ TooMany) : Type 0 where
+  pub made : Made low.fits low.poly terms r
+  pub numbered : low.fits ≡ true → atoms ≡ low.atoms

@@ -4,14 +4,14 @@ use Rattle.std.specs.Ordering.{nat_cmp}
 use Rattle.std.specs.List.{copy_within}
 use Rattle.std.specs.List.Sorted.{IsBinarySearchResult}
 use Rattle.std.proofs.lemmas.List.Sorted.{searched}
-use Rattle.std.proofs.lemmas.List.{take-take, take_more, set_at}
+use Rattle.std.proofs.lemmas.List.{take-take, take_more, set_at, take-append-drop, drop-take, drop-append-le}
 use Rattle.std.proofs.lemmas.Slice.{between_is}
-use lib.Seq.{length-take-le}
+use lib.Seq.{length-take-le, paste, take-add, drop-drop}
+use borrow.Rule.Slice.PartMut.{put_mid}
 use borrow.Author.Tests.{lt-ltb, le-ltb, eq-eqb, ne_eqb}
 use Rattle.search.specs.Ascending.{Ascending}
 use Rattle.search.proofs.Laws.{ascending-below, ascending-upto, ascending-rest}
-use Rattle.poly.specs.Terms.{toggle, over, Written}
-use Rattle.poly.proofs.Running.{toggle-written}
+use Rattle.poly.specs.Terms.{toggle, over}
 
 -- `toggle` at the index of its term: where the term is not there yet, and where it is
 toggle-new : (t : ℕ) (l : List ℕ) (at : ℕ) → at ≤ length l → ((k : ℕ) → k < at → get_or l k 0 < t)
@@ -55,12 +55,50 @@ put-in-moves l n at t upto room = rw (parts, size, take_more l at 0 (omega arith
     size : length (take at l ++ (t ∷ take (n - at) (drop at l))) ≡ at + 1 + (n - at)
     size = simp (length-append, length-take, length-drop) (omega arith)
 
+-- what is copied within a part of a list is copied within the list
+part-pasted : (l : List ℕ) (a k i d m : ℕ) → d + m ≤ k → i + m ≤ k → a + k ≤ length l
+    → put_mid a k l (paste (take k (drop a l)) d (drop i (take k (drop a l))) m) ≡ paste l (a + d) (drop (a + i) l) m
+part-pasted l a k i d m h h' room = parts ∙ sym whole
+  where
+    mid : List ℕ
+    mid = take k (drop a l)
+
+    front : take d mid ≡ take d (drop a l)
+    front = take-take d k (drop a l) (omega arith)
+
+    source : take m (drop i mid) ≡ take m (drop (a + i) l)
+    source =
+        let size : i + (k - i) ≡ k = omega arith in
+        ap (λ n. take m (drop i (take n (drop a l)))) (sym size)
+        ∙ ap (take m) (drop-take i (k - i) (drop a l))
+        ∙ take-take m (k - i) (drop i (drop a l)) (omega arith)
+        ∙ ap (take m) (drop-drop i a l)
+
+    rest : drop (d + m) mid ++ drop k (drop a l) ≡ drop (a + (d + m)) l
+    rest =
+        sym (drop-append-le (d + m) mid (drop k (drop a l)) (omega (arith, length-take-le k (drop a l) (omega (arith, length-drop a l)))))
+        ∙ ap (drop (d + m)) (take-append-drop k (drop a l))
+        ∙ drop-drop (d + m) a l
+
+    parts : put_mid a k l (paste mid d (drop i mid) m) ≡ take a l ++ (take d (drop a l) ++ (take m (drop (a + i) l) ++ drop (a + (d + m)) l))
+    parts = ap (λ t. take a l ++ t)
+        (append_assoc (take d mid ++ take m (drop i mid)) (drop (d + m) mid) (drop k (drop a l))
+        ∙ append_assoc (take d mid) (take m (drop i mid)) (drop (d + m) mid ++ drop k (drop a l))
+        ∙ ap₂ (λ x y. x ++ y) front (ap₂ (λ x y. x ++ y) source rest))
+
+    whole : paste l (a + d) (drop (a + i) l) m ≡ take a l ++ (take d (drop a l) ++ (take m (drop (a + i) l) ++ drop (a + (d + m)) l))
+    whole =
+        let size : a + d + m ≡ a + (d + m) = omega arith in
+        append_assoc (take (a + d) l) (take m (drop (a + i) l)) (drop (a + d + m) l)
+        ∙ ap₂ (λ x n. x ++ (take m (drop (a + i) l) ++ drop n l)) (take-add a d l) size
+        ∙ append_assoc (take a l) (take d (drop a l)) (take m (drop (a + i) l) ++ drop (a + (d + m)) l)
+
 -- the search among the first n terms, and the move that follows
-pub take-out-toggles : (old new : List ℕ) (n t at : ℕ) → n < length old → Ascending (take n old)
-    → IsBinarySearchResult (λ y. nat_cmp y t) (take n old) (Ok at) → new ≡ copy_within old (at + 1) n at
-    → Written (toggle t (take n old)) (n - 1) (n + 1) old new
-take-out-toggles old new n t at room up there moved =
-    toggle-written old new n t (n - 1) room (rw is (simp (length-append, length-take, length-drop) (omega (arith, less)), moved ∙ take-out-moves old n at less (omega arith)))
+pub take-out-toggles : (old part : List ℕ) (n t at : ℕ) → n < length old → Ascending (take n old)
+    → IsBinarySearchResult (λ y. nat_cmp y t) (take n old) (Ok at) → part ≡ copy_within (take (n - at) (drop at old)) 1 (length (take (n - at) (drop at old))) 0
+    → (n - 1 ≡ length (toggle t (take n old))) × (put_mid at (n - at) old part ≡ over (toggle t (take n old)) old)
+take-out-toggles old part n t at room up there moved =
+    rw is (simp (length-append, length-take, length-drop) (omega (arith, less)), moves ∙ take-out-moves old n at less (omega arith))
   where
     here : (at < length (take n old)) × (get_or (take n old) at 0 ≡ t)
     here = searched (take n old) t (Ok at) there (ascending-upto up)
@@ -68,20 +106,41 @@ take-out-toggles old new n t at room up there moved =
     less : at < n
     less = omega (arith, here.0, length-take-le n old (omega arith))
 
+    start : at + 0 ≡ at
+    start = omega arith
+
+    long : length (take (n - at) (drop at old)) ≡ n - at
+    long = length-take-le (n - at) (drop at old) (omega (arith, length-drop at old))
+
+    size : length (take (n - at) (drop at old)) - 1 ≡ n - (at + 1)
+    size = omega (arith, long)
+
+    moves : put_mid at (n - at) old part ≡ copy_within old (at + 1) n at
+    moves = ap (put_mid at (n - at) old) moved ∙ part-pasted old at (n - at) 1 0 (length (take (n - at) (drop at old)) - 1) (omega (arith, less, long)) (omega (arith, less, long)) (omega (arith, less)) ∙ ap₂ (λ i m. paste old i (drop (at + 1) old) m) start size
+
     is : toggle t (take n old) ≡ take at (take n old) ++ drop (suc at) (take n old)
     is = toggle-old t (take n old) at up here.0 here.1
 
-pub put-in-toggles : (old new : List ℕ) (n t at : ℕ) → n < length old → Ascending (take n old)
-    → IsBinarySearchResult (λ y. nat_cmp y t) (take n old) (Err at) → new ≡ slice_set (copy_within old at n (at + 1)) at t
-    → Written (toggle t (take n old)) (n + 1) (n + 1) old new
-put-in-toggles old new n t at room up apart moved =
-    toggle-written old new n t (n + 1) room (rw is (simp (length-append, length-take, length-drop) (omega (arith, less)), moved ∙ put-in-moves old n at t less room))
+pub put-in-toggles : (old part : List ℕ) (n t at : ℕ) → n < length old → Ascending (take n old)
+    → IsBinarySearchResult (λ y. nat_cmp y t) (take n old) (Err at) → part ≡ copy_within (take (n + 1 - at) (drop at old)) 0 (n - at) 1
+    → (n + 1 ≡ length (toggle t (take n old))) × (slice_set (put_mid at (n + 1 - at) old part) at t ≡ over (toggle t (take n old)) old)
+put-in-toggles old part n t at room up apart moved =
+    rw is (simp (length-append, length-take, length-drop) (omega (arith, less)), ap (λ l. slice_set l at t) moves ∙ put-in-moves old n at t less room)
   where
     split : (at ≤ length (take n old)) × ((k : ℕ) → k < at → get_or (take n old) k 0 < t) × ((k : ℕ) → at ≤ k → k < length (take n old) → t < get_or (take n old) k 0)
     split = searched (take n old) t (Err at) apart (ascending-upto up)
 
     less : at ≤ n
     less = omega (arith, split.0, length-take-le n old (omega arith))
+
+    start : at + 0 ≡ at
+    start = omega arith
+
+    size : n - at - 0 ≡ n - at
+    size = omega arith
+
+    moves : put_mid at (n + 1 - at) old part ≡ copy_within old at n (at + 1)
+    moves = ap (put_mid at (n + 1 - at) old) moved ∙ part-pasted old at (n + 1 - at) 0 1 (n - at - 0) (omega (arith, less)) (omega (arith, less)) (omega (arith, less)) ∙ ap₂ (λ i m. paste old (at + 1) (drop i old) m) start size
 
     is : toggle t (take n old) ≡ take at (take n old) ++ (t ∷ drop at (take n old))
     is = toggle-new t (take n old) at split.0 split.1 split.2

@@ -7,18 +7,20 @@ ghost use Rattle.std.specs.Prelude.{◌≡◌, ℕ, ◌+◌, ◌*◌, ◌≤◌,
 ghost use Rattle.search.specs.Ascending.{Ascending};
 ghost use Rattle.poly.specs.Terms.{Written, toggle, sum, sum_times, sum_product, over};
 
-// Adds a term to the first count, and gives the new count.
+// Adds a term to the first count, and gives the new count. A struct of the list and its count would have to keep the order between the move and
+// the write of a new term. Where the term is put behind the others and turned into its place (`rotate_right`) it could, and lists of a few terms
+// would take a fifth longer.
 fn toggle(list: &mut [u64], count: usize, term: u64) -> usize
     requires { (count < length list.old) × Ascending (take count list.old) }
-    ensures { Written (toggle term (take count list.old)) result (count + 1) list.old list.new }
+    ensures { (result ≡ length (toggle term (take count list.old))) × (list.new ≡ over (toggle term (take count list.old)) list.old) }
 {
     match list[..count].binary_search(&term) {
         Ok(at) => {
-            list.copy_within(at + 1..count, at);
+            list[at..count].copy_within(1.., 0);
             count - 1
         }
         Err(at) => {
-            list.copy_within(at..count, at + 1);
+            list[at..count + 1].copy_within(..count - at, 1);
             list[at] = term;
             count + 1
         }

@@ -1,5 +1,5 @@
 -- Laws of `Ascending`, `count_below` and `place_of`.
-use Prim.Native.Nat.{ℕ, zero, suc, ◌+◌, ◌-◌, ◌≤◌, ◌<◌, min}
+use Prim.Native.Nat.{ℕ, zero, suc, ◌+◌, ◌-◌, ◌≤◌, ◌<◌}
 use mathlib.Core.Path.{◌≡◌, refl, ap}
 use mathlib.Core.Bool.{Bool, true, false, cond}
 use mathlib.Core.Logic.{◌⊎◌, inl, inr}
@@ -9,8 +9,8 @@ use native.Mathlib.Numerals.{add-one}
 use native.Mathlib.Decide.{dec_lt}
 use native.Mathlib.Omega.{arith}
 use lib.Dec.{eqb}
-use lib.ListN.{length, get_or, take, length-append, length-take, get_or-append}
-use lib.Seq.{get_or-append_seam, get_or-take, take-suc, length-take-le}
+use lib.ListN.{length, get_or, length-append, get_or-append}
+use lib.Seq.{get_or-append_seam}
 use borrow.Author.Tests.{lt-ltb, le-ltb, eq-eqb, ne_eqb, eqb-true, eqb-false}
 use Rattle.search.specs.Ascending.{Ascending, Below, count_below, place_of}
 use Rattle.std.specs.Prelude.{Option, Some, None, option_map, Result, Ok, Err, drop}
@@ -65,21 +65,6 @@ ascending-more {l} up x last = record { rises = λ i h. rise i (simp length-appe
 
     rise : (i : ℕ) → i + 1 < length l + 1 → get_or (l ++ (x ∷ [])) i 0 < get_or (l ++ (x ∷ [])) (i + 1) 0
     rise i h = rw (old i (omega arith)) (pick i (eq-or-lt_of_le (omega arith)))
-
--- the start of an ascending list
-pub ascending-take : {l : List ℕ} → Ascending l → (n : ℕ) → Ascending (take n l)
-ascending-take {l} up n = record { rises = λ i h. rise i (simp length-take at h) }
-  where
-    rise : (i : ℕ) → i + 1 < min n (length l) → get_or (take n l) i 0 < get_or (take n l) (i + 1) 0
-    rise i h = rw (get_or-take n l i 0 (omega arith), get_or-take n l (i + 1) 0 (omega arith)) (up.rises i (omega arith))
-
--- the start, one element longer
-pub ascending-longer : (l : List ℕ) (n : ℕ) → Ascending (take n l) → n < length l
-    → (1 ≤ n → get_or l (n - 1) 0 < get_or l n 0) → Ascending (take (n + 1) l)
-ascending-longer l n up within last =
-    let size : length (take n l) ≡ n = length-take-le n l (omega arith) in
-    rw (add-one, take-suc l n 0 within)
-    (ascending-more up (get_or l n 0) (rw size (λ h. rw (get_or-take n l (n - 1) 0 (omega arith)) (last h))))
 
 -- the rest of an ascending list
 pub ascending-rest : {a : ℕ} {l : List ℕ} → Ascending (a ∷ l) → Ascending l

@@ -19,7 +19,7 @@ pub enum Reason {
 }
 
 impl Reason {
-    // The number of the reason.
+    // The number of the reason: its variant's. As `From<Reason> for u8` this would be the same cast under a name that says less.
     pub fn number(self) -> u8
         ensures { result ≡ reason_number self }
     {
@@ -27,7 +27,8 @@ impl Reason {
     }
 }
 
-// What is said of a branch: that it always jumps, or never, and why; that neither is known; or that there is none.
+// What is said of a branch: that it always jumps, or never, and why; that neither is known; or that there is none. All four are answers with
+// numbers, of blocks and of nodes alike: as an Option, none would be a second type in `Answer`, asked for before each match on the other three.
 #[derive(Clone, Copy, PartialEq, Eq, Debug)]
 pub enum Verdict {
     Always(Reason),

@@ -1,9 +1,6 @@
 -- Each case is a law of proofs/Judged.antt.
 use Rattle.std.proofs.Common.{◌≤◌, ◌<◌, ◌+◌, refl, sym, ◌∙◌, arith}
-use Rattle.expr.proofs.Views.{sides-standing}
-use Rattle.parity.proofs.Calls.{lent_two}
 use Rattle.parity.proofs.Limits.{kept, failed}
-use Rattle.exact.proofs.Steps.{lent_whole}
 use Rattle.decide.proofs.Judged.{one-of-two, neither, decide-true, decide-false, decide-other, halves-kept, halves-past, decide-equality, decide-relation}
 use Rattle.decide.proofs.+decide.Goals as goal
 use Rattle.decide.proofs.+decide.Goals.{in_default-operator-via-then-this-lt10, in_default-operator-via-else-this-lt10+else-this-lt12}
@@ -39,20 +36,6 @@ returns-in_ok-decide-in-17-2 t c =
     let a = kept _ _ c.decide-in-17.ensures c.in_ok-decide-in-17.was in
     let b = kept _ _ c.decide-in-17-2.ensures c.in_ok-decide-in-17-2.was in
     halves-kept _ c.sides.ensures.tree c.argument-operator.ensures (rw c.in-17.is refl) a.0 b.0 (rw (c.in-17.is, c.either.ensures, a.1, b.1) refl)
-
-pub equality_in-requires-clause-sides_of : goal.equality_in-requires-clause-sides_of
-equality_in-requires-clause-sides_of t c = record {
-  lent = λ atoms terms table space.
-      lent_two (lent_whole c.requires table space) _ _ (sides-standing _ _ _ _ c.args.condition.wf c.sides.result.0.wf c.sides.result.1.wf c.sides.ensures.tree) c.sides.ensures.size;
-  long = omega (arith, c.sides.ensures.size);
-}
-
-pub equality_in-requires-in-10-2-clause-sides_of : goal.equality_in-requires-in-10-2-clause-sides_of
-equality_in-requires-in-10-2-clause-sides_of t c = record {
-  lent = λ atoms terms table space.
-      lent_two (lent_whole c.requires table space) _ _ (sides-standing _ _ _ _ c.args.condition.wf c.sides.result.0.wf c.sides.result.1.wf c.sides.ensures.tree) c.sides.ensures.size;
-  long = omega (arith, c.sides.ensures.size);
-}
 
 pub returns-in-True : goal.returns-in-True
 returns-in-True t c =

@@ -2,9 +2,9 @@ use Rattle.std.proofs.Common.{arith}
 use Rattle.parity.proofs.Steps.{told, join-few, join-taken, join-ordered}
 use Rattle.parity.proofs.join_sides.Goals as goal
 
-pub add-all-requires : goal.add-all-requires
-add-all-requires c =
-    let t = told c.product_sides.ensures c.in_ok-product.was in
+pub add-requires : goal.add-requires
+add-requires c =
+    let t = told c.product_sides.ensures c.in_ok-count.was in
     let long = c.product_sides.auto.scratch in
     let put = c.copy_from_slice.ensures.after in
     (omega (arith, join-few c.requires t long put c.add-sum.ensures, join-taken c.requires t long put c.add-sum.ensures), join-ordered c.requires t long put c.add-sum.ensures)

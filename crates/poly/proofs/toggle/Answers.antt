@@ -1,4 +1,4 @@
-use Rattle.std.proofs.Common.{ap, slice_set, arith}
+use Rattle.std.proofs.Common.{arith}
 use Rattle.poly.proofs.Toggled.{take-out-toggles, put-in-toggles}
 use Rattle.poly.proofs.toggle.Goals as goal
 
@@ -8,5 +8,4 @@ returns-in-Ok c =
 
 pub returns-in-Err : goal.returns-in-Err
 returns-in-Err c =
-    put-in-toggles _ _ _ _ _ (omega arith) c.requires.1 c.in-Err.ensures.position
-    (ap (λ l. slice_set l c.in-Err.at c.args.term) c.copy_within-in-Err.ensures.after)
+    put-in-toggles _ _ _ _ _ (omega arith) c.requires.1 c.in-Err.ensures.position c.copy_within-in-Err.ensures.after
