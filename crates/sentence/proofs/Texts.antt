@@ -25,7 +25,7 @@ NotEmpty text = text ≡ [] → ⊥
 
 -- one is not empty that has an entry
 pub not-empty : {x : ℕ} {rest : List ℕ} → NotEmpty (x ∷ rest)
-not-empty e = let z : ◌≡◌ {A = ℕ} 0 1 = cc in omega arith
+not-empty e = cc
 
 before-any : (a b : List ℕ) → NotEmpty a → NotEmpty (a ++ b)
 before-any [] b some = absurd (some refl)
