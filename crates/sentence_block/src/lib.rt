@@ -91,8 +91,9 @@ fn said_in(code: &Code, first: usize, end: usize) -> Option<Said>
     }
     let last = end - 1;
     let mnemonic = verdict_block::jump_at(code, last)?;
+    let setters = setters_in(code, first, last);
     let telling = telling_at(code, first, last, mnemonic)?;
-    Some(said_by(code, first, setters_in(code, first, last), telling))
+    Some(said_by(code, first, setters, telling))
 }
 
 // Writes the sentence of the block of that number, of an accepted sheet with its index, to the start of a text that can hold it.
