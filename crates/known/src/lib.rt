@@ -12,7 +12,7 @@ use alu::{Flags, Operation, Performed, Width};
 use isa::{Binary, CarryChange, Condition, Flag, Unary};
 
 // What is known of a register: its marks, which are all set where it is known and else 0; and its value, which means nothing
-// where it is not known; then it is 0. It is not an Option, as a mark stands for a byte and may come to be set by itself.
+// where it is not known; then it is 0. It is no Option: the library's scope fixes a map of registers with marks for what is known.
 #[derive(Clone, Copy)]
 pub struct Slot {
     pub known: u64,
@@ -79,23 +79,19 @@ impl Slot {
     fn of(v: Option<u64>) -> Self
         ensures { result ≡ slot_of v }
     {
-        match v {
-            Some(value) => Slot {
+        v.map_or(
+            Slot::unknown(),
+            |value| Slot {
                 known: MARKS,
                 value,
             },
-            None => Slot::unknown(),
-        }
+        )
     }
 
     fn contents(self) -> Option<u64>
         ensures { result ≡ contents self }
     {
-        if self.known == MARKS {
-            Some(self.value)
-        } else {
-            None
-        }
+        (self.known == MARKS).then_some(self.value)
     }
 
     // What is known of a part of a register.
@@ -112,10 +108,7 @@ impl Slot {
     pub fn write(self, size: Option<Width>, offset: u8, v: Option<u64>) -> Self
         ensures { result ≡ with_part size offset self v }
     {
-        match size {
-            Some(w) => Slot::of(merge(w, offset, self.contents(), v)),
-            None => Slot::unknown(),
-        }
+        Slot::of(size.and_then(|w| merge(w, offset, self.contents(), v)))
     }
 }
 

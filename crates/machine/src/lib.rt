@@ -7,7 +7,7 @@ ghost use Rattle.machine.specs.Registers.{nothing_known, slot_at, read_of, writt
 ghost use Rattle.machine.specs.States.{replaced};
 ghost use Rattle.machine.specs.Finish.{finished};
 ghost use Rattle.machine.specs.Rules.{writes, same_register, carry_step, arith_step, unary_unknown, unary_step, register_step, on_first, modelled_step, stepped};
-ghost use Rattle.machine.specs.Conditions.{count_size, condition_of};
+ghost use Rattle.machine.specs.Conditions.{count_register, condition_of};
 
 use alu::Flags;
 use isa::{Binary, CarryChange, Counter, Instruction, Mnemonic, Operand, Register, Unary};
@@ -39,15 +39,13 @@ impl State {
     fn slot_at(&self, index: u8) -> Slot
         ensures { result ≡ slot_at self.now index }
     {
-        let k = index as usize;
-        if k < Self::REGISTERS {
-            self.registers[k]
-        } else {
-            Slot::unknown()
-        }
+        self.registers
+            .get(index as usize)
+            .copied()
+            .unwrap_or(Slot::unknown())
     }
 
-    // Something else is known of a register.
+    // Something else is known of a register. Not by `get_mut`: of what is written through an array's, a proof learns nothing.
     #[tactic(auto, unfolding(crate::specs::States::replaced))]
     fn replace(&mut self, index: u8, slot: Slot)
         ensures { self.new ≡ replaced self.old index slot }
@@ -230,15 +228,7 @@ impl State {
     {
         match m {
             Mnemonic::Jump(c) => known::holds(c, self.flags),
-            Mnemonic::CountJump(c) => {
-                let r = Register {
-                    class: 1,
-                    index: 1,
-                    size: count_size(c),
-                    offset: 0,
-                };
-                known::is_zero(self.read(r))
-            }
+            Mnemonic::CountJump(c) => known::is_zero(self.read(count_register(c))),
             Mnemonic::Other
             | Mnemonic::Carry(_)
             | Mnemonic::Mov
@@ -263,13 +253,19 @@ fn is_writing(op: Binary) -> bool
     !matches!(op, Binary::Cmp | Binary::Test)
 }
 
-// The bits of register 1 that a count-register jump reads.
-pub fn count_size(c: Counter) -> u8
-    ensures { result ≡ count_size c }
+// The part of register 1 that a count-register jump reads.
+pub fn count_register(c: Counter) -> Register
+    ensures { result ≡ count_register c }
 {
-    match c {
+    let size = match c {
         Counter::Rcx => 64,
         Counter::Ecx => 32,
         Counter::Cx => 16,
+    };
+    Register {
+        class: 1,
+        index: 1,
+        size,
+        offset: 0,
     }
 }

@@ -1,6 +1,8 @@
 -- The text of a cause as the code has it.
-use Rattle.std.specs.Prelude.{ℕ, List, [], Bool, true, false}
+use Rattle.std.specs.Prelude.{ℕ, List, []}
 use Rattle.isa.specs.declared.Binary.{Binary}
+use Rattle.phrase.specs.declared.FlagGroup.{FlagGroup}
+use Rattle.phrase.specs.declared.FlagGroup.TheVariants as group
 use Rattle.phrase.specs.declared.Cause.{Cause}
 use Rattle.phrase.specs.declared.Cause.TheVariants.{Nothing, Stc, Clc, Value, Values, Itself, ClearsCarry, ClearsOverflow}
 use Rattle.phrase.specs.Causes.{stc_text, clc_text, value_text, values_text, itself_text, carry_text, overflow_text}
@@ -16,7 +18,7 @@ cause_text (Itself r) = itself_text r
 cause_text (ClearsCarry op) = carry_text op
 cause_text (ClearsOverflow op) = overflow_text op
 
--- what is said where an operand is unknown: of CF, or, without `carry`, of OF
-abbrev pub cleared_text : Binary → (carry : Bool) → List ℕ
-cleared_text op true = carry_text op
-cleared_text op false = overflow_text op
+-- what is said where an operand is unknown: of CF, or, of the other flags, of OF
+abbrev pub cleared_text : Binary → FlagGroup → List ℕ
+cleared_text op group.Carry = carry_text op
+cleared_text op group.Result = overflow_text op

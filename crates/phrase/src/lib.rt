@@ -9,8 +9,8 @@ ghost use Rattle.phrase.specs.Promises.{cause_text, cleared_text};
 use isa::{Binary, Register};
 use text::Writer;
 
-// Why a flag has its value. Values are those before the instruction. That there is no cause is one of them, and no `None`: it has
-// a text like each other, the empty one, and nothing tells it from them.
+// Why a flag has its value. Values are those before the instruction. That there is no cause is one of them: as `None` it would make an `Option` of
+// each cause of a sentence and in each function here, and none of them asks for it; its text is the empty one.
 #[derive(Clone, Copy)]
 pub enum Cause {
     // no instruction has set the flag
@@ -28,14 +28,20 @@ pub enum Cause {
     ClearsOverflow(Binary),
 }
 
-// An instruction that clears CF, or, without `carry`, OF.
-pub fn cleared(op: Binary, carry: bool) -> Cause
-    ensures { cause_text result ≡ cleared_text op carry }
+// The flags that a cause is asked for: CF, or the others that an instruction sets.
+#[derive(Clone, Copy, PartialEq, Eq, Debug)]
+pub enum FlagGroup {
+    Carry,
+    Result,
+}
+
+// An instruction that clears CF, or, of the other flags, OF.
+pub fn cleared(op: Binary, group: FlagGroup) -> Cause
+    ensures { cause_text result ≡ cleared_text op group }
 {
-    if carry {
-        Cause::ClearsCarry(op)
-    } else {
-        Cause::ClearsOverflow(op)
+    match group {
+        FlagGroup::Carry => Cause::ClearsCarry(op),
+        FlagGroup::Result => Cause::ClearsOverflow(op),
     }
 }
 

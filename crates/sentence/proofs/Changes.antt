@@ -32,6 +32,7 @@ use Rattle.machine.specs.Rules.{same_register, carry_step, arith_step, unary_unk
 use Rattle.machine.proofs.Kept.{written-flags, forgetting-flags}
 use Rattle.laws.proofs.Booleans.{and_left, by_test}
 use Rattle.std.specs.Prelude.{Option, Some, None}
+use Rattle.phrase.specs.declared.FlagGroup.TheVariants as group
 use Rattle.phrase.specs.Causes.{value_text, carry_text, overflow_text}
 use Rattle.sentence_text.specs.Sentence.{turned}
 use Rattle.sentence.specs.Why.{Why, every, carry_why, itself_why, operands_text, unknown_why, on_values, arith_why, alone_why, on_value, unary_why, arith_first, unary_first, modelled_why, why_stepped}
@@ -121,14 +122,14 @@ module _ {lacks : Bool} {f : Flags} {w : Why} where
   unknown-changes Test = record { cf = set (carry-some Test); pf = unknown; zf = unknown; sf = unknown; of = set (overflow-some Test) }
 
   operands-changes : (op : Binary) (width : Width) (d : Register) (o : Operand) (a b : Option ℕ)
-      → Changes sets-all (values_own op d o a b false) (values_own op d o a b true) lacks f w (on_operands op width a b).flags (on_values w op d o a b)
+      → Changes sets-all (values_own op d o a b group.Result) (values_own op d o a b group.Carry) lacks f w (on_operands op width a b).flags (on_values w op d o a b)
   operands-changes op width d o (Some a) (Some b) = all_set (operands_text d a o b) (operands-some d a o b)
   operands-changes op width d o (Some a) None = unknown-changes op
   operands-changes op width d o None b = unknown-changes op
 
   effect-changes : (op : Binary) (size : Option Width) (d : Register) (o : Operand) (a b : Option ℕ)
-      → Changes sets-all (cond (is_idiom op && same_register d o) (itself_why op d) (values_own op d o a b false))
-      (cond (is_idiom op && same_register d o) (itself_why op d) (values_own op d o a b true)) lacks f w
+      → Changes sets-all (cond (is_idiom op && same_register d o) (itself_why op d) (values_own op d o a b group.Result))
+      (cond (is_idiom op && same_register d o) (itself_why op d) (values_own op d o a b group.Carry)) lacks f w
       (arith_effect op size (same_register d o) a b).flags
       (cond (is_idiom op && same_register d o) (every (itself_why op d)) (on_values w op d o a b))
   unfolding arith_effect
@@ -188,7 +189,7 @@ module _ (s : State) (w : Why) (i : Instruction) where
   -- by a mnemonic
   abbrev ByMnemonic : Mnemonic → State → Why → Type 0
   ByMnemonic m after v =
-      Changes (mnemonic_sets m) (own_text s m i.first i.second false) (own_text s m i.first i.second true) (undeclared m i.flags) s.flags w after.flags v
+      Changes (mnemonic_sets m) (own_text s m i.first i.second group.Result) (own_text s m i.first i.second group.Carry) (undeclared m i.flags) s.flags w after.flags v
 
   forgotten-changes : {result carry : List ℕ} {lacks : Bool} → Changes sets-none result carry lacks s.flags w (forgotten s i).flags w
   unfolding forgotten
@@ -218,7 +219,7 @@ module _ (s : State) (w : Why) (i : Instruction) where
   not-changes Mem = forgotten-changes
 
   two-changes : (op : Binary) (o : Operand) → is_register o ≡ true
-      → Changes sets-all (arith_first_own s op o i.second false) (arith_first_own s op o i.second true) false s.flags w
+      → Changes sets-all (arith_first_own s op o i.second group.Result) (arith_first_own s op o i.second group.Carry) false s.flags w
       (on_first s i (TwoOperand op) o).flags (arith_first s w op o i.second)
   unfolding register_step arith_step finished arith_why arith_own
   two-changes op Absent h = absurd (false≢true h)
@@ -247,14 +248,14 @@ module _ (s : State) (w : Why) (i : Instruction) where
   modelled-changes (CountJump c) h = absurd h
 
   -- What any instruction does.
-  pub changed : Changes (sets_of i) (own_text s i.mnemonic i.first i.second false) (own_text s i.mnemonic i.first i.second true)
+  pub changed : Changes (sets_of i) (own_text s i.mnemonic i.first i.second group.Result) (own_text s i.mnemonic i.first i.second group.Carry)
       (modelled i && undeclared i.mnemonic i.flags) s.flags w (stepped s i).flags (why_stepped s w i)
   unfolding stepped why_stepped nothing_known sets_of
   changed = go i.call (modelled i) (register-first i)
     where
       go : (call does : Bool) → (does ≡ true → RegisterFirst i.mnemonic (is_register i.first))
-          → Changes (cond does (mnemonic_sets i.mnemonic) sets-none) (own_text s i.mnemonic i.first i.second false)
-          (own_text s i.mnemonic i.first i.second true) (does && undeclared i.mnemonic i.flags) s.flags w
+          → Changes (cond does (mnemonic_sets i.mnemonic) sets-none) (own_text s i.mnemonic i.first i.second group.Result)
+          (own_text s i.mnemonic i.first i.second group.Carry) (does && undeclared i.mnemonic i.flags) s.flags w
           (cond call nothing_known (cond does (modelled_step s i i.mnemonic) (forgotten s i))).flags
           (cond does (modelled_why s w i i.mnemonic) w)
       go true does h = none-known

@@ -3,7 +3,6 @@ use Prim.Native.Nat.{ℕ}
 use mathlib.Core.Path.{◌≡◌, refl}
 use mathlib.Core.Bool.{true, false≢true}
 use mathlib.Core.List.{List, [], ◌∷◌, ◌++◌}
-use native.Mathlib.Omega.{arith}
 use Rattle.isa.specs.declared.Register.{Register}
 use Rattle.isa.specs.declared.Operand.{Operand}
 use Rattle.isa.specs.declared.Operand.TheVariants.{Absent, Reg, Imm, Mem}
@@ -25,7 +24,7 @@ NotEmpty text = text ≡ [] → ⊥
 
 -- one is not empty that has an entry
 pub not-empty : {x : ℕ} {rest : List ℕ} → NotEmpty (x ∷ rest)
-not-empty e = let z : ◌≡◌ {A = ℕ} 0 1 = cc in omega arith
+not-empty e = cc
 
 before-any : (a b : List ℕ) → NotEmpty a → NotEmpty (a ++ b)
 before-any [] b some = absurd (some refl)

@@ -24,6 +24,7 @@ use Rattle.machine.specs.Registers.{read_of, operand_of}
 use Rattle.machine.specs.Conditions.{count_register}
 use Rattle.machine.specs.Rules.{same_register}
 use Rattle.phrase.specs.Causes.{stc_text, clc_text, value_text}
+use Rattle.phrase.specs.declared.FlagGroup.{FlagGroup}
 use Rattle.phrase.specs.Promises.{cleared_text}
 use Rattle.sentence_text.specs.Sentence.{joined}
 use Rattle.sentence.specs.declared.Setters.{Setters}
@@ -73,27 +74,27 @@ setters_by t number turns-carry = record { result = t.result; carry = t.carry; t
 setters_by t number sets-result = record { result = number; carry = t.carry; turns = t.turns }
 setters_by t number sets-all = record { result = number; carry = number; turns = 0 }
 
--- ---- what an instruction says of CF, or, without `carry`, of the other flags that it sets, where they are known after it
+-- ---- what an instruction says of CF, or of the other flags that it sets, where they are known after it
 
 abbrev pub carry_own : CarryChange → List ℕ
 carry_own Stc = stc_text
 carry_own Clc = clc_text
 carry_own Cmc = []
 
-abbrev pub values_own : Binary → Register → Operand → Option ℕ → Option ℕ → (carry : Bool) → List ℕ
-values_own op d o (Some a) (Some b) carry = operands_text d a o b
-values_own op d o (Some a) None carry = cleared_text op carry
-values_own op d o None b carry = cleared_text op carry
+abbrev pub values_own : Binary → Register → Operand → Option ℕ → Option ℕ → FlagGroup → List ℕ
+values_own op d o (Some a) (Some b) group = operands_text d a o b
+values_own op d o (Some a) None group = cleared_text op group
+values_own op d o None b group = cleared_text op group
 
-unfoldable pub arith_own : State → Binary → Register → Operand → (carry : Bool) → List ℕ
-arith_own s op d o carry =
-    cond (is_idiom op && same_register d o) (itself_why op d) (values_own op d o (read_of s d) (operand_of s d.size o) carry)
+unfoldable pub arith_own : State → Binary → Register → Operand → FlagGroup → List ℕ
+arith_own s op d o group =
+    cond (is_idiom op && same_register d o) (itself_why op d) (values_own op d o (read_of s d) (operand_of s d.size o) group)
 
-abbrev pub arith_first_own : State → Binary → Operand → Operand → (carry : Bool) → List ℕ
-arith_first_own s op Absent o carry = []
-arith_first_own s op (Reg d) o carry = arith_own s op d o carry
-arith_first_own s op (Imm x) o carry = []
-arith_first_own s op Mem o carry = []
+abbrev pub arith_first_own : State → Binary → Operand → Operand → FlagGroup → List ℕ
+arith_first_own s op Absent o group = []
+arith_first_own s op (Reg d) o group = arith_own s op d o group
+arith_first_own s op (Imm x) o group = []
+arith_first_own s op Mem o group = []
 
 abbrev pub value_own : Register → Option ℕ → List ℕ
 value_own d (Some a) = value_text d a
@@ -105,15 +106,15 @@ value_first_own s (Reg d) = value_own d (read_of s d)
 value_first_own s (Imm x) = []
 value_first_own s Mem = []
 
-unfoldable pub own_text : State → Mnemonic → (first second : Operand) → (carry : Bool) → List ℕ
-own_text s Other first second carry = []
-own_text s (Carry c) first second carry = carry_own c
-own_text s Mov first second carry = []
-own_text s Not first second carry = []
-own_text s (TwoOperand op) first second carry = arith_first_own s op first second carry
-own_text s (OneOperand op) first second carry = value_first_own s first
-own_text s (Jump c) first second carry = []
-own_text s (CountJump c) first second carry = []
+unfoldable pub own_text : State → Mnemonic → (first second : Operand) → FlagGroup → List ℕ
+own_text s Other first second group = []
+own_text s (Carry c) first second group = carry_own c
+own_text s Mov first second group = []
+own_text s Not first second group = []
+own_text s (TwoOperand op) first second group = arith_first_own s op first second group
+own_text s (OneOperand op) first second group = value_first_own s first
+own_text s (Jump c) first second group = []
+own_text s (CountJump c) first second group = []
 
 -- ---- the causes that tell of a jump
 

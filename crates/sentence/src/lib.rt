@@ -6,14 +6,14 @@ ghost use Rattle.machine.specs.Registers.{read_of};
 ghost use Rattle.machine.specs.Conditions.{count_register};
 ghost use Rattle.phrase.specs.Promises.{cause_text};
 ghost use Rattle.sentence.specs.Why.{itself_why, operands_text};
-ghost use Rattle.sentence.specs.Promises.{carry_sets, unary_sets, sets_of, setters_by, carry_own, values_own, arith_own, arith_first_own, value_own, value_first_own, own_text, where_known, below_telling, flags_telling, count_telling, telling_of};
+ghost use Rattle.sentence.specs.Promises.{sets_of, setters_by, carry_own, values_own, arith_own, value_own, own_text, where_known, below_telling, flags_telling, count_telling, telling_of};
 
 use alu::Flags;
 use isa::{
     Binary, CarryChange, Condition, Counter, Instruction, Mnemonic, Operand, Register, Unary,
 };
 use machine::State;
-use phrase::Cause;
+use phrase::{Cause, FlagGroup};
 
 // The numbers of the instructions that are the causes of the flags' values: the last that sets CF, with the number of cmc after it, and the last that
 // sets the other flags. A number means nothing where its flags are unknown.
@@ -24,63 +24,41 @@ pub struct Setters {
     pub turns: u64,
 }
 
-// stc, clc, cmc.
-fn carry_setters(setters: Setters, number: usize, c: CarryChange) -> Setters
-    requires { setters.turns < 65536 }
-    ensures { result ≡ setters_by setters number (carry_sets c) }
-{
-    match c {
-        CarryChange::Stc | CarryChange::Clc => Setters {
+impl Setters {
+    // One instruction is the cause of all flags' values.
+    pub fn all(number: usize) -> Self
+        ensures { result ≡ record { result = number; carry = number; turns = 0 } }
+    {
+        Setters {
+            result: number,
             carry: number,
             turns: 0,
-            ..setters
-        },
-        CarryChange::Cmc => Setters {
-            turns: setters.turns + 1,
-            ..setters
-        },
+        }
     }
-}
 
-// inc and dec leave CF, neg does not.
-fn unary_setters(setters: Setters, number: usize, op: Unary) -> Setters
-    ensures { result ≡ setters_by setters number (unary_sets op) }
-{
-    match op {
-        Unary::Inc | Unary::Dec => Setters {
-            result: number,
-            ..setters
-        },
-        Unary::Neg => Setters {
-            result: number,
-            carry: number,
-            turns: 0,
-        },
-    }
-}
-
-// With one more instruction, of that number.
-#[tactic(auto, unfolding(crate::specs::Promises::sets_of))]
-pub fn setters_after(setters: Setters, number: usize, i: Instruction) -> Setters
-    requires { setters.turns < 65536 }
-    ensures { result ≡ setters_by setters number (sets_of i) }
-{
-    if !isa::is_modelled(i) {
-        return setters;
-    }
-    match i.mnemonic {
-        Mnemonic::Carry(c) => carry_setters(setters, number, c),
-        Mnemonic::TwoOperand(_) => Setters {
-            result: number,
-            carry: number,
-            turns: 0,
-        },
-        Mnemonic::OneOperand(op) => unary_setters(setters, number, op),
-        Mnemonic::Other
-        | Mnemonic::Mov
-        | Mnemonic::Not
-        | Mnemonic::Jump(_)
-        | Mnemonic::CountJump(_) => setters,
+    // With one more instruction, of that number. inc and dec leave CF.
+    #[tactic(auto, unfolding(crate::specs::Promises::sets_of))]
+    pub fn step(&mut self, number: usize, i: Instruction)
+        requires { self.old.turns < 65536 }
+        ensures { self.new ≡ setters_by self.old number (sets_of i) }
+    {
+        if !isa::is_modelled(i) {
+            return;
+        }
+        match i.mnemonic {
+            Mnemonic::Carry(CarryChange::Stc | CarryChange::Clc) => {
+                self.carry = number;
+                self.turns = 0;
+            }
+            Mnemonic::Carry(CarryChange::Cmc) => self.turns += 1,
+            Mnemonic::OneOperand(Unary::Inc | Unary::Dec) => self.result = number,
+            Mnemonic::TwoOperand(_) | Mnemonic::OneOperand(Unary::Neg) => *self = Setters::all(number),
+            Mnemonic::Other
+            | Mnemonic::Mov
+            | Mnemonic::Not
+            | Mnemonic::Jump(_)
+            | Mnemonic::CountJump(_) => {}
+        }
     }
 }
 
@@ -111,14 +89,8 @@ fn operands_cause(d: Register, a: u64, o: Operand, b: u64) -> Cause
     ensures { cause_text result ≡ operands_text d a o b }
 {
     match o {
-        Operand::Reg(r) => {
-            if machine::is_same(d, o) {
-                Cause::Value(d, a)
-            } else {
-                Cause::Values(d, a, r, b)
-            }
-        }
-        Operand::Absent | Operand::Imm(_) | Operand::Mem => Cause::Value(d, a),
+        Operand::Reg(r) if !machine::is_same(d, o) => Cause::Values(d, a, r, b),
+        Operand::Reg(_) | Operand::Absent | Operand::Imm(_) | Operand::Mem => Cause::Value(d, a),
     }
 }
 
@@ -129,70 +101,46 @@ fn on_values(
     o: Operand,
     a: Option<u64>,
     b: Option<u64>,
-    carry: bool,
+    group: FlagGroup,
 ) -> Cause
-    ensures { cause_text result ≡ values_own op d o a b carry }
+    ensures { cause_text result ≡ values_own op d o a b group }
 {
     match (a, b) {
         (Some(a), Some(b)) => operands_cause(d, a, o, b),
-        _ => phrase::cleared(op, carry),
+        _ => phrase::cleared(op, group),
     }
 }
 
 // add, sub, cmp, and, or, xor, test.
 #[tactic(auto, unfolding(crate::specs::Promises::arith_own))]
-fn arith_cause(state: &State, op: Binary, d: Register, o: Operand, carry: bool) -> Cause
-    ensures { cause_text result ≡ arith_own state.now op d o carry }
+fn arith_cause(state: &State, op: Binary, d: Register, o: Operand, group: FlagGroup) -> Cause
+    ensures { cause_text result ≡ arith_own state.now op d o group }
 {
     if known::is_idiom(op) && machine::is_same(d, o) {
         return itself_cause(op, d);
     }
-    on_values(op, d, o, state.read(d), state.operand(d.size, o), carry)
-}
-
-fn arith_first(state: &State, op: Binary, first: Operand, o: Operand, carry: bool) -> Cause
-    ensures { cause_text result ≡ arith_first_own state.now op first o carry }
-{
-    match first {
-        Operand::Reg(d) => arith_cause(state, op, d, o, carry),
-        Operand::Absent | Operand::Imm(_) | Operand::Mem => Cause::Nothing,
-    }
+    on_values(op, d, o, state.read(d), state.operand(d.size, o), group)
 }
 
 // A register's value, where it is known.
 fn value_cause(state: &State, d: Register) -> Cause
     ensures { cause_text result ≡ value_own d (read_of state.now d) }
 {
-    match state.read(d) {
-        Some(x) => Cause::Value(d, x),
-        None => Cause::Nothing,
-    }
+    state
+        .read(d)
+        .map_or(Cause::Nothing, |x| Cause::Value(d, x))
 }
 
-// inc, dec, neg.
-fn value_first(state: &State, first: Operand) -> Cause
-    ensures { cause_text result ≡ value_first_own state.now first }
-{
-    match first {
-        Operand::Reg(d) => value_cause(state, d),
-        Operand::Absent | Operand::Imm(_) | Operand::Mem => Cause::Nothing,
-    }
-}
-
-// The cause that an instruction is for CF, or, without `carry`, for the other flags that it sets, by what is known before it.
+// The cause that an instruction is for CF, or for the other flags that it sets, by what is known before it.
 #[tactic(auto, unfolding(crate::specs::Promises::own_text))]
-pub fn cause_of(state: &State, m: Mnemonic, first: Operand, second: Operand, carry: bool) -> Cause
-    ensures { cause_text result ≡ own_text state.now m first second carry }
+pub fn cause_of(state: &State, i: Instruction, group: FlagGroup) -> Cause
+    ensures { cause_text result ≡ own_text state.now i.mnemonic i.first i.second group }
 {
-    match m {
-        Mnemonic::Carry(c) => carry_cause(c),
-        Mnemonic::TwoOperand(op) => arith_first(state, op, first, second, carry),
-        Mnemonic::OneOperand(_) => value_first(state, first),
-        Mnemonic::Other
-        | Mnemonic::Mov
-        | Mnemonic::Not
-        | Mnemonic::Jump(_)
-        | Mnemonic::CountJump(_) => Cause::Nothing,
+    match (i.mnemonic, i.first) {
+        (Mnemonic::Carry(c), _) => carry_cause(c),
+        (Mnemonic::TwoOperand(op), Operand::Reg(d)) => arith_cause(state, op, d, i.second, group),
+        (Mnemonic::OneOperand(_), Operand::Reg(d)) => value_cause(state, d),
+        _ => Cause::Nothing,
     }
 }
 
@@ -256,12 +204,7 @@ fn flags_telling(c: Condition, flags: Flags) -> Option<Telling>
 fn count_telling(state: &State, c: Counter) -> Option<Telling>
     ensures { result ≡ count_telling (count_register c) (read_of state.now (count_register c)) }
 {
-    let r = Register {
-        class: 1,
-        index: 1,
-        size: machine::count_size(c),
-        offset: 0,
-    };
+    let r = machine::count_register(c);
     state.read(r).map(|x| Telling::Value(r, x))
 }
 

@@ -1,7 +1,7 @@
 -- The causes of the flags' values, from instruction to instruction.
 use Prim.Native.Nat.{ℕ, ◌+◌, ◌≤◌, ◌<◌}
 use mathlib.Core.Path.{◌≡◌, refl}
-use mathlib.Core.Bool.{Bool, true, false, true≢false, ◌&&◌}
+use mathlib.Core.Bool.{Bool, false, true≢false, ◌&&◌}
 use mathlib.Core.List.{List, [], ◌∷◌, ◌++◌, append-nil, append_assoc}
 use native.Mathlib.Omega.{arith}
 use native.Mathlib.Numerals.{add-one}
@@ -16,6 +16,8 @@ use Rattle.machine.specs.declared.State.{State}
 use Rattle.machine.specs.Registers.{nothing_known}
 use Rattle.machine.specs.Rules.{stepped, stepped_all}
 use Rattle.verdict_block.proofs.Between.{none_left, snoc-at}
+use Rattle.phrase.specs.declared.FlagGroup.{FlagGroup}
+use Rattle.phrase.specs.declared.FlagGroup.TheVariants as group
 use Rattle.sentence_text.specs.Sentence.{turned, turned_times}
 use Rattle.sentence.specs.declared.Setters.{Setters}
 use Rattle.sentence.specs.Why.{Why, why_stepped, why_stepped_all}
@@ -75,11 +77,11 @@ all_told b-carry b-result c sound h = record {
 
 module _ (l : List Instruction) (first : ℕ) where
   -- the causes' texts with one instruction more
-  abbrev own : Bool → ℕ → Instruction → List ℕ
-  own carry number x = own_text (stepped_all nothing_known (slice first number l)) x.mnemonic x.first x.second carry
+  abbrev own : FlagGroup → ℕ → Instruction → List ℕ
+  own which number x = own_text (stepped_all nothing_known (slice first number l)) x.mnemonic x.first x.second which
 
   carry-next : (t : Setters) (k : Sets) (i : ℕ) (x d : Instruction) → x ≡ get_or l i d
-      → carry_at l first (setters_by t i k) d ≡ by_way (carry_way k) (own true i x) (carry_at l first t d)
+      → carry_at l first (setters_by t i k) d ≡ by_way (carry_way k) (own group.Carry i x) (carry_at l first t d)
   unfolding turned_times
   carry-next t sets-none i x d is = refl
   carry-next t sets-carry i x d is = rw (is, append-nil)
@@ -88,7 +90,7 @@ module _ (l : List Instruction) (first : ℕ) where
   carry-next t sets-all i x d is = rw (is, append-nil)
 
   result-next : (t : Setters) (k : Sets) (i : ℕ) (x d : Instruction) → x ≡ get_or l i d
-      → result_at l first (setters_by t i k) d ≡ by_way (result_way k) (own false i x) (result_at l first t d)
+      → result_at l first (setters_by t i k) d ≡ by_way (result_way k) (own group.Result i x) (result_at l first t d)
   result-next t sets-none i x d is = refl
   result-next t sets-carry i x d is = refl
   result-next t turns-carry i x d is = refl
@@ -132,7 +134,7 @@ module _ (l : List Instruction) (first : ℕ) where
   traced-all {i} {end} traced below above = let same : end ≡ i = omega arith in rw same traced
 
   -- what an instruction says, from what is known before it
-  pub own-there : (number : ℕ) (carry : Bool) (d : Instruction) {state : State} {x : Instruction} {text : List ℕ}
+  pub own-there : (number : ℕ) (which : FlagGroup) (d : Instruction) {state : State} {x : Instruction} {text : List ℕ}
       → state ≡ stepped_all nothing_known (slice first number l) → ((d : Instruction) → x ≡ get_or l number d)
-      → text ≡ own_text state x.mnemonic x.first x.second carry → text ≡ own_at l first carry number d
-  own-there number carry d state-is x-is text-is = rw (← state-is, ← x-is d) text-is
+      → text ≡ own_text state x.mnemonic x.first x.second which → text ≡ own_at l first which number d
+  own-there number which d state-is x-is text-is = rw (← state-is, ← x-is d) text-is

@@ -2,7 +2,7 @@
 // its flags last are found and say why.
 #![tactic(auto)]
 
-ghost use Rattle.std.specs.Prelude.{◌≡◌, ◌≤◌, ◌<◌, length};
+ghost use Rattle.std.specs.Prelude.{◌≡◌, ◌≤◌, ◌<◌, length, Some};
 ghost use Rattle.std.proofs.Math.Seq.{slice};
 ghost use Rattle.isa.specs.declared.Instruction.{Instruction};
 ghost use Rattle.machine.specs.Registers.{nothing_known};
@@ -18,57 +18,53 @@ ghost use Rattle.sentence_block.specs.Promises.{own_at, carry_at, result_at, Tra
 
 use isa::Mnemonic;
 use machine::State;
-use phrase::Cause;
+use phrase::{Cause, FlagGroup};
 use sentence::{Setters, Telling};
 use sentence_text::{Said, TooShort};
 use sheet::code::Code;
 
+// The code and its first number go side by side through four functions: in a struct of both, each contract would name the sheet's bytes behind one
+// more borrow.
 // The causes of the flags' values after the instructions of an accepted sheet from number `first` up to `end`, where nothing is known at their start.
 fn setters_in(code: &Code, first: usize, end: usize) -> Setters
     requires { (first ≤ end) × (end ≤ length code.now.places.now) × (end ≤ 65536) }
     ensures { Traced (sheet_at code.now.bytes.now).instructions.list first end result }
 {
-    let mut setters = Setters {
-        result: first,
-        carry: first,
-        turns: 0,
-    };
+    let mut setters = Setters::all(first);
     for i in first..end {
-        let it = code.nth_instruction(i);
-        setters = sentence::setters_after(setters, i, it);
+        setters.step(i, code.nth_instruction(i));
     }
     setters
 }
 
-// The cause that the instruction of that number is for CF, or, without `carry`, for the other flags, in a block that starts at number `first`.
-fn cause_at(code: &Code, first: usize, number: usize, carry: bool) -> Cause
+// The cause that the instruction of that number is for CF, or for the other flags, in a block that starts at number `first`.
+fn cause_at(code: &Code, first: usize, number: usize, group: FlagGroup) -> Cause
     requires { number < length code.now.places.now }
-    ensures { (d : Instruction) → cause_text result ≡ own_at (sheet_at code.now.bytes.now).instructions.list first carry number d }
+    ensures { (d : Instruction) → cause_text result ≡ own_at (sheet_at code.now.bytes.now).instructions.list first group number d }
 {
     let mut state = State::unknown();
     verdict_block::step_over(code, first, number, &mut state);
-    let it = code.nth_instruction(number);
-    sentence::cause_of(&state, it.mnemonic, it.first, it.second, carry)
+    sentence::cause_of(&state, code.nth_instruction(number), group)
 }
 
 // What the causes say that tell of a branch.
-fn said_by(code: &Code, first: usize, setters: Setters, telling: Option<Telling>) -> Said
+fn said_by(code: &Code, first: usize, setters: Setters, telling: Telling) -> Said
     requires { (setters.result < length code.now.places.now) × (setters.carry < length code.now.places.now) }
-    ensures result_value { (d : Instruction) → said_text result ≡ telling_text telling (carry_at (sheet_at code.now.bytes.now).instructions.list first setters d) (result_at (sheet_at code.now.bytes.now).instructions.list first setters d) }
-    ensures result_bound { turns_of result ≤ setters.turns }
+    ensures result_value { (d : Instruction) → said_text (Some result) ≡ telling_text (Some telling) (carry_at (sheet_at code.now.bytes.now).instructions.list first setters d) (result_at (sheet_at code.now.bytes.now).instructions.list first setters d) }
+    ensures result_bound { turns_of (Some result) ≤ setters.turns }
 {
-    let Some(telling) = telling else {
-        return Said::Nothing;
-    };
     let carry = setters.carry;
     let result = setters.result;
     match telling {
-        Telling::Carry => Said::One(cause_at(code, first, carry, true), setters.turns),
-        Telling::Result => Said::One(cause_at(code, first, result, false), 0),
-        Telling::Both => Said::Joined(
-            cause_at(code, first, carry, true),
+        Telling::Carry => Said::One(
+            cause_at(code, first, carry, FlagGroup::Carry),
             setters.turns,
-            cause_at(code, first, result, false),
+        ),
+        Telling::Result => Said::One(cause_at(code, first, result, FlagGroup::Result), 0),
+        Telling::Both => Said::Joined(
+            cause_at(code, first, carry, FlagGroup::Carry),
+            setters.turns,
+            cause_at(code, first, result, FlagGroup::Result),
         ),
         Telling::Value(register, value) => Said::One(Cause::Value(register, value), 0),
     }
@@ -84,25 +80,20 @@ fn telling_at(code: &Code, first: usize, end: usize, mnemonic: Mnemonic) -> Opti
     sentence::jump_telling(&state, mnemonic)
 }
 
-// The sentence at the end of the instructions of an accepted sheet from number `first` up to `end`.
-fn said_in(code: &Code, first: usize, end: usize) -> Said
+// What is said at the end of the instructions of an accepted sheet from number `first` up to `end`.
+fn said_in(code: &Code, first: usize, end: usize) -> Option<Said>
     requires { (end ≤ length code.now.places.now) × (end ≤ 65536) }
     ensures result_value { said_text result ≡ sentence_at nothing_known no_why (apart (slice first end (sheet_at code.now.bytes.now).instructions.list)) }
     ensures result_bound { turns_of result ≤ 65536 }
 {
     if end <= first {
-        return Said::Nothing;
+        return None;
     }
     let last = end - 1;
-    match verdict_block::jump_at(code, last) {
-        Some(mnemonic) => said_by(
-            code,
-            first,
-            setters_in(code, first, last),
-            telling_at(code, first, last, mnemonic),
-        ),
-        None => Said::Nothing,
-    }
+    let mnemonic = verdict_block::jump_at(code, last)?;
+    let setters = setters_in(code, first, last);
+    let telling = telling_at(code, first, last, mnemonic)?;
+    Some(said_by(code, first, setters, telling))
 }
 
 // Writes the sentence of the block of that number, of an accepted sheet with its index, to the start of a text that can hold it.

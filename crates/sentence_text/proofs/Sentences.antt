@@ -1,5 +1,5 @@
 -- Sentences by two parts of a buffer.
-use Prim.Native.Nat.{ℕ, zero, suc, ◌+◌, ◌-◌, ◌*◌, ◌≤◌}
+use Prim.Native.Nat.{ℕ, zero, suc, ◌+◌, ◌*◌, ◌≤◌}
 use mathlib.Core.Path.{◌≡◌, refl, sym, ap, ap₂, ◌∙◌}
 use mathlib.Core.Bool.{true, false, cond, ◌&&◌}
 use mathlib.Core.List.{List, [], ◌++◌, append-nil, append_assoc}
@@ -8,6 +8,7 @@ use borrow.Author.Tests.{eqb-true}
 use lib.Dec.{eqb}
 use lib.ListN.{length, take, drop, length-append}
 use lib.Seq.{slice, slice_empty, length-take-le, take_at, drop_at, take-take}
+use Rattle.std.specs.Prelude.{Some}
 use Rattle.laws.specs.Words.{same_words}
 use Rattle.laws.proofs.Booleans.{and_left, and_right, by_test}
 use Rattle.laws.proofs.SameWords.{words-true}
@@ -147,6 +148,6 @@ parts-long first turns rest = rw (length-append, length-append, turns_long turns
 
 -- the sentence of two causes
 pub said-both : {said : Said} {cause second : Cause} {n : ℕ} {new : List ℕ} {c : Composed} → said ≡ Joined cause n second
-    → Composes (joined (cause_text cause ++ turned_times n) (cause_text second)) n new c → Composes (said_text said) (turns_of said) new c
+    → Composes (joined (cause_text cause ++ turned_times n) (cause_text second)) n new c → Composes (said_text (Some said)) (turns_of (Some said)) new c
 unfolding said_text
 said-both e is = rw e is

@@ -1,25 +1,25 @@
 -- What a sentence is made of, and what the functions that write it promise.
-use Rattle.std.specs.Prelude.{ℕ, ◌≤◌, ◌<◌, ◌≡◌, List, [], ◌++◌, length, take, Result, Ok, Err}
+use Rattle.std.specs.Prelude.{ℕ, ◌≤◌, ◌<◌, ◌≡◌, List, [], ◌++◌, length, take, Option, Some, None, Result, Ok, Err}
 use Rattle.std.proofs.Math.Seq.{slice}
 use Rattle.text.specs.Promises.{Written}
 use Rattle.phrase.specs.Promises.{cause_text}
 use Rattle.sentence_text.specs.declared.Said.{Said}
-use Rattle.sentence_text.specs.declared.Said.TheVariants.{Nothing, One, Joined}
+use Rattle.sentence_text.specs.declared.Said.TheVariants.{One, Joined}
 use Rattle.sentence_text.specs.declared.Composed.{Composed}
 use Rattle.sentence_text.specs.declared.TooShort.{TooShort}
 use Rattle.sentence_text.specs.Sentence.{joined, turned_times}
 
--- the sentence that is said (W7, W12)
-unfoldable pub said_text : Said → List ℕ
-said_text Nothing = []
-said_text (One cause turns) = cause_text cause ++ turned_times turns
-said_text (Joined cause turns second) = joined (cause_text cause ++ turned_times turns) (cause_text second)
+-- the sentence that is said, if one is (W7, W12)
+unfoldable pub said_text : Option Said → List ℕ
+said_text None = []
+said_text (Some (One cause turns)) = cause_text cause ++ turned_times turns
+said_text (Some (Joined cause turns second)) = joined (cause_text cause ++ turned_times turns) (cause_text second)
 
 -- how many cmc it tells of
-abbrev pub turns_of : Said → ℕ
-turns_of Nothing = 0
-turns_of (One cause turns) = turns
-turns_of (Joined cause turns second) = turns
+abbrev pub turns_of : Option Said → ℕ
+turns_of None = 0
+turns_of (Some (One cause turns)) = turns
+turns_of (Some (Joined cause turns second)) = turns
 
 -- two parts of a buffer, one behind the other, with what cmc adds between them
 abbrev pub in_parts : List ℕ → (head turns end : ℕ) → List ℕ

@@ -15,7 +15,6 @@ use text::Writer;
 // What a sentence says. A number is how many cmc came after the cause before it.
 #[derive(Clone, Copy)]
 pub enum Said {
-    Nothing,
     One(Cause, u64),
     // both, or the first alone where they have one text
     Joined(Cause, u64, Cause),
@@ -72,17 +71,19 @@ fn put_both(cause: Cause, turns: u64, second: Cause, buffer: &mut [u8]) -> Compo
     }
 }
 
-// Puts the parts of a sentence into a buffer.
-fn compose(said: Said, buffer: &mut [u8]) -> Composed
+// Puts the parts of a sentence, if there is one, into a buffer.
+fn compose(said: Option<Said>, buffer: &mut [u8]) -> Composed
     requires { 210 ≤ length buffer.old }
     ensures { Composes (said_text said) (turns_of said) buffer.new result }
 {
-    match said {
-        Said::Nothing => Composed {
+    let Some(said) = said else {
+        return Composed {
             head: 0,
             turns: 0,
             end: 0,
-        },
+        };
+    };
+    match said {
         Said::One(cause, turns) => {
             let mut out = Writer::new(buffer);
             phrase::put_cause(cause, &mut out);
@@ -125,8 +126,8 @@ fn write(first: &[u8], turns: u64, rest: &[u8], text: &mut [u8]) -> Result<usize
     Ok(out.at)
 }
 
-// Writes the sentence to the start of the text, where the text can hold it, and gives its length.
-pub fn tell(said: Said, text: &mut [u8]) -> Result<usize, TooShort>
+// Writes the sentence to the start of the text, where the text can hold it, and gives its length. Where nothing is said it is empty.
+pub fn tell(said: Option<Said>, text: &mut [u8]) -> Result<usize, TooShort>
     requires { turns_of said ≤ 65536 }
     ensures { Fits result (said_text said) text.old text.new }
 {

@@ -15,9 +15,6 @@ unfolding digits
 digits_long base zero n = refl
 digits_long base (suc k) n = rw (length-append, digits_long base k (n / base)) (add-one k)
 
-pub digits-short : (base k n : ℕ) → length (digits base k n) ≤ k
-digits-short base k n = rw digits_long (omega arith)
-
 pub places-long : (base n : ℕ) → length (digits base (places_of base n) n) ≡ places_of base n
 places-long base n = digits_long base (places_of base n) n
 

@@ -8,7 +8,7 @@ use native.Mathlib.Omega.{arith}
 use lib.ListN.{length, take, drop, set, length-append, length-set}
 use lib.Seq.{slice, sets, sets-eq, length-sets, set_comm, drop_at, drop-drop, take-add, length-take-le}
 use borrow.Rule.Slice.PartMut.{put_mid}
-use Rattle.text.specs.Digits.{digit, digits, places_of}
+use Rattle.text.specs.Digits.{digit, digits}
 use Rattle.text.specs.declared.Writer.{Writer}
 use Rattle.text.specs.Promises.{Put, Puts, Written}
 use Rattle.text.proofs.Lengths.{digits_long}
@@ -60,19 +60,11 @@ pub room : {old new : List ℕ} {at next : ℕ} {text : List ℕ} (most more : �
     → at + (most + more) ≤ length old → next + more ≤ length new
 room most more p short fits = omega (arith, p.end, p.long)
 
--- a text that ends within so many bytes from a start, after one more piece
-pub end-within : {old new : List ℕ} {at next : ℕ} {text : List ℕ} (start most before : ℕ) → Put old new at next text → length text ≤ most
-    → at ≤ start + before → next ≤ start + (most + before)
-end-within start most before p short h = omega (arith, p.end)
-
 -- digits stored from the last to the first: with those that are left the text is whole
 pub record DigitsLeft (n base width at : ℕ) (old new : List ℕ) (i rest : ℕ) : Type 0 where
   pub within : i ≤ width
   pub long : length new ≡ length old
   pub left : sets new at (digits base i rest) ≡ sets old at (digits base width n)
-
-pub digits-start : (n base width at : ℕ) (old : List ℕ) → DigitsLeft n base width at old old width n
-digits-start n base width at old = record { within = omega arith; long = refl; left = refl }
 
 digits_step : (base at j rest : ℕ) (new : List ℕ)
     → sets new at (digits base (suc j) rest) ≡ sets (set new (at + j) (digit (rest % base))) at (digits base j (rest / base))
@@ -104,11 +96,6 @@ word-put old word part at fits same =
     let is : put_mid at (at + length word - at) old part ≡ sets old at word =
     rw (k, same, drop-drop) (sym (append_assoc (take at old) word (drop (at + length word) old)) ∙ sym (sets-eq word old at fits)) in
     record { is = is; end = refl; long = ap length is ∙ length-sets old at word; inside = rw (ap length is ∙ length-sets old at word) fits }
-
--- a number by as many digits as it has
-pub put-places : {old new : List ℕ} {at next k : ℕ} (base n : ℕ) → k ≡ places_of base n → Put old new at next (digits base k n)
-    → Put old new at next (digits base (places_of base n) n)
-put-places base n e p = rw e at p
 
 -- a part of a word, as it is lent
 pub part-is : (l : List ℕ) (from to : ℕ) → from ≤ to → to ≤ length l → take (to - from) (drop from l) ≡ slice from to l

@@ -11,7 +11,7 @@ use Rattle.laws.specs.Words.{same_words}
 use Rattle.laws.proofs.Booleans.{and_left, and_right, by_test}
 use Rattle.laws.proofs.SameWords.{words-true}
 use Rattle.alu.specs.declared.Width.{Width}
-use Rattle.wording.specs.Names.{NameIn, high_bytes, low_name}
+use Rattle.wording.specs.Names.{name_in, high_bytes, low_name}
 
 -- a test of each of the first numbers
 unfoldable pub every : ℕ → (ℕ → Bool) → Bool
@@ -25,11 +25,12 @@ every-below (suc n) p h zero less = and_left (p 0) (every n (λ i. p (suc i))) h
 every-below (suc n) p h (suc k) less = every-below n (λ i. p (suc i)) (and_right (p 0) (every n (λ i. p (suc i))) h) k (omega arith)
 
 -- a table has the names of the first registers, and those past it have none
-pub table_name : {x : List ℕ} {k : ℕ} {names : List (List ℕ)} (text : ℕ → List ℕ) → NameIn names k x
+pub table_name : (names : List (List ℕ)) {x : List ℕ} {k : ℕ} (text : ℕ → List ℕ) → x ≡ name_in names k
     → every (length names) (λ i. same_words (get_or names i []) (text i)) ≡ true → ((i : ℕ) → length names ≤ i → text i ≡ []) → x ≡ text k
-table_name {k = k} {names} text n tests past =
-    by_test (leb (length names) k) (λ t. n.is ∙ get_or-eq_default names [] (leb-true _ _ t) ∙ sym (past k (leb-true _ _ t)))
-    (λ t. n.is ∙ words-true _ _ (every-below (length names) (λ i. same_words (get_or names i []) (text i)) tests k (leb-false _ _ t)))
+unfolding name_in
+table_name names {k = k} text is tests past =
+    by_test (leb (length names) k) (λ t. is ∙ get_or-eq_default names [] (leb-true _ _ t) ∙ sym (past k (leb-true _ _ t)))
+    (λ t. is ∙ words-true _ _ (every-below (length names) (λ i. same_words (get_or names i []) (text i)) tests k (leb-false _ _ t)))
 
 -- there is no register past the tables
 pub past_names : (w : Width) (index : ℕ) → 16 ≤ index → low_name w index ≡ []

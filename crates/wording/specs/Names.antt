@@ -1,5 +1,5 @@
 -- How sentences name registers and instructions.
-use Rattle.std.specs.Prelude.{ℕ, cond, List, [], ◌∷◌, ◌++◌, ltb, eqb, get_or, codes, ◌≡◌, Option, Some, None}
+use Rattle.std.specs.Prelude.{ℕ, cond, List, [], ◌∷◌, ◌++◌, ltb, eqb, get_or, codes, Option, Some, None}
 use Rattle.isa.specs.declared.Register.{Register}
 use Rattle.isa.specs.declared.Binary.{Binary}
 use Rattle.isa.specs.declared.Binary.TheVariants.{Add, Sub, Cmp, And, Or, Xor, Test}
@@ -59,5 +59,5 @@ instruction_name Xor = codes "xor"
 instruction_name Test = codes "test"
 
 -- the name of that number in a table, none past its end
-pub record NameIn (names : List (List ℕ)) (index : ℕ) (name : List ℕ) : Type 0 where
-  pub is : name ≡ get_or names index []
+unfoldable pub name_in : List (List ℕ) → ℕ → List ℕ
+name_in names index = get_or names index []

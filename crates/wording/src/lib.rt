@@ -2,7 +2,7 @@
 #![tactic(auto)]
 
 ghost use Rattle.std.specs.Prelude.{◌≡◌, map};
-ghost use Rattle.wording.specs.Names.{NameIn, low_name, register_name, instruction_name};
+ghost use Rattle.wording.specs.Names.{name_in, low_name, register_name, instruction_name};
 ghost use Rattle.wording.specs.Values.{Shows, sized_text};
 ghost use Rattle.alu.specs.Width.{width_of};
 
@@ -33,13 +33,11 @@ const QUADS: [&[u8]; 16] = [
 const HIGH_BYTES: [&[u8]; 4] = [b"ah", b"ch", b"dh", b"bh"];
 
 // The name of that number, none past the last.
+#[tactic(auto, unfolding(crate::specs::Names::name_in))]
 fn named(names: &[&'static [u8]], index: u8) -> &'static [u8]
-    ensures { NameIn (map (λ n. n.now) names.now) index result.now }
+    ensures { result.now ≡ name_in (map (λ n. n.now) names.now) index }
 {
-    match names.get(index as usize) {
-        Some(name) => name,
-        None => b"",
-    }
+    names.get(index as usize).copied().unwrap_or(b"")
 }
 
 // A register from bit 0 on.

@@ -10,4 +10,4 @@ use Rattle.wording.proofs.name.Goals as goal
 pub returns-then-register-eq8 : goal.returns-then-register-eq8
 unfolding register_name high_bytes same_words every
 returns-then-register-eq8 c =
-    rw (eq-eqb _ _ c.if-register-eq8.true) (table_name (λ k. get_or high_bytes k []) c.named.ensures refl past-high_names)
+    rw (eq-eqb _ _ c.if-register-eq8.true) (table_name _ (λ k. get_or high_bytes k []) c.named.ensures refl past-high_names)
