@@ -1,18 +1,11 @@
 -- What a C host is given: the number that a function returns, and what it writes to `out` and `reason`.
-use Rattle.std.specs.Prelude.{ℕ, ◌≡◌, Result, Ok, Err}
-use Rattle.refusal.specs.declared.Refusal.{Refusal}
-use Rattle.refusal.specs.Numbers.{number_of}
+use Rattle.std.specs.Prelude.{ℕ, ◌≡◌}
 use Rattle.verdict.specs.Numbers.{Numbers}
 use Rattle.verdict.specs.Numbers.Numbers.{decision, undecided, no_branch, refused as refused_verdict}
 use Rattle.answer_listing.specs.Listing.{ListedNumbers}
 use Rattle.answer_listing.specs.Listing.ListedNumbers.{lines, refused as refused_listing}
 use Rattle.answer_evaluation.specs.Evaluation.{Evaluated}
 use Rattle.answer_evaluation.specs.Evaluation.Evaluated.{outcome, refused}
-
--- a number with 0, or a refusal's number and offset
-abbrev pub HandedOut : ℕ → ℕ → Result ℕ Refusal → Type 0
-HandedOut r out (Ok n) = (r ≡ 0) × (out ≡ n)
-HandedOut r out (Err e) = (r ≡ number_of e.fault) × (out ≡ e.at)
 
 -- The listing: 0 and the number of lines, or the refusal's number and offset (R1, D3, F4).
 abbrev pub ReturnedListing : ℕ → ℕ → ListedNumbers → Type 0

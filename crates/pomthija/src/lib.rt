@@ -5,9 +5,9 @@ ghost use Rattle.std.specs.Prelude.{◌≡◌};
 ghost use Rattle.answer_node.specs.Node.{node_answer};
 ghost use Rattle.answer_evaluation.specs.Evaluation.{evaluation_answer};
 ghost use Rattle.answer_listing.specs.Listing.{listing_of};
-ghost use Rattle.pomthija.specs.Returned.{HandedOut, Returned, ReturnedListing, ReturnedVerdict, version};
+ghost use Rattle.pomthija.specs.Returned.{Returned, ReturnedListing, ReturnedVerdict, version};
 
-use refusal::Refusal;
+use host::hand_out;
 use verdict::Verdict;
 
 // The number of the interface, POMTHIJA_VERSION of the header that belongs to it.
@@ -17,48 +17,21 @@ pub fn pomthija_version() -> u64
     1
 }
 
-// Hands out a number, and returns 0; or a refusal's offset, and returns its number.
-fn hand_out(answer: Result<u64, Refusal>, out: &mut u64) -> u64
-    ensures { HandedOut result out.new answer }
-{
-    match answer {
-        Ok(n) => {
-            *out = n;
-            0
-        }
-        Err(r) => {
-            *out = r.at as u64;
-            r.fault.number()
-        }
-    }
-}
-
 // The node verdict: 0, with 1 (always), 0 (never) or 2 (undecided) in `out` and the reason's number in `reason`, 0 where
 // undecided; or the refusal's number, with its offset in `out` and 0 in `reason`.
 pub fn pomthija_node_verdict(s: &[u8], number: u64, out: &mut u64, reason: &mut u64) -> u64
     ensures { ReturnedVerdict result out.new reason.new (node_answer s.now number) }
 {
-    let answer = answer_node::node_verdict(s, number);
-    match answer {
-        Ok(Verdict::Always(r)) => {
-            *reason = r.number() as u64;
-            hand_out(Ok(1), out)
-        }
-        Ok(Verdict::Never(r)) => {
-            *reason = r.number() as u64;
-            hand_out(Ok(0), out)
-        }
-        Ok(Verdict::Undecided) => {
-            *reason = 0;
-            hand_out(Ok(2), out)
-        }
+    let (answer, why) = match answer_node::node_verdict(s, number) {
+        Ok(Verdict::Always(r)) => (Ok(1), r.number()),
+        Ok(Verdict::Never(r)) => (Ok(0), r.number()),
+        Ok(Verdict::Undecided) => (Ok(2), 0),
         // never the answer for a node
         Ok(Verdict::NoBranch) => unreachable!(),
-        Err(r) => {
-            *reason = 0;
-            hand_out(Err(r), out)
-        }
-    }
+        Err(r) => (Err(r), 0),
+    };
+    *reason = why as u64;
+    hand_out(answer, out)
 }
 
 // The listing: 0, with the number of lines in `out`; or the refusal's number, with its offset in `out`.

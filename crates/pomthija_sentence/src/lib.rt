@@ -10,14 +10,5 @@ pub fn pomthija_sentence(s: &[u8], block: u64, text: &mut [u8], out: &mut u64) -
     ensures { ReturnedSentence result out.new (sentence_answer s.now block text.old).answer × (text.new ≡ (sentence_answer s.now block text.old).text) }
 {
     let told = answer_sentence::block_sentence(s, block, text);
-    match told {
-        Ok(n) => {
-            *out = n as u64;
-            0
-        }
-        Err(r) => {
-            *out = r.at as u64;
-            r.fault.number()
-        }
-    }
+    host::hand_out(told.map(|n| n as u64), out)
 }

@@ -3,4 +3,4 @@ use Rattle.pomthija.proofs.pomthija_node_verdict.Goals as goal
 
 pub unreachable-requires : goal.unreachable-requires
 unreachable-requires c =
-    returned-none _ _ _ c.node_verdict-answer.ensures c.in-Ok-NoBranch.is (rw c.in-Ok-NoBranch.is at c.in-Ok-NoBranch.field-0-is)
+    returned-none _ _ _ c.node_verdict.ensures c.in-Ok-NoBranch.is c.in-Ok-NoBranch.field-0-is
