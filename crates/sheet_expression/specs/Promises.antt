@@ -1,13 +1,10 @@
 -- What the contracts of the readers give.
-use Rattle.std.specs.Prelude.{ℕ, ◌*◌, ◌≤◌, true, List, ◌++◌, ◌≡◌, length, drop, Ok, Result}
-use Rattle.sheet_field.specs.Field.{Place, WentOn, read_as}
-use Rattle.refusal.specs.declared.Refusal.{Refusal}
+use Rattle.std.specs.Prelude.{ℕ, ◌*◌, ◌≤◌, true, List, ◌++◌, ◌≡◌, length, drop, Ok}
+use Rattle.sheet_field.specs.Field.{Place, WentOn}
 use Rattle.expr.specs.declared.Tree.{Tree}
 use Rattle.expr.specs.Codes.{kind_ternary}
 use Rattle.expr.specs.Tree.{kind_of, argument_of}
 use Rattle.sheet_expression.specs.declared.CheckedRecord.{CheckedRecord}
-use Rattle.sheet_expression.specs.declared.Record.{Record}
-use Rattle.sheet_expression.specs.declared.Checked.{Checked}
 use Rattle.sheet_expression.specs.Expression.{has_argument, argument_ok, RecordReading, record_at, Taken, expression_at}
 
 -- What a reader of records leaves: how many they are, the offset, and a borrowed list that was `before` and is `after`: where

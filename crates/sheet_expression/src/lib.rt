@@ -2,14 +2,13 @@
 // read whole, which takes its records as words, two a record (see the crate expr).
 #![tactic(auto)]
 
-ghost use Rattle.std.specs.Prelude.{◌≡◌, true, ℕ, ◌*◌, ◌≤◌, ◌<◌, length, Ok, IfOk};
-ghost use Rattle.sheet_field.specs.Field.{WentOn, answer_of};
+ghost use Rattle.std.specs.Prelude.{◌≡◌, true, ℕ, ◌≤◌, ◌<◌, length, Ok, IfOk};
 ghost use Rattle.sheet_field.specs.Reads.{Reads};
 ghost use Rattle.expr.specs.Admission.{InTable};
 ghost use Rattle.expr.specs.Tree.{tree_of};
 ghost use Rattle.expr.specs.Types.{together, binary_type, record_type, type_of};
 ghost use Rattle.sheet_expression.specs.Expression.{has_argument, argument_ok, argument_at, constant_at, fits_width, record_at, expression_at};
-ghost use Rattle.sheet_expression.specs.Promises.{Took, Tagged, checked_record, WholeRecord, RecordIs, WholeExpression, checked_expression};
+ghost use Rattle.sheet_expression.specs.Promises.{Tagged, checked_record};
 
 use refusal::{Fault, Refusal};
 use sheet_field::Reader;

@@ -2,11 +2,10 @@
 // statement's content.
 #![tactic(auto)]
 
-ghost use Rattle.std.specs.Prelude.{◌≡◌, ℕ, ◌+◌, ◌*◌, ◌<◌, ◌≤◌, List, length, take, drop, Ok, IfOk};
-ghost use Rattle.sheet_field.specs.Field.{WentOn};
+ghost use Rattle.std.specs.Prelude.{◌≡◌, Ok, IfOk};
 ghost use Rattle.sheet_field.specs.Reads.{Reads};
 ghost use Rattle.sheet_node.specs.Node.{map_at, statement_at, statements_from, node_at};
-ghost use Rattle.sheet_node.specs.Promises.{TookStatement, front_of, reading_of, types_end, node_types, addresses_end, WholeStatement, WholeStatements};
+ghost use Rattle.sheet_node.specs.Promises.{types_end, node_types, addresses_end};
 
 use refusal::{Fault, Refusal};
 use sheet_expression::Types;
