@@ -8,7 +8,7 @@ pub returns-in_err-x-clause-reads : goal.returns-in_err-x-clause-reads
 returns-in_err-x-clause-reads g c test answers =
     let f = field_at g.row.N c.args.self.now.bytes.now (Ok c.args.self.now.at) in
     let p = err_from_is_err_and c.from_residual.result c.from_residual.ensures.1 in
-    let r = c.in_err-x.ensures.reads in
+    let r = rw c.in_err-x.was at c.take_field.ensures.reads in
     rw (p.1, p.2) (record { same = r.same; place = checked-stays (test f.value) c.args.fault c.args.self.now.at f r.place })
 
 pub returns-then-check-clause-reads : goal.returns-then-check-clause-reads
