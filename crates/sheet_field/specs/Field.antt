@@ -73,7 +73,7 @@ count_at least most s p =
     let f = field_at 2 s p in
     check_field (leb least f.value && leb f.value most) Count (start_of p) f
 
--- After the first k of numbers of 8 bytes each that stand one after the other (S2).
+-- after the first k of numbers of 8 bytes each that stand one after the other
 unfoldable pub words_from : List ℕ → Place → ℕ → Place
 words_from s p zero = p
 words_from s p (suc k) = (field_at 8 s (words_from s p k)).next

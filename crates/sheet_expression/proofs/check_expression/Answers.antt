@@ -24,7 +24,7 @@ put-requires c =
     let few = count-few c.args.types.bytes.now c.args.r.now c.in_ok-n.ensures.value in let s = c.loop-i.stack in let one = c.in_ok-one.ensures in (
       depth_small _ _ c.in_ok-n.ensures.value c.loop-i.invariant c.depth.ensures one.reads one.record (omega arith),
       rw (c.checked_type.ensures, c.last_two-a.ensures.before, c.last_two-a.ensures.last)
-      (record-in _ _ _ _ c.args.types.in_table (tagged _ _ c.in_ok-n.ensures.value c.loop-i.invariant c.depth.ensures one.reads one.record) (s.in_table s.depth) (s.in_table (s.depth + 1))),
+          (record-in _ _ _ _ c.args.types.in_table (tagged _ _ c.in_ok-n.ensures.value c.loop-i.invariant c.depth.ensures one.reads one.record) (s.in_table s.depth) (s.in_table (s.depth + 1))),
     )
 
 pub loop-i-preserved : goal.loop-i-preserved
