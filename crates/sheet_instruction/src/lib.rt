@@ -61,6 +61,8 @@ pub fn register_at(s: &[u8], at: usize) -> Register
     }
 }
 
+// Inlined, as a call would have the reader put into memory; so is an operand.
+#[inline(always)]
 #[tactic(auto, using(crate::proofs::Checks::register_cut, crate::proofs::Checks::register_taken, crate::proofs::Checks::register_failed))]
 fn check_register(r: &mut Reader) -> Result<Register, Refusal>
     requires { r.old.at ≤ length r.old.bytes.now }
@@ -80,6 +82,7 @@ fn check_register(r: &mut Reader) -> Result<Register, Refusal>
     }
 }
 
+#[inline(always)]
 #[tactic(auto, using(crate::proofs::Checks::kind_refused, crate::proofs::Checks::kind_inside), unfolding(crate::specs::Instruction::operand_at))]
 fn check_operand(r: &mut Reader) -> Result<Operand, Refusal>
     ensures reads { Reads r.old r.new result (operand_at r.old.bytes.now (Ok r.old.at)).next }
