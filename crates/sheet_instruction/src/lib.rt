@@ -2,7 +2,7 @@
 // before ended, and the first refusal is the record's.
 #![tactic(auto)]
 
-ghost use Rattle.std.specs.Prelude.{◌≡◌, ◌+◌, ◌≤◌, ◌||◌, length, ltb, Ok, IfOk, is_none, unwrap_or};
+ghost use Rattle.std.specs.Prelude.{◌≡◌, ◌+◌, ◌≤◌, length, Ok, IfOk, is_none, unwrap_or};
 ghost use Rattle.sheet_field.specs.Reads.{Reads};
 ghost use Rattle.sheet_instruction.specs.Instruction.{register_at, operand_at, registers_at, optional_registers, optional_operand, bit_of, map_ok, map_at, address_at, head_at, tail_at, instruction_at};
 ghost use Rattle.sheet_instruction.specs.MapBit.{unit_of};
@@ -61,6 +61,8 @@ pub fn register_at(s: &[u8], at: usize) -> Register
     }
 }
 
+// Inlined, as a call would have the reader put into memory; so is an operand.
+#[inline(always)]
 #[tactic(auto, using(crate::proofs::Checks::register_cut, crate::proofs::Checks::register_taken, crate::proofs::Checks::register_failed))]
 fn check_register(r: &mut Reader) -> Result<Register, Refusal>
     requires { r.old.at ≤ length r.old.bytes.now }
@@ -80,6 +82,7 @@ fn check_register(r: &mut Reader) -> Result<Register, Refusal>
     }
 }
 
+#[inline(always)]
 #[tactic(auto, using(crate::proofs::Checks::kind_refused, crate::proofs::Checks::kind_inside), unfolding(crate::specs::Instruction::operand_at))]
 fn check_operand(r: &mut Reader) -> Result<Operand, Refusal>
     ensures reads { Reads r.old r.new result (operand_at r.old.bytes.now (Ok r.old.at)).next }
@@ -145,21 +148,15 @@ fn check_map(r: &mut Reader) -> Result<u64, Refusal>
     ensures reads { Reads r.old r.new result (map_at r.old.bytes.now (Ok r.old.at)).next }
     ensures value { IfOk result (λ x. x ≡ (map_at r.old.bytes.now (Ok r.old.at)).value) }
 {
-    r.take_checked::<1, _>(Fault::Code, |map| map_ok(map))
+    r.take_checked::<1, _>(Fault::Code, map_ok)
 }
 
-// Whether an address is above the one before it, if there is one.
-fn is_above(address: u64, last: Option<u64>) -> bool
-    ensures { result ≡ (is_none last || ltb (unwrap_or last 0) address) }
-{
-    last.is_none_or(|last| last < address)
-}
-
+// An address above `last`; any where there is none, as that is below each.
 fn check_address(r: &mut Reader, last: Option<u64>) -> Result<u64, Refusal>
     ensures reads { Reads r.old r.new result (address_at (is_none last) (unwrap_or last 0) r.old.bytes.now (Ok r.old.at)).next }
     ensures value { IfOk result (λ x. x ≡ (address_at (is_none last) (unwrap_or last 0) r.old.bytes.now (Ok r.old.at)).value) }
 {
-    r.take_checked::<8, _>(Fault::Address, |address| is_above(address, last))
+    r.take_checked::<8, _>(Fault::Address, |address| last < Some(address))
 }
 
 #[tactic(auto, using(crate::proofs::Checks::address_stays, sheet_field::proofs::Steps::code_stays, crate::proofs::Checks::target_stays, crate::proofs::Checks::number_below), unfolding(crate::specs::Instruction::head_at))]
