@@ -16,7 +16,7 @@ use Rattle.sheet.proofs.ByNumber.{addresses-rise, nth-node-read, nth-node-is}
 use Rattle.isa.specs.declared.Instruction.{Instruction}
 use Rattle.verdict.specs.declared.Verdict.{Verdict}
 use Rattle.verdict.specs.Numbers.{Answer}
-use Rattle.sheet_node.specs.Node.{NodeReading, node_at, node_of, addresses_from}
+use Rattle.sheet_node.specs.Node.{NodeReading, node_at, node_of}
 use Rattle.sheet.specs.Sheet.{sheet_at, reading_of, no_node, node_numbered, node_place}
 use Rattle.verdict_block.specs.Verdict.{verdict_on}
 use Rattle.verdict_node.specs.NodeVerdict.{node_verdict}
@@ -25,7 +25,6 @@ use Rattle.verdict_node.specs.Promises.{JudgedIs}
 use Rattle.verdict_sheet.specs.Sites.{last_branch, node_site, block_site}
 use Rattle.verdict_sheet.specs.Said.{Said, saying, blocks_say, Judged, node_too, judged_up_to}
 use Rattle.verdict_sheet.specs.Kept.{SiteIs, kept_at, slots_of, Reached}
-use Rattle.verdict_sheet.proofs.Branches.{jump-of}
 use Rattle.verdict_sheet.proofs.Keeping.{keep-saying}
 
 -- the loop over blocks
