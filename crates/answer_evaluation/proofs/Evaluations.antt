@@ -6,7 +6,7 @@ use Rattle.std.specs.Prelude.{Ok, Err}
 use Rattle.refusal.specs.declared.Refusal.{Refusal}
 use Rattle.refusal.specs.Numbers.{number_of}
 use Rattle.sheet_field.specs.Field.{Place}
-use Rattle.sheet_node.specs.Node.{NodeReading, node_at, node_of}
+use Rattle.sheet_node.specs.Node.{node_at, node_of}
 use Rattle.sheet.specs.Sheet.{Reading, reading_of, node_numbered}
 use Rattle.sheet.specs.Promises.{found_on}
 use Rattle.sheet.proofs.Found.{found-node, by_place, found-on}
@@ -31,7 +31,7 @@ module _ (s : List ℕ) (number : ℕ) (values : List ℕ) {p : Place} (found : 
   unfolding by_place
   evaluation-refused is = sym (rw is at evaluated-by)
 
-  pub evaluation-is : {at : ℕ} {node : NodeReading} {e : Evaluation} → p ≡ Ok at → node ≡ node_at s (Ok at)
-      → e ≡ evaluation_of (node_of s node) at values → in_numbers e ≡ evaluation_answer s number values
+  pub evaluation-is : {at : ℕ} {e : Evaluation} → p ≡ Ok at
+      → e ≡ evaluation_of (node_of s (node_at s (Ok at))) at values → in_numbers e ≡ evaluation_answer s number values
   unfolding by_place
-  evaluation-is is node-is e-is = rw (e-is, node-is, found-node s number found is) (sym (rw is at evaluated-by))
+  evaluation-is is e-is = rw (e-is, found-node s number found is) (sym (rw is at evaluated-by))

@@ -5,13 +5,12 @@ ghost use Rattle.std.specs.Prelude.{◌≡◌};
 ghost use Rattle.answer_evaluation.specs.Evaluation.{in_numbers, evaluation_answer};
 
 use evaluate_node::Evaluation;
+use sheet_node::node::Node;
 
 // The node of that number, from 0, run on the borrowed values of its variables; extra values are unread.
 pub fn evaluation(s: &[u8], number: u64, values: &[u64]) -> Evaluation
     ensures { in_numbers result ≡ evaluation_answer s.now number values.now }
 {
     let at = sheet::find_node(s, number)?;
-    let mut words = [0u64; 256];
-    let node = sheet_node::node_at(s, at, &mut words);
-    evaluate_node::evaluate_node(s, node, at, values)
+    evaluate_node::evaluate_node(&Node::new(s, at), values)
 }

@@ -108,7 +108,7 @@ check-at ok fault at f {a} e =
     taken (Err r) o q = absurd cc
 
 -- the bytes of a number, and zeros behind them
-little-same : (s t : List ℕ) (n a b : ℕ) → ((i : ℕ) → i < n → get_or s (a + i) 0 ≡ get_or t (b + i) 0) → little s a n ≡ little t b n
+pub little-same : (s t : List ℕ) (n a b : ℕ) → ((i : ℕ) → i < n → get_or s (a + i) 0 ≡ get_or t (b + i) 0) → little s a n ≡ little t b n
 unfolding little
 little-same s t zero a b same = refl
 little-same s t (suc n) a b same =

@@ -1,24 +1,27 @@
 -- A record's branch, found by the index.
 use Prim.Native.Nat.{ℕ, zero, suc, ◌+◌, ◌-◌, ◌*◌, ◌≤◌, ◌<◌}
 use mathlib.Core.Path.{◌≡◌, refl, sym, ap, ◌∙◌}
-use mathlib.Core.List.{List, [], ◌∷◌, ◌++◌}
+use mathlib.Core.List.{List, [], ◌∷◌, ◌++◌, append_assoc}
 use mathlib.Core.Bool.{Bool, true, false, cond}
 use native.Mathlib.Decide.{dec_lt}
 use native.Mathlib.Omega.{arith}
 use native.Mathlib.Numerals.{add-one}
 use lib.Dec.{eqb}
-use lib.ListN.{length, get_or, length-map}
+use native.Mathlib.Nat.{zero-add}
+use lib.ListN.{length, get_or, take, drop, length-map, length-append, length-take, length-drop}
 use lib.Seq.{slice}
 use borrow.Author.Tests.{lt-ltb, le-ltb}
 use Rattle.isa.specs.declared.Instruction.{Instruction}
 use Rattle.search.specs.Ascending.{place_of}
 use Rattle.search.proofs.Laws.{place_found}
 use Rattle.std.specs.Prelude.{Option, Some, None, option_map, Ok, is_some}
-use Rattle.sheet_field.specs.Field.{Place, WentOn, little}
-use Rattle.sheet_field.proofs.Fields.{field-at, field-whole}
+use Rattle.sheet_field.specs.Field.{Place, WentOn, little, start_of}
+use Rattle.sheet_field.proofs.Fields.{field-at, field-whole, little-same}
+use Rattle.std.proofs.lemmas.List.{get_or_append_left, get_or-append-add, get_or-take, get_or-drop}
 use Rattle.sheet_field.proofs.Counted.{back}
 use Rattle.sheet_node.proofs.Nodes.{addresses-keep}
-use Rattle.sheet_node.specs.Node.{NodeReading, node_at, node_of, addresses_from}
+use Rattle.sheet_node.proofs.Accepted.{addresses-on}
+use Rattle.sheet_node.specs.Node.{node_at, node_of, addresses_from}
 use Rattle.sheet.specs.Sheet.{sheet_at}
 use Rattle.sheet.specs.Index.{addresses_of, branches_of}
 use Rattle.sheet.proofs.Fronts.{one, map_at}
@@ -105,6 +108,14 @@ module _ (s : List ℕ) (sites n : ℕ) (on : WentOn (addresses_from s (Ok sites
       let from : f.from ≡ sites + 8 * i = cc (f.there, before) in
       omega (arith, f.inside, from)
 
+  -- the bytes of all of them are there
+  pub addresses-fit : 8 * n ≤ length s - sites
+  addresses-fit = fit n (omega arith)
+    where
+      fit : (i : ℕ) → i ≤ n → 8 * i ≤ length s - sites
+      fit zero le = omega arith
+      fit (suc i) le = omega (arith, site-inside i le)
+
   pub jump-none : (code : List Instruction) → SiteIs code None (last_branch code (addresses_from s (Ok sites) 0).list)
   unfolding addresses_from last_branch
   jump-none code = refl
@@ -125,11 +136,62 @@ pub addresses-last : (s : List ℕ) (p : Place) {sites : Place} {n : ℕ} → si
 unfolding node_at
 addresses-last s p sites-are n-is on = rw (sites-are, n-is) on
 
--- a node's jump, from its addresses
-pub jump-of : (s : List ℕ) (node : NodeReading) (code : List Instruction) (jump : Option ℕ) {sites : Place} {n : ℕ} → sites ≡ node.sites → n ≡ node.addresses
-    → SiteIs code jump (last_branch code (addresses_from s sites n).list) → SiteIs code jump (last_branch code (node_of s node).addresses)
+-- after some of a node's addresses: the bytes that are left, and the jump so far
+pub record Jumping (s : List ℕ) (sites : ℕ) (code : List Instruction) (all rest : List ℕ) (size : ℕ) (jump : Option ℕ) : Type 0 where
+  pub passed : ℕ
+  pub before : List ℕ
+  pub parts : all ≡ before ++ rest
+  pub long : length before ≡ 8 * passed
+  pub eight : size ≡ 8
+  pub site : SiteIs code jump (last_branch code (addresses_from s (Ok sites) passed).list)
+
+module _ (s : List ℕ) (sites n : ℕ) {all : List ℕ} (all-is : all ≡ take (8 * n) (drop sites s)) (on : WentOn (addresses_from s (Ok sites) n).next) (code : List Instruction) where
+  pub jumping-start : {rest : List ℕ} {size : ℕ} → rest ≡ all → size ≡ 8 → Jumping s sites code all rest size None
+  jumping-start is eight = record { passed = 0; before = []; parts = sym is; long = refl; eight = eight; site = jump-none s sites n on code }
+
+  few : length all ≤ 8 * n
+  few = rw (all-is, length-take) (omega arith)
+
+  module _ {rest : List ℕ} {size : ℕ} {jump : Option ℕ} (h : Jumping s sites code all rest size jump) where
+    pub jumping-more : (r after : List ℕ) {size' : ℕ} → rest ≡ r ++ after → length r ≡ size → size' ≡ size → {address : ℕ} {addresses : List ℕ} {jump' : Option ℕ}
+        → address ≡ little r 0 8 → addresses ≡ addresses_of code → jump' ≡ if_branch code (place_of addresses address) jump → Jumping s sites code all after size' jump'
+    jumping-more r after rest-is r-long same {address} address-is addresses-are jump-is =
+        let k : ℕ = h.passed in
+        let below : k < n = omega (arith, few, h.long, h.eight, r-long, ap length h.parts, ap length rest-is, length-append h.before rest, length-append r after) in
+        let byte : (i : ℕ) → i < 8 → get_or r i 0 ≡ get_or s (sites + 8 * k + i) 0 = λ i lt.
+            let place : sites + (8 * k + i) ≡ sites + 8 * k + i = omega arith in
+            sym (get_or_append_left r after 0 i (omega (arith, r-long, h.eight)))
+            ∙ ap (λ (l : List ℕ). get_or l i 0) (sym rest-is)
+            ∙ sym (get_or-append-add h.before rest i 0)
+            ∙ ap (λ (l : List ℕ). get_or l (length h.before + i) 0) (sym h.parts)
+            ∙ rw (h.long, all-is) (get_or-take (8 * n) (drop sites s) (8 * k + i) 0 (omega arith) ∙ get_or-drop sites s (8 * k + i) 0 ∙ ap (λ (j : ℕ). get_or s j 0) place) in
+        let there : address ≡ little s (sites + 8 * k) 8 = address-is ∙ little-same r s 8 0 (sites + 8 * k) (λ i lt. rw zero-add (byte i lt)) in
+        record {
+          passed = k + 1;
+          before = h.before ++ r;
+          parts = rw (append_assoc h.before r after, ← rest-is) h.parts;
+          long = rw length-append (omega (arith, h.long, r-long, h.eight));
+          eight = same ∙ h.eight;
+          site = jump-again s sites n on k below code jump addresses-are h.site there jump-is;
+        }
+
+    pub jumping-end : length rest < size → SiteIs code jump (last_branch code (addresses_from s (Ok sites) n).list)
+    jumping-end less =
+        let whole : length all ≡ 8 * n = rw (all-is, length-take, length-drop) (omega (arith, addresses-fit s sites n on)) in
+        let done : h.passed ≡ n = omega (arith, whole, less, h.long, h.eight, ap length h.parts, length-append h.before rest) in
+        rw (← done) h.site
+
+-- the jump of a node that was read whole
+pub node-jump : (s : List ℕ) (p : Place) → WentOn (node_at s p).next → (code : List Instruction) (jump : Option ℕ) {addresses : List ℕ}
+    → addresses ≡ take (8 * (node_at s p).addresses) (drop (start_of (node_at s p).sites) s)
+    → ((sites n : ℕ) → addresses ≡ take (8 * n) (drop sites s) → WentOn (addresses_from s (Ok sites) n).next → SiteIs code jump (last_branch code (addresses_from s (Ok sites) n).list))
+    → SiteIs code jump (last_branch code (node_of s (node_at s p)).addresses)
 unfolding node_of
-jump-of s node code jump sites-are n-is is = rw (← sites-are, ← n-is) is
+node-jump s p whole code jump is said =
+    let node = node_at s p in
+    let last = addresses-last s p refl refl whole in
+    let there = addresses-on s node.sites node.addresses last.1 in
+    rw there.1 (said there.0 node.addresses (rw there.1 at is) (rw there.1 at last))
 
 -- a block's branch
 module _ (s : List ℕ) (number first end : ℕ) (code_is : code_of s number ≡ slice first end (sheet_at s).instructions.list) where

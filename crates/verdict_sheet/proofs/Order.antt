@@ -16,7 +16,7 @@ use Rattle.sheet.proofs.ByNumber.{addresses-rise, nth-node-read, nth-node-is}
 use Rattle.isa.specs.declared.Instruction.{Instruction}
 use Rattle.verdict.specs.declared.Verdict.{Verdict}
 use Rattle.verdict.specs.Numbers.{Answer}
-use Rattle.sheet_node.specs.Node.{NodeReading, node_at, node_of, addresses_from}
+use Rattle.sheet_node.specs.Node.{NodeReading, node_at, node_of}
 use Rattle.sheet.specs.Sheet.{sheet_at, reading_of, no_node, node_numbered, node_place}
 use Rattle.verdict_block.specs.Verdict.{verdict_on}
 use Rattle.verdict_node.specs.NodeVerdict.{node_verdict}
@@ -25,7 +25,6 @@ use Rattle.verdict_node.specs.Promises.{JudgedIs}
 use Rattle.verdict_sheet.specs.Sites.{last_branch, node_site, block_site}
 use Rattle.verdict_sheet.specs.Said.{Said, saying, blocks_say, Judged, node_too, judged_up_to}
 use Rattle.verdict_sheet.specs.Kept.{SiteIs, kept_at, slots_of, Reached}
-use Rattle.verdict_sheet.proofs.Branches.{jump-of}
 use Rattle.verdict_sheet.proofs.Keeping.{keep-saying}
 
 -- the loop over blocks
@@ -128,15 +127,14 @@ module _ (s : List ℕ) (blocks : ℕ) where
 module _ (c : Code) (number : ℕ) {nodes : List ℕ} (places : nodes ≡ (sheet_at c.bytes.now).nodes.places) (there : number < length nodes) (blocks : ℕ) (slots : List ℕ)
     (before : Reached (sheet_at c.bytes.now).instructions.list (Ok tt) slots (judged_up_to c.bytes.now blocks number)) where
   pub node-kept : (j : JudgedNode) → JudgedIs (Ok j) c.bytes.now (node_at c.bytes.now (Ok (get_or nodes number 0))) (get_or nodes number 0) → (jump : Option ℕ) {after : List ℕ}
-      → SiteIs (sheet_at c.bytes.now).instructions.list jump (last_branch (sheet_at c.bytes.now).instructions.list (addresses_from c.bytes.now (Ok j.sites) j.addresses).list)
+      → SiteIs (sheet_at c.bytes.now).instructions.list jump (last_branch (sheet_at c.bytes.now).instructions.list (node_of c.bytes.now (node_at c.bytes.now (Ok (get_or nodes number 0)))).addresses)
       → after ≡ kept_at slots jump j.verdict → Reached (sheet_at c.bytes.now).instructions.list (Ok tt) after (judged_up_to c.bytes.now blocks (number + 1))
   node-kept j is jump {after} site after_is =
       let s = c.bytes.now in
       let node = node_at s (Ok (get_or nodes number 0)) in
-      let list = (sheet_at s).instructions.list in
       nodes-more s blocks number (Ok tt) slots after before
       (λ said here. node-numbered s c.sheet c.accepted number places there (Ok tt) after said
-      (node_through s (addresses-rise s c.sheet c.accepted) node (get_or nodes number 0) is.answer said jump (jump-of s node list jump is.sites is.addresses site) refl after_is here))
+      (node_through s (addresses-rise s c.sheet c.accepted) node (get_or nodes number 0) is.answer said jump site refl after_is here))
 
   pub node-ended : (r : Refusal) → JudgedIs (Err r) c.bytes.now (node_at c.bytes.now (Ok (get_or nodes number 0))) (get_or nodes number 0) → (n : ℕ) → number < n
       → Reached (sheet_at c.bytes.now).instructions.list (Err r) slots (judged_up_to c.bytes.now blocks n)

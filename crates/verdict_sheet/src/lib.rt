@@ -2,7 +2,7 @@
 // and in the slot of each branch the first decided verdict is kept. A node that is refused ends it.
 #![tactic(auto)]
 
-ghost use Rattle.std.specs.Prelude.{◌≡◌, List, [], ◌++◌, ◌≤◌, ◌<◌, length, Ok};
+ghost use Rattle.std.specs.Prelude.{◌≡◌, ℕ, List, [], ◌++◌, ◌*◌, ◌≤◌, ◌<◌, length, take, drop, Ok};
 ghost use Rattle.std.proofs.Math.Seq.{slice};
 ghost use Rattle.machine.specs.Registers.{nothing_known};
 ghost use Rattle.search.specs.Ascending.{place_of};
@@ -17,6 +17,7 @@ ghost use Rattle.verdict_sheet.specs.Kept.{if_branch, branch_ending, SiteIs, kep
 
 use refusal::Refusal;
 use sheet::code::Code;
+use sheet_node::node::Node;
 use verdict::Verdict;
 use verdict_block::Range;
 
@@ -30,16 +31,14 @@ fn branch_or(code: &Code, address: u64, otherwise: Option<usize>) -> Option<usiz
     }
 }
 
-// The number of a node's jump, from its n addresses, which were read whole from an offset on. A loop, as a closure over `code`, which `rev().find_map`
+// The number of a node's jump, from its addresses, which were read whole, 8 bytes each. A loop, as a closure over `code`, which `rev().find_map`
 // needs, gives a proof nothing of what the methods of `code` ensure.
-fn node_jump(code: &Code, sites: usize, n: u64) -> Option<usize>
-    requires { WentOn (addresses_from code.now.bytes.now (Ok sites) n).next }
-    ensures { SiteIs (sheet_at code.now.bytes.now).instructions.list result (last_branch (sheet_at code.now.bytes.now).instructions.list (addresses_from code.now.bytes.now (Ok sites) n).list) }
+fn node_jump(code: &Code, addresses: &[u8]) -> Option<usize>
+    ensures { (sites n : ℕ) → addresses.now ≡ take (8 * n) (drop sites code.now.bytes.now) → WentOn (addresses_from code.now.bytes.now (Ok sites) n).next → SiteIs (sheet_at code.now.bytes.now).instructions.list result (last_branch (sheet_at code.now.bytes.now).instructions.list (addresses_from code.now.bytes.now (Ok sites) n).list) }
 {
     let mut jump = None;
-    for i in 0..n {
-        let address = sheet_field::number::<8>(code.bytes, sites + 8 * i as usize);
-        jump = branch_or(code, address, jump);
+    for address in addresses.chunks_exact(8) {
+        jump = branch_or(code, sheet_field::number::<8>(address, 0), jump);
     }
     jump
 }
@@ -108,8 +107,8 @@ fn judge_nodes(code: &Code, nodes: &[u64], slots: &mut [u8]) -> Result<(), Refus
     ensures { Reached (sheet_at code.now.bytes.now).instructions.list result slots.new (judged_up_to code.now.bytes.now code.now.sheet.blocks.count code.now.sheet.nodes.count) }
 {
     for node in nodes {
-        let judged = verdict_node::verdict_at(code.bytes, *node as usize)?;
-        let jump = node_jump(code, judged.sites, judged.addresses);
+        let judged = verdict_node::verdict_of(&Node::new(code.bytes, *node as usize))?;
+        let jump = node_jump(code, judged.addresses);
         keep_at(slots, jump, judged.verdict);
     }
     Ok(())

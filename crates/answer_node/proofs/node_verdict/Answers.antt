@@ -8,15 +8,15 @@ returns-in_err-at c =
     let e = err_from_is_err_and c.from_residual.result c.from_residual.ensures.1 in
     rw (e.1, e.2) (node-refused _ _ c.find_node.ensures c.in_err-at.was)
 
-pub verdict_at-requires : goal.verdict_at-requires
-verdict_at-requires c =
+pub new-requires : goal.new-requires
+new-requires c =
     (found-whole _ _ c.find_node.ensures c.in_ok-at.was).on
 
 pub returns-in_err-judged : goal.returns-in_err-judged
 returns-in_err-judged c =
     let e = err_from_is_err_and c.from_residual-in_err-judged.result c.from_residual-in_err-judged.ensures.1 in
-    rw (e.1, e.2) (node-judged _ _ c.find_node.ensures c.in_ok-at.was (rw c.in_err-judged.was at c.verdict_at.ensures.answer))
+    rw (e.1, e.2) (node-judged _ _ c.find_node.ensures c.in_ok-at.was (rw (c.in_err-judged.was, c.new.ensures.bytes, c.new.ensures.at) at c.verdict_of.ensures.answer))
 
 pub returns : goal.returns
 returns c =
-    node-judged _ _ c.find_node.ensures c.in_ok-at.was (rw c.in_ok-judged.was at c.verdict_at.ensures.answer)
+    node-judged _ _ c.find_node.ensures c.in_ok-at.was (rw (c.in_ok-judged.was, c.new.ensures.bytes, c.new.ensures.at) at c.verdict_of.ensures.answer)

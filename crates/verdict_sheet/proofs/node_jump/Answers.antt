@@ -1,25 +1,18 @@
-use native.Mathlib.Omega.{arith}
+use Rattle.verdict_sheet.proofs.Branches.{jumping-start, jumping-more, jumping-end}
 use Rattle.sheet.specs.Sheet.{sheet_at}
-use Rattle.verdict_sheet.proofs.Branches.{site-inside, jump-none, jump-again}
 use Rattle.verdict_sheet.proofs.node_jump.Goals as goal
 
-pub loop-i-init : goal.loop-i-init
-loop-i-init c =
-    jump-none c.args.code.now.bytes.now c.args.sites c.args.n c.requires (sheet_at c.args.code.now.bytes.now).instructions.list
+pub loop-address-init : goal.loop-address-init
+loop-address-init c sites n is on =
+    let i = c.chunks_exact-address-items.ensures in
+    rw c.into_iter-address-iterator.ensures.into_iter_gives (jumping-start c.args.code.now.bytes.now sites n is on (sheet_at c.args.code.now.bytes.now).instructions.list i.rest i.size)
 
-pub loop-i-preserved : goal.loop-i-preserved
-loop-i-preserved c =
+pub loop-address-preserved : goal.loop-address-preserved
+loop-address-preserved c sites n is on =
+    let s = c.in-Some.ensures.steps in
     let code = c.args.code.now in
-    jump-again code.bytes.now c.args.sites c.args.n c.requires c.loop-i.i c.loop-i-test.true (sheet_at code.bytes.now).instructions.list c.loop-i.jump code.addressed c.loop-i.invariant c.number-address.ensures c.branch_or-jump.ensures
+    jumping-more code.bytes.now sites n is on (sheet_at code.bytes.now).instructions.list (c.loop-address.invariant sites n is on) _ _ s.1.0 s.1.1 s.0 c.number.ensures code.addressed c.branch_or-jump.ensures
 
-pub overflow_mul-i : goal.overflow_mul-i
-overflow_mul-i c =
-    omega (arith, site-inside c.args.code.now.bytes.now c.args.sites c.args.n c.requires c.loop-i.i c.loop-i-test.true, c.well_formed)
-
-pub overflow_add-sites : goal.overflow_add-sites
-overflow_add-sites c =
-    omega (arith, site-inside c.args.code.now.bytes.now c.args.sites c.args.n c.requires c.loop-i.i c.loop-i-test.true, c.well_formed)
-
-pub number-address-requires-clause-inside : goal.number-address-requires-clause-inside
-number-address-requires-clause-inside c =
-    site-inside c.args.code.now.bytes.now c.args.sites c.args.n c.requires c.loop-i.i c.loop-i-test.true
+pub returns : goal.returns
+returns c sites n is on =
+    jumping-end c.args.code.now.bytes.now sites n is on (sheet_at c.args.code.now.bytes.now).instructions.list (c.loop-address.invariant sites n is on) c.in-None.ensures.steps.1.0

@@ -1,10 +1,15 @@
-use Rattle.std.proofs.Common.{Ok}
-use Rattle.verdict_sheet.specs.Kept.{SiteIs}
-use Rattle.verdict_sheet.specs.Sites.{last_branch}
+use mathlib.Core.Path.{◌≡◌}
+use Prim.Native.Nat.{ℕ, ◌*◌}
+use lib.ListN.{take, drop}
+use Rattle.std.specs.Prelude.{Ok}
 use Rattle.sheet.specs.Sheet.{sheet_at}
+use Rattle.sheet_field.specs.Field.{WentOn}
 use Rattle.sheet_node.specs.Node.{addresses_from}
+use Rattle.verdict_sheet.proofs.Branches.{Jumping}
 use Rattle.verdict_sheet.proofs.node_jump.Given as goal
 
-abbrev pub invariant-loop-i : goal.invariant-loop-i
-invariant-loop-i l = let code = (sheet_at l.code.bytes.now).instructions.list in
-    SiteIs code l.jump (last_branch code (addresses_from l.code.bytes.now (Ok l.sites) l.i).list)
+abbrev pub invariant-loop-address : goal.invariant-loop-address
+invariant-loop-address l =
+    let s = l.code.bytes.now in
+    (sites n : ℕ) → l.addresses ≡ take (8 * n) (drop sites s) → WentOn (addresses_from s (Ok sites) n).next
+    → Jumping s sites (sheet_at s).instructions.list l.addresses l.address-iterator.rest.now l.address-iterator.size l.jump
