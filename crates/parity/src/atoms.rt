@@ -49,7 +49,7 @@ impl<'a> Atoms<'a> {
     }
 
     // The number of a part as an atom, which is noted where it is new.
-    pub fn note(&mut self, part: Tree<'a>) -> usize
+    pub(crate) fn note(&mut self, part: Tree<'a>) -> usize
         requires { length (trees_of self.old) < 64 }
         ensures number { result ≡ number_in (trees_of self.old) (tree_of part.entry.words.now) }
         ensures noted { trees_of self.new ≡ noted (trees_of self.old) (tree_of part.entry.words.now) }
