@@ -62,7 +62,7 @@ fn put_value(register: Register, size: u8, value: u64, behind: &[u8], out: &mut 
 }
 
 // Puts a cause's text, which has at most 102 bytes.
-#[tactic(auto, using(wording::proofs::Lengths::short))]
+#[tactic(auto, using(wording::proofs::Lengths::short, text::proofs::Puts::puts_then), unfolding(crate::specs::Causes::value_text, crate::specs::Causes::carry_text, crate::specs::Causes::overflow_text))]
 pub fn put_cause(cause: Cause, out: &mut Writer)
     requires { out.old.at + 102 ≤ length out.old.out.now }
     ensures put { Puts out.old out.new (cause_text cause) }

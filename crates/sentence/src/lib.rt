@@ -52,7 +52,9 @@ impl Setters {
             }
             Mnemonic::Carry(CarryChange::Cmc) => self.turns += 1,
             Mnemonic::OneOperand(Unary::Inc | Unary::Dec) => self.result = number,
-            Mnemonic::TwoOperand(_) | Mnemonic::OneOperand(Unary::Neg) => *self = Setters::all(number),
+            Mnemonic::TwoOperand(_) | Mnemonic::OneOperand(Unary::Neg) => {
+                *self = Setters::all(number);
+            }
             Mnemonic::Other
             | Mnemonic::Mov
             | Mnemonic::Not
@@ -126,9 +128,7 @@ fn arith_cause(state: &State, op: Binary, d: Register, o: Operand, group: FlagGr
 fn value_cause(state: &State, d: Register) -> Cause
     ensures { cause_text result ≡ value_own d (read_of state.now d) }
 {
-    state
-        .read(d)
-        .map_or(Cause::Nothing, |x| Cause::Value(d, x))
+    state.read(d).map_or(Cause::Nothing, |x| Cause::Value(d, x))
 }
 
 // The cause that an instruction is for CF, or for the other flags that it sets, by what is known before it.

@@ -22,6 +22,7 @@ use phrase::{Cause, FlagGroup};
 use sentence::{Setters, Telling};
 use sentence_text::{Said, TooShort};
 use sheet::code::Code;
+use verdict_block::Range;
 
 // The code and its first number go side by side through four functions: in a struct of both, each contract would name the sheet's bytes behind one
 // more borrow.
@@ -80,16 +81,17 @@ fn telling_at(code: &Code, first: usize, end: usize, mnemonic: Mnemonic) -> Opti
     sentence::jump_telling(&state, mnemonic)
 }
 
-// What is said at the end of the instructions of an accepted sheet from number `first` up to `end`.
-fn said_in(code: &Code, first: usize, end: usize) -> Option<Said>
-    requires { (end ≤ length code.now.places.now) × (end ≤ 65536) }
-    ensures result_value { said_text result ≡ sentence_at nothing_known no_why (apart (slice first end (sheet_at code.now.bytes.now).instructions.list)) }
+// What is said at the end of a range of instructions of an accepted sheet.
+fn said_in(code: &Code, range: Range) -> Option<Said>
+    requires { (range.end ≤ length code.now.places.now) × (range.end ≤ 65536) }
+    ensures result_value { said_text result ≡ sentence_at nothing_known no_why (apart (slice range.first range.end (sheet_at code.now.bytes.now).instructions.list)) }
     ensures result_bound { turns_of result ≤ 65536 }
 {
-    if end <= first {
+    let first = range.first;
+    if range.end <= first {
         return None;
     }
-    let last = end - 1;
+    let last = range.end - 1;
     let mnemonic = verdict_block::jump_at(code, last)?;
     let setters = setters_in(code, first, last);
     let telling = telling_at(code, first, last, mnemonic)?;
@@ -102,5 +104,5 @@ pub fn sentence_on(code: &Code, number: u64, text: &mut [u8]) -> Result<usize, T
     ensures { Fits result (sentence_on code.now.bytes.now number) text.old text.new }
 {
     let range = verdict_block::range_of(code, number, 0);
-    sentence_text::tell(said_in(code, range.first, range.end), text)
+    sentence_text::tell(said_in(code, range), text)
 }

@@ -1,11 +1,7 @@
-use borrow.Author.Tests.{eq-eqb, ne_eqb}
+use borrow.Author.Tests.{eq-eqb}
 use Rattle.text.proofs.Puts.{part-is}
 use Rattle.sentence_text.proofs.Parts.{compared}
 use Rattle.sentence_text.proofs.joined_end.Goals as goal
-
-pub returns-then-turns-ne0 : goal.returns-then-turns-ne0
-returns-then-turns-ne0 c =
-    rw (ne_eqb _ _ c.if-turns-ne0.true)
 
 pub returns-then-eq : goal.returns-then-eq
 returns-then-eq c =
