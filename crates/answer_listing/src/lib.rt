@@ -28,7 +28,7 @@ fn write_lines(code: &Code, slots: &[u8], list: &mut [u8]) -> Result<u64, Refusa
 }
 
 // The listing with an index of the given lists, or none where the sheet has more records than they hold. The lists are as long as the slots, which hold
-// nothing.
+// nothing. Each goes to a function of its own below: a struct of them would be made and taken apart here alone.
 fn list_in(
     s: &[u8],
     addresses: &mut [u64],
@@ -55,7 +55,7 @@ fn list_in(
     Ok(Some(write_lines(&code, slots, list)?))
 }
 
-// The listing with an index of N instructions and M nodes, or none where the sheet has more.
+// The listing with an index of N instructions and M nodes, or none where the sheet has more. Each has a frame of its own, with arrays of its size.
 fn list_within<const N: usize, const M: usize>(
     s: &[u8],
     list: &mut [u8],
@@ -70,26 +70,21 @@ fn list_within<const N: usize, const M: usize>(
     list_in(s, &mut addresses, &mut places, &mut nodes, &mut room, list)
 }
 
-// The listing with an index for the largest sheet.
-fn list_long(s: &[u8], list: &mut [u8]) -> Result<u64, Refusal>
-    ensures { Gives result list.new (listing_of s.now list.old) }
-{
-    match list_within::<2048, 1024>(s, list)? {
-        Some(n) => Ok(n),
-        None => unreachable!(),
-    }
-}
-
-// The listing of a sheet that is not very short: of one that is not long with an index of 256 entries, with less to clear.
+// The listing of a sheet that is not very short, with an index of 256 entries where they are likely to do, since they are fewer to clear. A function of
+// its own, and not inlined: in one function with the index of 16 the empty sheet takes 0.038 µs instead of 0.035, on a stack of 43 KiB instead of 2.
+#[inline(never)]
 fn list_longer(s: &[u8], list: &mut [u8]) -> Result<u64, Refusal>
     ensures { Gives result list.new (listing_of s.now list.old) }
 {
-    if 4096 < s.len() {
-        return list_long(s, list);
+    if s.len() <= 4096 {
+        if let Some(n) = list_within::<256, 256>(s, list)? {
+            return Ok(n);
+        }
     }
-    match list_within::<256, 256>(s, list)? {
+    match list_within::<2048, 1024>(s, list)? {
         Some(n) => Ok(n),
-        None => list_long(s, list),
+        // no sheet has more
+        None => unreachable!(),
     }
 }
 
@@ -97,11 +92,10 @@ fn list_longer(s: &[u8], list: &mut [u8]) -> Result<u64, Refusal>
 pub fn listing(s: &[u8], list: &mut [u8]) -> Result<u64, Refusal>
     ensures { Gives result list.new (listing_of s.now list.old) }
 {
-    if 166 < s.len() {
-        return list_longer(s, list);
+    if s.len() <= 166 {
+        if let Some(n) = list_within::<16, 16>(s, list)? {
+            return Ok(n);
+        }
     }
-    match list_within::<16, 16>(s, list)? {
-        Some(n) => Ok(n),
-        None => list_longer(s, list),
-    }
+    list_longer(s, list)
 }

@@ -49,7 +49,7 @@ pub record Says (text : List ℕ) (room : ℕ) (given : Listing) : Type 0 where
 
 refusal-says : (k p room : ℕ) (list : List ℕ) → Says (refusal_text k p) room (record { answer = refused k p; list = list })
 refusal-says k p room list = record {
-  of-lines = λ n e. let z : ◌≡◌ {A = ℕ} 0 1 = cc in absurd (omega arith);
+  of-lines = λ n e. cc;
   of-refusal = λ k' p' e. let a : k ≡ k' = cc in let b : p ≡ p' = cc in rw (a, b);
 }
 
@@ -62,7 +62,7 @@ written-says s list due true e room = rw e record {
       let same : length due ≡ n = cc in
       let spans = over-spans (records line_bytes due) list (rw lines-length room) in
       (rw (← same, entries-lines due spans.1), rw same at room);
-  of-refusal = λ k p is. let z : ◌≡◌ {A = ℕ} 0 1 = cc in absurd (omega arith);
+  of-refusal = λ k p is. cc;
 }
 
 judged-says : (s list : List ℕ) (j : Judged) → 18 * length (sheet_at s).instructions.list ≤ length list → Says (judged_text j s) (length list) (on_judged j s list)

@@ -35,6 +35,7 @@ fn read_input<R: Read>(input: &mut R, room: &mut [u8]) -> io::Result<usize>
     ensures takes { Takes result (R.remaining input.old) (R.remaining input.new) room.new }
 {
     let mut had: usize = 0;
+    // each step is as long as what was read: no range or chunks have these steps
     while had < room.len() {
         let n = input.read(&mut room[had..])?;
         if n == 0 {
@@ -74,14 +75,11 @@ fn answer<R: Read, W: Write>(
     ensures ended { Ended result room.new text.old text.new }
     ensures answers { Answers result (length room.new) (R.remaining input.old) (R.remaining input.new) (W.contents output.old) (W.contents output.new) }
 {
-    let Ok(n) = read_input(input, room) else {
-        return Err(Failure::Unread);
-    };
+    let n = read_input(input, room).map_err(|_| Failure::Unread)?;
     let length = text_of(&room[..n], list, text);
-    match output.write_all(&text[..length]) {
-        Ok(()) => Ok(()),
-        Err(_) => Err(Failure::Unwritten),
-    }
+    output
+        .write_all(&text[..length])
+        .map_err(|_| Failure::Unwritten)
 }
 
 // The exit status. What went wrong is said where it can be; the status says it too.

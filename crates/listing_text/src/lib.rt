@@ -14,10 +14,10 @@ fn put_verdict(v: u8, out: &mut Writer)
     requires { out.old.at + 6 ≤ length out.old.out.now }
     ensures { Puts out.old out.new (verdict_word v) }
 {
-    if v == 1 {
-        out.put_word(b"always");
-    } else if v == 0 {
-        out.put_word(b"never");
+    match v {
+        1 => out.put_word(b"always"),
+        0 => out.put_word(b"never"),
+        _ => {}
     }
 }
 

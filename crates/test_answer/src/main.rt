@@ -15,41 +15,43 @@ use verdict::{Answer, Reason, Verdict};
 // How many bytes the longest sentence of a block has.
 const LONGEST_SENTENCE: usize = 49182;
 
-fn refused(output: &impl Print, r: Refusal) -> bool {
-    test_io::word(output, b"refused")
-        & test_io::number(output, r.fault.number())
-        & test_io::word(output, b" at")
-        & test_io::number(output, r.at as u64)
+fn refused(output: &impl Print, r: Refusal) -> Result<(), Early> {
+    test_io::word(output, b"refused")?;
+    test_io::number(output, r.fault.number())?;
+    test_io::word(output, b" at")?;
+    test_io::number(output, r.at as u64)
 }
 
 // The three counts, and where the records start.
-fn accepted(output: &impl Print, sheet: Sheet) -> bool {
+fn accepted(output: &impl Print, sheet: Sheet) -> Result<(), Early> {
     let i = sheet.instructions;
     let b = sheet.blocks;
     let n = sheet.nodes;
-    test_io::word(output, b"accepted")
-        & test_io::number(output, i.count)
-        & test_io::number(output, b.count)
-        & test_io::number(output, n.count)
-        & test_io::word(output, b" at")
-        & test_io::number(output, i.at as u64)
-        & test_io::number(output, b.at as u64)
-        & test_io::number(output, n.at as u64)
+    test_io::word(output, b"accepted")?;
+    for count in [i.count, b.count, n.count] {
+        test_io::number(output, count)?;
+    }
+    test_io::word(output, b" at")?;
+    for at in [i.at, b.at, n.at] {
+        test_io::number(output, at as u64)?;
+    }
+    Ok(())
 }
 
-fn say_reading(output: &impl Print, s: &[u8]) -> bool {
+fn say_reading(output: &impl Print, s: &[u8]) -> Result<(), Early> {
     match sheet::read(s) {
         Ok(sheet) => accepted(output, sheet),
         Err(r) => refused(output, r),
     }
 }
 
-fn say_decided(output: &impl Print, way: &[u8], r: Reason) -> bool {
-    test_io::word(output, way) & test_io::digits(output, r.number() as u64)
+fn say_decided(output: &impl Print, way: &[u8], r: Reason) -> Result<(), Early> {
+    test_io::word(output, way)?;
+    test_io::digits(output, r.number() as u64)
 }
 
 // a always and v never, each with the reason's number; u undecided, n no branch.
-fn say_verdict(output: &impl Print, v: Verdict) -> bool {
+fn say_verdict(output: &impl Print, v: Verdict) -> Result<(), Early> {
     match v {
         Verdict::NoBranch => test_io::word(output, b" n"),
         Verdict::Undecided => test_io::word(output, b" u"),
@@ -60,14 +62,15 @@ fn say_verdict(output: &impl Print, v: Verdict) -> bool {
 
 // r with its number for a refusal. That of the number past the last record is due and is not said; any other answer for that
 // number is one too many on the line.
-fn say_refused(output: &impl Print, r: Refusal, past: bool) -> bool {
+fn say_refused(output: &impl Print, r: Refusal, past: bool) -> Result<(), Early> {
     if past & (r == Fault::Number.at(0)) {
-        return true;
+        return Ok(());
     }
-    test_io::word(output, b" r") & test_io::digits(output, r.fault.number())
+    test_io::word(output, b" r")?;
+    test_io::digits(output, r.fault.number())
 }
 
-fn say_answer(output: &impl Print, a: Answer, past: bool) -> bool {
+fn say_answer(output: &impl Print, a: Answer, past: bool) -> Result<(), Early> {
     match a {
         Ok(v) => say_verdict(output, v),
         Err(r) => say_refused(output, r, past),
@@ -75,84 +78,74 @@ fn say_answer(output: &impl Print, a: Answer, past: bool) -> bool {
 }
 
 // A bar and the sentence of the block of that number, nothing where it has none.
-fn say_sentence(output: &impl Print, s: &[u8], number: u64, past: bool) -> bool {
+fn say_sentence(output: &impl Print, s: &[u8], number: u64, past: bool) -> Result<(), Early> {
     let mut text = [0u8; LONGEST_SENTENCE];
     let told = answer_sentence::block_sentence(s, number, &mut text);
     match told {
-        Ok(n) => test_io::word(output, b"|") & test_io::start(output, &text, n),
+        Ok(n) => {
+            test_io::word(output, b"|")?;
+            test_io::start(output, &text, n)
+        }
         Err(r) => say_refused(output, r, past),
     }
 }
 
-// What is said of each record.
-#[derive(Clone, Copy)]
-enum Said {
-    Blocks,
-    Nodes,
-    Sentences,
-}
-
-// What is said of the block or the node of that number, which may be the one past the last.
-fn say_one(output: &impl Print, s: &[u8], said: Said, number: u64, past: bool) -> bool {
-    match said {
-        Said::Blocks => say_answer(output, answer_block::block_verdict(s, number), past),
-        Said::Nodes => say_answer(output, answer_node::node_verdict(s, number), past),
-        Said::Sentences => say_sentence(output, s, number, past),
-    }
-}
-
-fn say_name(output: &impl Print, said: Said) -> bool {
-    match said {
-        Said::Blocks => test_io::word(output, b"blocks"),
-        Said::Nodes => test_io::word(output, b"nodes"),
-        Said::Sentences => test_io::word(output, b"sentences"),
-    }
-}
-
-fn say_all(output: &impl Print, s: &[u8], said: Said, n: u64) -> bool {
-    let mut written = say_name(output, said);
+// The records' name, and what is said of each of them and of the one past the last, which `say` is told.
+fn say_all<F: Fn(u64, bool) -> Result<(), Early>>(
+    output: &impl Print,
+    name: &[u8],
+    n: u64,
+    say: F,
+) -> Result<(), Early>
+    requires { F.IsAlwaysCallable say }
+{
+    test_io::word(output, name)?;
     for i in 0..n {
-        written &= say_one(output, s, said, i, false);
+        say(i, false)?;
     }
-    written & say_one(output, s, said, n, true)
+    say(n, true)
 }
 
-fn count_of(sheet: Sheet, said: Said) -> u64 {
-    match said {
-        Said::Nodes => sheet.nodes.count,
-        Said::Blocks | Said::Sentences => sheet.blocks.count,
-    }
-}
-
-fn say_records(output: &impl Print, s: &[u8], said: Said) -> bool {
+fn say_blocks(output: &impl Print, s: &[u8]) -> Result<(), Early> {
     match sheet::read(s) {
-        Ok(sheet) => say_all(output, s, said, count_of(sheet, said)),
+        Ok(sheet) => say_all(output, b"blocks", sheet.blocks.count, |i, past| {
+            say_answer(output, answer_block::block_verdict(s, i), past)
+        }),
+        Err(r) => refused(output, r),
+    }
+}
+
+fn say_nodes(output: &impl Print, s: &[u8]) -> Result<(), Early> {
+    match sheet::read(s) {
+        Ok(sheet) => say_all(output, b"nodes", sheet.nodes.count, |i, past| {
+            say_answer(output, answer_node::node_verdict(s, i), past)
+        }),
+        Err(r) => refused(output, r),
+    }
+}
+
+fn say_sentences(output: &impl Print, s: &[u8]) -> Result<(), Early> {
+    match sheet::read(s) {
+        Ok(sheet) => say_all(output, b"sentences", sheet.blocks.count, |i, past| {
+            say_sentence(output, s, i, past)
+        }),
         Err(r) => refused(output, r),
     }
 }
 
 // Commas stand between the evaluations of one line.
-fn comma(output: &impl Print, number: u32) -> bool {
+fn comma(output: &impl Print, number: u32) -> Result<(), Early> {
     if number > 0 {
-        return test_io::word(output, b", ");
+        test_io::word(output, b", ")?;
     }
-    true
+    Ok(())
 }
 
-fn say_evaluation(output: &impl Print, e: Result<bool, Refusal>) -> bool {
+fn say_evaluation(output: &impl Print, e: Result<bool, Refusal>) -> Result<(), Early> {
     match e {
         Ok(true) => test_io::word(output, b"holds"),
         Ok(false) => test_io::word(output, b"fails"),
         Err(r) => refused(output, r),
-    }
-}
-
-// Ends the line.
-fn line(output: &impl Print, written: bool) -> Result<(), Early> {
-    if written & test_io::word(output, b"\n") {
-        Ok(())
-    } else {
-        Err(Early::Unwritten)
     }
 }
 
@@ -189,16 +182,13 @@ fn say_sets(
     let mut rest = sets;
     for i in 0..count {
         rest = take_set(rest, values).ok_or(Early::Cut)?;
-        if !(comma(output, i)
-            & say_evaluation(output, answer_evaluation::evaluation(sheet, node, values)))
-        {
-            return Err(Early::Unwritten);
-        }
+        comma(output, i)?;
+        say_evaluation(output, answer_evaluation::evaluation(sheet, node, values))?;
     }
     if !rest.is_empty() {
         return Err(Early::TooLong);
     }
-    line(output, true)
+    Ok(())
 }
 
 // The frame of an evaluation, after the operation's number.
@@ -215,16 +205,19 @@ fn answer_evaluation(output: &impl Print, s: &[u8], values: &mut [u64]) -> Resul
     say_sets(output, sheet, node, sets, count, values)
 }
 
+// The line of a frame.
 fn answer(output: &impl Print, frame: &[u8], values: &mut [u64]) -> Result<(), Early> {
     let (operation, s) = frame.split_first().ok_or(Early::Cut)?;
+    // the numbers that the comment at the head gives, matched here alone: an enum of them would be one more list of the same
     match *operation {
-        0 => line(output, say_reading(output, s)),
-        1 => line(output, say_records(output, s, Said::Blocks)),
-        2 => answer_evaluation(output, s, values),
-        3 => line(output, say_records(output, s, Said::Nodes)),
-        4 => line(output, say_records(output, s, Said::Sentences)),
-        _ => Err(Early::NoOperation),
+        0 => say_reading(output, s)?,
+        1 => say_blocks(output, s)?,
+        2 => answer_evaluation(output, s, values)?,
+        3 => say_nodes(output, s)?,
+        4 => say_sentences(output, s)?,
+        _ => return Err(Early::NoOperation),
     }
+    test_io::word(output, b"\n")
 }
 
 // Answers the frames up to the input's end, or up to one that has no answer.
@@ -234,6 +227,7 @@ fn answer_all<R: Read>(
     buf: &mut [u8],
     values: &mut [u64],
 ) -> Result<(), Early> {
+    // a loop that counts: nothing is known of an input that falls with each frame, as a `while let` would need it
     for _ in 0..u64::MAX {
         match test_io::next_frame(input, buf)? {
             None => return Ok(()),
@@ -250,6 +244,6 @@ fn main(rt: HostRuntime) {
     let output = rt.stdout();
     let end = answer_all(&mut rt.stdin(), &output, &mut buf, &mut values);
     if test_io::is_early(&rt.stderr(), end) {
-        test_io::word(&output, b"ended too early\n");
+        let _ = test_io::word(&output, b"ended too early\n");
     }
 }

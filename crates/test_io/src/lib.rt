@@ -36,23 +36,23 @@ impl fmt::Display for Early {
     }
 }
 
-// Whether all of it was written.
-pub fn word(output: &impl Print, text: &[u8]) -> bool {
-    output.write_all(text).is_ok()
+pub fn word(output: &impl Print, text: &[u8]) -> Result<(), Early> {
+    output.write_all(text).map_err(|_| Early::Unwritten)
 }
 
-// The first n bytes of the text, if it has as many.
-pub fn start(output: &impl Print, text: &[u8], n: usize) -> bool {
-    text.get(..n).is_some_and(|start| word(output, start))
+// The first n bytes of the text, which has as many.
+pub fn start(output: &impl Print, text: &[u8], n: usize) -> Result<(), Early> {
+    word(output, text.get(..n).ok_or(Early::Unwritten)?)
 }
 
-pub fn digits(output: &impl Print, n: u64) -> bool {
-    output.print(n).is_ok()
+pub fn digits(output: &impl Print, n: u64) -> Result<(), Early> {
+    output.print(n).map_err(|_| Early::Unwritten)
 }
 
 // A space and the number.
-pub fn number(output: &impl Print, n: u64) -> bool {
-    word(output, b" ") & digits(output, n)
+pub fn number(output: &impl Print, n: u64) -> Result<(), Early> {
+    word(output, b" ")?;
+    digits(output, n)
 }
 
 // Whether a program ends too early; if it does, says why.
@@ -100,6 +100,7 @@ fn read_full<R: Read>(input: &mut R, buf: &mut [u8]) -> usize
     ensures { result ≤ length buf.new }
 {
     let mut had: usize = 0;
+    // each step is as long as what was read: no range or chunks have these steps
     while had < buf.len() {
         match input.read(&mut buf[had..]) {
             Ok(0) | Err(_) => return had,
@@ -113,10 +114,8 @@ fn read_full<R: Read>(input: &mut R, buf: &mut [u8]) -> usize
 fn body<R: Read>(input: &mut R, buf: &mut [u8], n: usize) -> Result<usize, Early>
     ensures { IfOk result (λ n. n ≤ length buf.new) }
 {
-    if buf.len() < n {
-        return Err(Early::TooLong);
-    }
-    if read_full(input, &mut buf[..n]) < n {
+    let room = buf.get_mut(..n).ok_or(Early::TooLong)?;
+    if read_full(input, room) < n {
         return Err(Early::Cut);
     }
     Ok(n)
@@ -124,16 +123,14 @@ fn body<R: Read>(input: &mut R, buf: &mut [u8], n: usize) -> Result<usize, Early
 
 // Fills the head of a frame, unless the input ends before its first byte: whether it was filled.
 fn fill<R: Read>(input: &mut R, head: &mut [u8]) -> Result<bool, Early> {
-    match input.read(head) {
-        Err(_) => Err(Early::Unread),
-        Ok(0) => Ok(false),
-        Ok(n) => {
-            if read_full(input, &mut head[n..]) < head.len() - n {
-                return Err(Early::Cut);
-            }
-            Ok(true)
-        }
+    let n = input.read(head).map_err(|_| Early::Unread)?;
+    if n == 0 {
+        return Ok(false);
     }
+    if read_full(input, &mut head[n..]) < head.len() - n {
+        return Err(Early::Cut);
+    }
+    Ok(true)
 }
 
 // The length of the next frame, which then stands at the start of the buffer, or none at the input's end.
