@@ -15,7 +15,6 @@ use sheet_field::Reader;
 use stack::Stack;
 
 mod stack;
-
 pub mod words;
 
 fn has_argument(kind: u64) -> bool
