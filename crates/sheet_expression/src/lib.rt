@@ -1,5 +1,5 @@
-// Expression records of a sheet: a check, which gives an expression's type and the offset after it, and a reader of what was
-// read whole, which takes its records as words, two a record (see the crate expr).
+// Expression records of a sheet: a check, which gives an expression's type, and a reader of what was read whole, which takes its
+// records as words, two a record (see the crate expr).
 #![tactic(auto)]
 
 ghost use Rattle.std.specs.Prelude.{◌≡◌, true, ℕ, ◌≤◌, ◌<◌, length, Ok, IfOk};
