@@ -2,22 +2,23 @@
 use Prim.Native.Nat.{ℕ, zero, suc, ◌+◌, ◌≤◌, ◌<◌}
 use mathlib.Core.Path.{◌≡◌, refl, sym, ap, ◌∙◌}
 use mathlib.Core.List.{List, [], ◌∷◌, ◌++◌, map}
-use mathlib.Core.Bool.{true}
 use native.Mathlib.Omega.{arith}
 use native.Mathlib.Numerals.{add-one}
+use borrow.Author.Tests.{ne_eqb}
 use lib.Dec.{eqb}
 use lib.ListN.{length, get_or, set, take, length-map}
-use Rattle.std.specs.Prelude.{Ok, Err}
+use Rattle.std.specs.Prelude.{Ok, Err, Option, Some, None, is_none, unwrap_or}
 use Rattle.refusal.specs.declared.Refusal.{Refusal}
-use Rattle.sheet_field.specs.Field.{Place, start_of, WentOn}
+use Rattle.sheet_field.specs.declared.Reader.{Reader}
+use Rattle.sheet_field.specs.Field.{Place, start_of}
+use Rattle.sheet_field.specs.Reads.{Reads}
 use Rattle.sheet_field.proofs.Counted.{counted, nth}
 use Rattle.isa.specs.declared.Instruction.{Instruction}
 use Rattle.sheet_instruction.specs.Instruction.{InstructionReading, instruction_at}
-use Rattle.sheet_instruction.proofs.Accepted.{instruction-on}
 use Rattle.sheet_node.specs.Node.{node_at}
 use Rattle.sheet.specs.Sheet.{InstructionsRead, instructions_from, nodes_from}
 use Rattle.sheet.specs.Index.{over, addresses_of, Noted}
-use Rattle.sheet.proofs.Sections.{instructions-stay, nodes-stay}
+use Rattle.sheet.proofs.Sections.{instructions-stay, nodes-stay, nodes-more}
 use Rattle.sheet.proofs.Accepted.{node-places-length}
 
 module _ {A : Type 0} where
@@ -108,77 +109,78 @@ entry : {A : Type 0} {list : List A} (before entries : List A) (x : A) (k : ℕ)
 entry before entries x k is long = rw (is, ← long) (over-more entries before x)
 
 -- what the loop over instructions keeps
-pub record Noting (k : ℕ) (a₀ a p₀ p : List ℕ) (last : ℕ) (next : Place) (r : InstructionsRead) : Type 0 where
-  pub before : last ≡ r.last
-  pub place : next ≡ r.next
-  pub noted : Noted a₀ a p₀ p r
+pub record Noting (first now : Reader) (k : ℕ) (a₀ a p₀ p : List ℕ) (last : Option ℕ) : Type 0 where
+  pub opens : is_none last ≡ eqb k 0
+  pub before : unwrap_or last 0 ≡ (instructions_from first.bytes.now (Ok first.at) k).last
+  pub same : now.bytes.now ≡ first.bytes.now
+  pub place : Ok now.at ≡ (instructions_from first.bytes.now (Ok first.at) k).next
+  pub noted : Noted a₀ a p₀ p (instructions_from first.bytes.now (Ok first.at) k)
 
-pub noting-none : (s : List ℕ) (from : Place) (a p : List ℕ) → Noting 0 a a p p 0 from (instructions_from s from 0)
-unfolding instructions_from over addresses_of
-noting-none s from a p =
-    record { before = refl; place = refl; noted = record { addresses = refl; places = refl } }
+module _ (first : Reader) where
+  pub noting-none : (a p : List ℕ) → Noting first first 0 a a p p None
+  unfolding instructions_from over addresses_of
+  noting-none a p = record { opens = refl; before = refl; same = refl; place = refl; noted = record { addresses = refl; places = refl } }
 
--- one instruction more, read at an offset
-module _ (s : List ℕ) (from : Place) (k : ℕ) {a₀ a p₀ p : List ℕ} {last at : ℕ} {next : Place}
-    (f : Noting k a₀ a p₀ p last (Ok at) (instructions_from s from k)) (next-is : next ≡ (instruction_at (eqb k 0) last s (Ok at)).next) where
-  read : InstructionReading
-  read = instruction_at (eqb k 0) last s (Ok at)
+  -- one instruction more
+  module _ (k : ℕ) {now : Reader} {a₀ a p₀ p : List ℕ} {last : Option ℕ} (f : Noting first now k a₀ a p₀ p last) where
+    abbrev done : InstructionsRead
+    done = instructions_from first.bytes.now (Ok first.at) k
 
-  read_is : instruction_at (eqb k 0) (instructions_from s from k).last s (instructions_from s from k).next ≡ read
-  unfolding read
-  read_is = rw (← f.before, ← f.place)
+    read : InstructionReading
+    read = instruction_at (eqb k 0) done.last first.bytes.now done.next
 
-  pub next_place : next ≡ (instructions_from s from (k + 1)).next
-  unfolding instructions_from read
-  next_place = rw (add-one k, read_is) next-is
-
-  module _ {end : ℕ} (went : next ≡ Ok end) where
-    again : instruction_at true 0 s (Ok at) ≡ read
+    read_is : instruction_at (is_none last) (unwrap_or last 0) now.bytes.now (Ok now.at) ≡ read
     unfolding read
-    again = (instruction-on (eqb k 0) last s (Ok at) (sym next-is ∙ went)).again
+    read_is = rw (f.opens, f.before, f.same, f.place)
 
-    pub taken-on : WentOn (instruction_at true 0 s (Ok at)).next
-    unfolding read
-    taken-on = (end, rw again (sym next-is ∙ went))
+    after : (instructions_from first.bytes.now (Ok first.at) (k + 1)).next ≡ read.next
+    unfolding instructions_from read
+    after = rw (add-one k)
 
-    pub noting-more : {address : ℕ} {a' p' : List ℕ} → address ≡ (instruction_at true 0 s (Ok at)).instruction.address
-        → a' ≡ set a k address → p' ≡ set p k at → Noting (k + 1) a₀ a' p₀ p' address (Ok end) (instructions_from s from (k + 1))
-    unfolding instructions_from addresses_of
-    noting-more {address} address_is a-is p-is =
-        let u = instructions_from s from k in
-        let the : address ≡ read.instruction.address = rw (← again) address_is in
-        let long : length u.list ≡ k = instructions-length s from k in
+    pub noting-refused : {A B : Type 0} {next : Reader} {n : ℕ} {r : Refusal}
+        → Reads {A = A} now next (Err r) (instruction_at (is_none last) (unwrap_or last 0) now.bytes.now (Ok now.at)).next → k < n
+        → Reads {A = B} first next (Err r) (instructions_from first.bytes.now (Ok first.at) n).next
+    noting-refused {n = n} {r = r} e less =
+        let gone : Err r ≡ read.next = rw read_is at e.place in
+        record { same = e.same ∙ f.same; place = sym (instructions-stay first.bytes.now (Ok first.at) n (k + 1) r (after ∙ sym gone) (omega arith)) }
+
+    pub noting-more : {address : ℕ} {next : Reader} {a' p' : List ℕ}
+        → Reads now next (Ok address) (instruction_at (is_none last) (unwrap_or last 0) now.bytes.now (Ok now.at)).next
+        → address ≡ (instruction_at (is_none last) (unwrap_or last 0) now.bytes.now (Ok now.at)).instruction.address
+        → a' ≡ set a k address → p' ≡ set p k now.at → Noting first next (k + 1) a₀ a' p₀ p' (Some address)
+    unfolding instructions_from addresses_of read
+    noting-more {address} taken address_is a-is p-is =
+        let the : address ≡ read.instruction.address = rw read_is at address_is in
         record {
-          before = rw (add-one k) (the ∙ ap (λ (r : InstructionReading). r.instruction.address) (sym read_is));
-          place = sym went ∙ next_place;
-          noted = rw (add-one k, read_is) record {
-            addresses = rw (a-is, the, map_more) (entry _ _ _ k f.noted.addresses (rw length-map long));
-            places = rw (p-is, ← f.place) (entry _ _ _ k f.noted.places (places-length s from k));
+          opens = sym (ne_eqb (k + 1) 0 (λ (z : k + 1 ≡ 0). omega arith));
+          before = rw (add-one k) the;
+          same = taken.same ∙ f.same;
+          place = rw read_is at taken.place ∙ sym after;
+          noted = rw (add-one k) record {
+            addresses = rw (a-is, the, map_more) (entry _ _ _ k f.noted.addresses (rw length-map (instructions-length first.bytes.now (Ok first.at) k)));
+            places = rw (p-is, ← f.place) (entry _ _ _ k f.noted.places (places-length first.bytes.now (Ok first.at) k));
           };
         }
 
--- where it is refused
-pub instructions_err : (s : List ℕ) (from : Place) (n k : ℕ) {last at : ℕ} {r : Refusal} → last ≡ (instructions_from s from k).last → Ok at ≡ (instructions_from s from k).next
-    → (instruction_at (eqb k 0) last s (Ok at)).next ≡ Err r → k < n → Err r ≡ (instructions_from s from n).next
-unfolding instructions_from
-instructions_err s from n k {r = r} last-is here is lt = sym (instructions-stay s from n (suc k) r (rw (← last-is, ← here) is) (omega arith))
+  -- the loop over nodes
+  pub nodes-none : (n : List ℕ) → n ≡ over (nodes_from first.bytes.now (Ok first.at) 0).places n
+  unfolding nodes_from over
+  nodes-none n = refl
 
--- the loop over nodes
-pub nodes_none : (s : List ℕ) (from : Place) (n : List ℕ) → (from ≡ (nodes_from s from 0).next) × (n ≡ over (nodes_from s from 0).places n)
-unfolding nodes_from over
-nodes_none s from n = (refl, refl)
+  module _ {A : Type 0} {x : A} (k : ℕ) {now : Reader} (here : Reads first now (Ok x) (nodes_from first.bytes.now (Ok first.at) k).next) where
+    then-node : (node_at now.bytes.now (Ok now.at)).next ≡ (nodes_from first.bytes.now (Ok first.at) (k + 1)).next
+    then-node = rw (here.same, here.place) (nodes-more first.bytes.now (Ok first.at) k)
 
-pub nodes_ok : (s : List ℕ) (from : Place) (k : ℕ) {at end : ℕ} → Ok at ≡ (nodes_from s from k).next → (node_at s (Ok at)).next ≡ Ok end
-    → Ok end ≡ (nodes_from s from (k + 1)).next
-unfolding nodes_from
-nodes_ok s from k here is = rw (add-one k, ← here) (sym is)
+    pub node-read : {B : Type 0} {y : B} {next : Reader} → Reads now next (Ok y) (node_at now.bytes.now (Ok now.at)).next
+        → Reads first next (Ok x) (nodes_from first.bytes.now (Ok first.at) (k + 1)).next
+    node-read e = record { same = e.same ∙ here.same; place = e.place ∙ then-node }
 
-pub places_ok : (s : List ℕ) (from : Place) (k : ℕ) (n₀ : List ℕ) {n n' : List ℕ} {at : ℕ} → Ok at ≡ (nodes_from s from k).next
-    → n ≡ over (nodes_from s from k).places n₀ → n' ≡ set n k at → n' ≡ over (nodes_from s from (k + 1)).places n₀
-unfolding nodes_from
-places_ok s from k n₀ here before n-is = rw (add-one k, n-is, ← here) (entry _ _ _ k before (node-places-length s from k))
+    pub node-noted : (n₀ : List ℕ) {n n' : List ℕ} → n ≡ over (nodes_from first.bytes.now (Ok first.at) k).places n₀ → n' ≡ set n k now.at
+        → n' ≡ over (nodes_from first.bytes.now (Ok first.at) (k + 1)).places n₀
+    unfolding nodes_from
+    node-noted n₀ before n-is = rw (add-one k, n-is, ← here.place) (entry _ _ _ k before (node-places-length first.bytes.now (Ok first.at) k))
 
-pub nodes_err : (s : List ℕ) (from : Place) (n k : ℕ) {at : ℕ} {r : Refusal} → Ok at ≡ (nodes_from s from k).next
-    → (node_at s (Ok at)).next ≡ Err r → k < n → Err r ≡ (nodes_from s from n).next
-unfolding nodes_from
-nodes_err s from n k {r = r} here is lt = sym (nodes-stay s from n (suc k) r (rw (← here) is) (omega arith))
+    pub node-refused : {B C : Type 0} {next : Reader} {n : ℕ} {r : Refusal} → Reads {A = B} now next (Err r) (node_at now.bytes.now (Ok now.at)).next → k < n
+        → Reads {A = C} first next (Err r) (nodes_from first.bytes.now (Ok first.at) n).next
+    node-refused {n = n} {r = r} e less =
+        record { same = e.same ∙ here.same; place = sym (nodes-stay first.bytes.now (Ok first.at) n (k + 1) r (sym (e.place ∙ then-node)) (omega arith)) }

@@ -2,14 +2,15 @@
 // index on the way, by which a block, an instruction or a node is found by its number.
 #![tactic(auto)]
 
-ghost use Rattle.std.specs.Prelude.{◌≡◌, ◌≤◌, set, OnOk, Ok};
-ghost use Rattle.sheet.specs.Sheet.{instructions_from, blocks_from, nodes_from, sheet_at, reading_of};
+ghost use Rattle.std.specs.Prelude.{◌≡◌, ◌≤◌, set, OnOk, IfOk, Ok};
+ghost use Rattle.sheet_field.specs.Field.{count_at};
+ghost use Rattle.sheet_field.specs.Reads.{Reads};
+ghost use Rattle.sheet.specs.Sheet.{instructions_from, nodes_from, sheet_at, reading_of};
 ghost use Rattle.sheet.specs.Index.{over, Noted, Indexed};
 ghost use Rattle.sheet.specs.Promises.{found_on};
 
 use refusal::{Fault, Refusal};
-use sheet_accepted::Record;
-use sheet_field::Place;
+use sheet_field::{Place, Reader};
 
 pub mod code;
 
@@ -44,64 +45,52 @@ fn note(list: &mut [u64], i: usize, x: u64)
     }
 }
 
-// The offset after n instructions, with the address and the offset of each at the start of the borrowed lists, as far as these
-// reach.
-#[tactic(auto, using(crate::proofs::Fronts::instructions_err))]
+// n instructions, with the address and the offset of each at the start of the borrowed lists, as far as these reach.
 fn read_instructions(
-    s: &[u8],
-    from: usize,
+    r: &mut Reader,
     n: u64,
     addresses: &mut [u64],
     places: &mut [u64],
-) -> Place
-    ensures place { result ≡ (instructions_from s.now (Ok from) n).next }
-    ensures noted { OnOk result (Noted addresses.old addresses.new places.old places.new (instructions_from s.now (Ok from) n)) }
+) -> Result<(), Refusal>
+    ensures reads { Reads r.old r.new result (instructions_from r.old.bytes.now (Ok r.old.at) n).next }
+    ensures noted { OnOk result (Noted addresses.old addresses.new places.old places.new (instructions_from r.old.bytes.now (Ok r.old.at) n)) }
 {
-    let mut last: u64 = 0;
-    let mut at = from;
+    let mut last = None;
     for i in 0..n {
-        let end = sheet_instruction::check_instruction(s, at, i == 0, last)?;
-        last = Record { bytes: s, at }.address();
-        note(addresses, i as usize, last);
+        let at = r.at;
+        let address = sheet_instruction::check_instruction(r, last)?;
+        note(addresses, i as usize, address);
         note(places, i as usize, at as u64);
-        at = end;
+        last = Some(address);
     }
-    Ok(at)
+    Ok(())
 }
 
-// The offset after n blocks, two fields of 8 bytes each; or the first field that is not whole.
-#[tactic(auto, using(crate::proofs::Blocks::blocks_there, crate::proofs::Blocks::blocks_short))]
-fn check_blocks(s: &[u8], at: usize, n: u64) -> Place
-    requires { n ≤ 1024 }
-    ensures { result ≡ (blocks_from s.now (Ok at) n).next }
+// n nodes, with the offset of each at the start of the borrowed list, as far as it reaches.
+fn read_nodes(r: &mut Reader, n: u64, places: &mut [u64]) -> Result<(), Refusal>
+    ensures reads { Reads r.old r.new result (nodes_from r.old.bytes.now (Ok r.old.at) n).next }
+    ensures noted { OnOk result (places.new ≡ over (nodes_from r.old.bytes.now (Ok r.old.at) n).places places.old) }
 {
-    let rest = s.len().saturating_sub(at);
-    let bytes = 16 * n as usize;
-    if bytes <= rest {
-        Ok(at + bytes)
-    } else {
-        Err(Fault::Ends.at(at + rest / 8 * 8))
+    for i in 0..n {
+        let at = r.at;
+        sheet_node::check_node(r)?;
+        note(places, i as usize, at as u64);
     }
+    Ok(())
 }
 
-// The offset after n nodes, with the offset of each at the start of the borrowed list, as far as it reaches.
-#[tactic(auto, using(crate::proofs::Fronts::nodes_err))]
-fn read_nodes(s: &[u8], from: usize, n: u64, places: &mut [u64]) -> Place
-    ensures place { result ≡ (nodes_from s.now (Ok from) n).next }
-    ensures noted { OnOk result (places.new ≡ over (nodes_from s.now (Ok from) n).places places.old) }
+// A section's count, of at most so many records; the first of them follows.
+fn take_section(r: &mut Reader, most: u64) -> Result<Section, Refusal>
+    ensures reads { Reads r.old r.new result (count_at 0 most r.old.bytes.now (Ok r.old.at)).next }
+    ensures count { IfOk result (λ x. x.count ≡ (count_at 0 most r.old.bytes.now (Ok r.old.at)).value) }
+    ensures at { IfOk result (λ x. x.at ≡ r.new.at) }
 {
-    let mut at = from;
-    for i in 0..n {
-        let end = sheet_node::check_node(s, at)?;
-        note(places, i as usize, at as u64);
-        at = end;
-    }
-    Ok(at)
+    let count = r.count(0, most)?;
+    Ok(Section { count, at: r.at })
 }
 
 // Any bytes: accepted, or the first refusal. Of an accepted sheet the index stands at the start of the borrowed lists, as far
 // as these reach: address and offset of each instruction, the offset of each node.
-#[tactic(auto, using(crate::proofs::Sections::first_refused, crate::proofs::Sections::instructions_refused, crate::proofs::Sections::second_refused, crate::proofs::Sections::blocks_refused, crate::proofs::Sections::third_refused, crate::proofs::Sections::nodes_refused))]
 pub fn read_index(
     s: &[u8],
     addresses: &mut [u64],
@@ -111,30 +100,22 @@ pub fn read_index(
     ensures reading { result ≡ reading_of s.now }
     ensures index { OnOk result (Indexed addresses.old addresses.new places.old places.new nodes.old nodes.new (sheet_at s.now)) }
 {
-    let i = sheet_field::count(s, 0, 0, 2048)?;
-    let code = read_instructions(s, i.end, i.value, addresses, places)?;
-    let b = sheet_field::count(s, code, 0, 1024)?;
-    let ranges = check_blocks(s, b.end, b.value)?;
-    let n = sheet_field::count(s, ranges, 0, 1024)?;
-    let end = read_nodes(s, n.end, n.value, nodes)?;
-    if s.len() <= end {
+    let mut r = Reader::new(s, 0);
+    let instructions = take_section(&mut r, 2048)?;
+    read_instructions(&mut r, instructions.count, addresses, places)?;
+    let blocks = take_section(&mut r, 1024)?;
+    r.take_words(2 * blocks.count)?;
+    let graph = take_section(&mut r, 1024)?;
+    read_nodes(&mut r, graph.count, nodes)?;
+    if s.len() <= r.at {
         Ok(Sheet {
-            instructions: Section {
-                count: i.value,
-                at: i.end,
-            },
-            blocks: Section {
-                count: b.value,
-                at: b.end,
-            },
-            nodes: Section {
-                count: n.value,
-                at: n.end,
-            },
+            instructions,
+            blocks,
+            nodes: graph,
         })
     } else {
         // bytes left over
-        Err(Fault::Ends.at(end))
+        Err(Fault::Ends.at(r.at))
     }
 }
 

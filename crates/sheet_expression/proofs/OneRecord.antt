@@ -1,6 +1,6 @@
 -- Laws of one record: its argument is small, and the record from its parts.
 use Prim.Native.Nat.{ℕ, ◌≤◌}
-use mathlib.Core.Path.{◌≡◌, refl, ap}
+use mathlib.Core.Path.{◌≡◌, refl}
 use mathlib.Core.Logic.{◌⊎◌, inl, inr, ⊎_elim}
 use mathlib.Core.List.{List}
 use mathlib.Core.Bool.{Bool, true, false, ◌&&◌, ◌||◌}
@@ -8,10 +8,8 @@ use lib.Dec.{leb, ltb, eqb}
 use native.Mathlib.Omega.{arith}
 use borrow.Author.Tests.{ltb-true, eqb-true}
 use Rattle.refusal.specs.declared.Fault.TheVariants.{Code}
-use Rattle.sheet_field.specs.Field.{Place, FieldReading, field_at, start_of, code_at, answer_of}
-use Rattle.sheet_field.specs.declared.Field.{Field}
-use Rattle.sheet_field.proofs.Fields.{check-below, code-at, answer_ok}
-use Rattle.std.specs.Prelude.{Ok}
+use Rattle.sheet_field.specs.Field.{Place, field_at, start_of}
+use Rattle.sheet_field.proofs.Fields.{check-below}
 use Rattle.sheet_expression.specs.Expression.{has_argument, argument_ok, argument_at}
 use Rattle.laws.proofs.Booleans.{and_both}
 
@@ -42,17 +40,10 @@ ok-small variables kind x few e =
     (λ h. omega (arith, ltb-true x 18 (and_both (eqb kind 7) (ltb x 18) h).1))
     (or-true _ (eqb kind 7 && ltb x 18) e)
 
-read-small : (variables kind : ℕ) (s : List ℕ) (p : Place) → variables ≤ 32 → (argument_at variables kind s p).value ≤ 32
+pub read-small : (variables kind : ℕ) (s : List ℕ) (p : Place) → variables ≤ 32 → (argument_at variables kind s p).value ≤ 32
 unfolding argument_at
 read-small variables kind s p few = go (has_argument kind) refl
   where
     go : (t : Bool) → has_argument kind ≡ t → (argument_at variables kind s p).value ≤ 32
     go true e = rw e (check-below _ Code (start_of p) (field_at 1 s p) 32 (ok-small variables kind (field_at 1 s p).value few))
     go false e = rw e (omega arith)
-
-pub argument-small : (variables kind : ℕ) (s : List ℕ) (p : Place) {x : Field} → variables ≤ 32 → answer_of (argument_at variables kind s p) ≡ Ok x → x.value ≤ 32
-argument-small variables kind s p few e = rw (answer_ok (argument_at variables kind s p) e) at (read-small variables kind s p few)
-
--- a kind is in its table
-pub kind-small : (s : List ℕ) (p : Place) {x : Field} → answer_of (code_at 9 s p) ≡ Ok x → x.value ≤ 8
-kind-small s p e = let r = answer_ok (code_at 9 s p) e in omega (arith, rw r at (code-at 9 s p (ap (λ (f : FieldReading). f.next) r)).below)

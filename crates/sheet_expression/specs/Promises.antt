@@ -1,12 +1,9 @@
 -- What the contracts of the readers give.
-use Rattle.std.specs.Prelude.{ℕ, ◌*◌, ◌≤◌, true, List, ◌++◌, ◌≡◌, length, drop, Result, Ok}
-use Rattle.refusal.specs.declared.Refusal.{Refusal}
-use Rattle.sheet_field.specs.Field.{Place, WentOn, read_as}
+use Rattle.std.specs.Prelude.{ℕ, ◌*◌, ◌≤◌, true, List, ◌++◌, ◌≡◌, length, drop, Ok}
+use Rattle.sheet_field.specs.Field.{Place, WentOn}
 use Rattle.expr.specs.Codes.{kind_ternary}
-use Rattle.expr.specs.Tree.{kind_of, argument_of, tree_of}
-use Rattle.expr.specs.Types.{type_of}
+use Rattle.expr.specs.Tree.{kind_of, argument_of}
 use Rattle.sheet_expression.specs.declared.CheckedRecord.{CheckedRecord}
-use Rattle.sheet_expression.specs.declared.Checked.{Checked}
 use Rattle.sheet_expression.specs.declared.Record.{Record}
 use Rattle.sheet_expression.specs.Expression.{has_argument, argument_ok, RecordReading, record_at, Taken, expression_at}
 
@@ -23,13 +20,9 @@ pub record Tagged (variables tag : ℕ) : Type 0 where
   pub kind : kind_of tag ≤ kind_ternary
   pub argument : has_argument (kind_of tag) ≡ true → argument_ok variables (kind_of tag) (argument_of tag) ≡ true
 
--- what the check of a record returns: how it was read, or the first refusal
-abbrev pub checked_record : RecordReading → Result CheckedRecord Refusal
-checked_record r = read_as r.next (λ end. record { tag = r.tag; depth = r.depth; end = end })
-
--- what the check of an expression returns: its static type and the offset after it, or the first refusal
-abbrev pub checked_expression : List ℕ → Taken → Result Checked Refusal
-checked_expression types t = read_as t.next (λ end. record { typing = type_of types (tree_of t.words); end = end })
+-- what the check of a record says of the record as it is read
+abbrev pub checked_record : RecordReading → CheckedRecord
+checked_record r = record { tag = r.tag; depth = r.depth }
 
 -- at this offset a record was read whole, or an expression, as one of so many variables
 pub record WholeRecord (s : List ℕ) (at : ℕ) : Type 0 where

@@ -2,15 +2,17 @@
 // read whole, which takes its records as words, two a record (see the crate expr).
 #![tactic(auto)]
 
-ghost use Rattle.std.specs.Prelude.{◌≡◌, true, ℕ, ◌*◌, ◌≤◌, ◌<◌, length, Ok};
-ghost use Rattle.sheet_field.specs.Field.{WentOn, answer_of};
+ghost use Rattle.std.specs.Prelude.{◌≡◌, true, ℕ, ◌*◌, ◌≤◌, ◌<◌, length, Ok, IfOk};
+ghost use Rattle.sheet_field.specs.Field.{WentOn};
+ghost use Rattle.sheet_field.specs.Reads.{Reads};
 ghost use Rattle.expr.specs.Admission.{InTable};
-ghost use Rattle.expr.specs.Types.{together, binary_type, record_type};
+ghost use Rattle.expr.specs.Tree.{tree_of};
+ghost use Rattle.expr.specs.Types.{together, binary_type, record_type, type_of};
 ghost use Rattle.sheet_expression.specs.Expression.{has_argument, argument_ok, argument_at, constant_at, fits_width, record_at, expression_at};
-ghost use Rattle.sheet_expression.specs.Promises.{Took, Tagged, checked_record, checked_expression, WholeRecord, RecordIs, WholeExpression};
+ghost use Rattle.sheet_expression.specs.Promises.{Took, Tagged, checked_record, WholeRecord, RecordIs, WholeExpression};
 
 use refusal::{Fault, Refusal};
-use sheet_field::Field;
+use sheet_field::Reader;
 use stack::Stack;
 
 mod stack;
@@ -35,24 +37,26 @@ fn argument_ok(variables: u64, kind: u64, x: u64) -> bool
 }
 
 // The argument byte of a record of this kind, where it has one.
-fn take_argument(s: &[u8], at: usize, variables: u64, kind: u64) -> Result<Field, Refusal>
-    ensures { result ≡ answer_of (argument_at variables kind s.now (Ok at)) }
+fn take_argument(r: &mut Reader, variables: u64, kind: u64) -> Result<u64, Refusal>
+    ensures reads { Reads r.old r.new result (argument_at variables kind r.old.bytes.now (Ok r.old.at)).next }
+    ensures value { IfOk result (λ x. x ≡ (argument_at variables kind r.old.bytes.now (Ok r.old.at)).value) }
 {
     if has_argument(kind) {
-        sheet_field::take_checked::<1, _>(s, at, Fault::Code, |x| argument_ok(variables, kind, x))
+        r.take_checked::<1, _>(Fault::Code, |x| argument_ok(variables, kind, x))
     } else {
-        Ok(Field { value: 0, end: at })
+        Ok(0)
     }
 }
 
 // A constant's value.
-fn take_constant(s: &[u8], at: usize, kind: u64) -> Result<Field, Refusal>
-    ensures { result ≡ answer_of (constant_at kind s.now (Ok at)) }
+fn take_constant(r: &mut Reader, kind: u64) -> Result<u64, Refusal>
+    ensures reads { Reads r.old r.new result (constant_at kind r.old.bytes.now (Ok r.old.at)).next }
+    ensures value { IfOk result (λ x. x ≡ (constant_at kind r.old.bytes.now (Ok r.old.at)).value) }
 {
     if kind == expr::CONSTANT {
-        sheet_field::take_field::<8>(s, at)
+        r.take_field::<8>()
     } else {
-        Ok(Field { value: 0, end: at })
+        Ok(0)
     }
 }
 
@@ -116,76 +120,71 @@ fn checked_type(tag: u64, types: &[u8], a: u64, b: u64) -> u64
         expr::EFFECT | expr::LOAD | expr::CAST => n,
         expr::BINARY => operator_type(n, a, b),
         expr::TERNARY => together(a, b),
-        _ => expr::SIGNED_32,
+        expr::TRUE | expr::FALSE => expr::SIGNED_32,
+        _ => unreachable!(),
     }
 }
 
-// A record as it is checked: its tag word, how many trees are complete after it, and the offset after it.
+// A record as it is checked: its tag word, and how many trees are complete after it.
 #[derive(Clone, Copy)]
 struct CheckedRecord {
     tag: u64,
     depth: u64,
-    end: usize,
 }
 
-// The record at an offset, with `depth` complete trees before it and `left` records after it.
+// A record, with `depth` complete trees before it and `left` records after it.
 fn check_record(
-    s: &[u8],
-    at: usize,
+    r: &mut Reader,
     variables: u64,
     depth: u64,
     left: u64,
 ) -> Result<CheckedRecord, Refusal>
     requires { (variables ≤ 32) × (depth ≤ 128) }
-    ensures { result ≡ checked_record (record_at variables depth left s.now (Ok at)) }
+    ensures reads { Reads r.old r.new result (record_at variables depth left r.old.bytes.now (Ok r.old.at)).next }
+    ensures record { IfOk result (λ x. x ≡ checked_record (record_at variables depth left r.old.bytes.now (Ok r.old.at))) }
 {
-    let kind = sheet_field::code(s, at, expr::KINDS)?;
-    let argument = take_argument(s, kind.end, variables, kind.value)?;
-    let value = take_constant(s, argument.end, kind.value)?;
-    let tag = kind.value + 16 * argument.value;
+    let at = r.at;
+    let kind = r.code(expr::KINDS)?;
+    let argument = take_argument(r, variables, kind)?;
+    let constant = r.at;
+    let value = take_constant(r, kind)?;
+    let tag = kind + 16 * argument;
     let arity = expr::arity(tag);
     if depth < arity {
         return Err(Fault::Tree.at(at));
     }
     let after = depth - arity + 1;
     if (left == 0) & (after != 1) {
-        return Err(Fault::Tree.at(value.end));
+        return Err(Fault::Tree.at(r.at));
     }
-    if !fits_width(kind.value, argument.value, value.value) {
-        return Err(Fault::Constant.at(argument.end));
+    if !fits_width(kind, argument, value) {
+        return Err(Fault::Constant.at(constant));
     }
-    Ok(CheckedRecord {
-        tag,
-        depth: after,
-        end: value.end,
-    })
+    Ok(CheckedRecord { tag, depth: after })
 }
 
-// The type of an expression, and the offset after it.
+// The types of a node's variables.
 #[derive(Clone, Copy)]
-pub struct Checked {
-    pub typing: u64,
-    pub end: usize,
+pub struct Types<'a> {
+    pub bytes: &'a [u8],
+    ghost few: { length bytes.now ≤ 32 },
+    ghost in_table: { InTable bytes.now },
 }
 
-// The expression at an offset, checked in one pass, with the types of the trees that are complete so far on a stack.
-pub fn check_expression(s: &[u8], from: usize, types: &[u8]) -> Result<Checked, Refusal>
-    requires { (length types.now ≤ 32) × InTable types.now }
-    ensures { result ≡ checked_expression types.now (expression_at (length types.now) s.now (Ok from)) }
+// The type of an expression, which is checked in one pass, with the types of the trees that are complete so far on a stack.
+pub fn check_expression(r: &mut Reader, types: Types) -> Result<u64, Refusal>
+    ensures reads { Reads r.old r.new result (expression_at (length types.entry.bytes.now) r.old.bytes.now (Ok r.old.at)).next }
+    ensures typing { IfOk result (λ t. t ≡ type_of types.entry.bytes.now (tree_of (expression_at (length types.entry.bytes.now) r.old.bytes.now (Ok r.old.at)).words)) }
 {
-    let n = sheet_field::count(s, from, 1, 128)?;
+    let n = r.count(1, 128)?;
+    let variables = types.bytes.len() as u64;
     let mut stack = Stack::new();
-    let mut at = n.end;
-    for i in 0..n.value {
-        let r = check_record(s, at, types.len() as u64, stack.depth(), n.value - i - 1)?;
+    for i in 0..n {
+        let one = check_record(r, variables, stack.depth(), n - i - 1)?;
         let (a, b) = stack.last_two();
-        stack.put(r.depth, checked_type(r.tag, types, a, b));
-        at = r.end;
+        stack.put(one.depth, checked_type(one.tag, types.bytes, a, b));
     }
-    Ok(Checked {
-        typing: stack.first(),
-        end: at,
-    })
+    Ok(stack.first())
 }
 
 // A record's two words, and the offset after it.

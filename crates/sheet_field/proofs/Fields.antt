@@ -218,3 +218,7 @@ checked-failed fault at f o e = rw (o, ← e) refl
 pub checked-stays : (ok : Bool) (fault : Fault) (at : ℕ) (f : FieldReading) {r : Refusal} → Err r ≡ f.next → Err r ≡ (check_field ok fault at f).next
 unfolding check_field
 checked-stays ok fault at f e = rw (← e) refl
+
+-- the field that a reader has taken
+pub field-taken : (f : FieldReading) {v b : ℕ} → Ok b ≡ f.next → v ≡ f.value → f ≡ record { value = v; next = Ok b }
+field-taken f e q = rw (e, q) refl

@@ -2,3 +2,4 @@
 pub mod Fields
 pub mod Counted
 pub mod Steps
+pub mod Words

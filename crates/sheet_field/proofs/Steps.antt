@@ -25,6 +25,15 @@ handed_on {result = result} is reads stays =
     let e = err_from_is_err_and result is in
     rw (e.1, e.2) (record { same = reads.same; place = sym (stays (sym reads.place)) })
 
+-- the same, where the refusal is already one of the whole
+pub handed : {B : Type 0} {old new : Reader} {result : Result B Refusal} {r : Refusal} {p : Place}
+    → IsErrAnd result (λ y. y ≡ r) → Reads {A = B} old new (Err r) p → Reads old new result p
+handed {result = result} is reads = let e = err_from_is_err_and result is in rw (e.1, e.2) reads
+
+-- and where it is the answer
+pub handed_out : {B : Type 0} {result answer : Result B Refusal} {r : Refusal} → IsErrAnd result (λ y. y ≡ r) → Err r ≡ answer → result ≡ answer
+handed_out {result = result} is e = let h = err_from_is_err_and result is in rw (h.1, h.2) e
+
 -- a refusal made before a field stays
 module _ (s : List ℕ) {p : Place} {r : Refusal} (e : Err r ≡ p) where
   pub field_stays : (n : ℕ) → Err r ≡ (field_at n s p).next

@@ -73,6 +73,11 @@ count_at least most s p =
     let f = field_at 2 s p in
     check_field (leb least f.value && leb f.value most) Count (start_of p) f
 
+-- After the first k of numbers of 8 bytes each that stand one after the other (S2).
+unfoldable pub words_from : List ℕ → Place → ℕ → Place
+words_from s p zero = p
+words_from s p (suc k) = (field_at 8 s (words_from s p k)).next
+
 -- what a reader returns: the value that it makes of the offset after it, or the first refusal
 abbrev pub read_as : {A : Type 0} → Place → (ℕ → A) → Result A Refusal
 read_as (Ok end) made = Ok (made end)

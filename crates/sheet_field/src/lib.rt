@@ -3,7 +3,7 @@
 #![tactic(auto)]
 
 ghost use Rattle.std.specs.Prelude.{◌≡◌, ◌+◌, ◌≤◌, length, Ok, ℕ, Bool, IfOk};
-ghost use Rattle.sheet_field.specs.Field.{little, field_at, Answers, tested_at, code_at, count_at, answer_of};
+ghost use Rattle.sheet_field.specs.Field.{little, field_at, Answers, tested_at, code_at, count_at, words_from, answer_of};
 ghost use Rattle.sheet_field.specs.Reads.{Reads};
 
 use refusal::{Fault, Refusal};
@@ -137,5 +137,19 @@ impl<'a> Reader<'a> {
         ensures value { IfOk result (λ x. x ≡ (count_at least most self.old.bytes.now (Ok self.old.at)).value) }
     {
         self.take_checked::<2, _>(Fault::Count, |x| (least <= x) & (x <= most))
+    }
+
+    // n numbers of 8 bytes each, or the first that is not whole.
+    pub fn take_words(&mut self, n: u64) -> Result<(), Refusal>
+        ensures { Reads self.old self.new result (words_from self.old.bytes.now (Ok self.old.at) n) }
+    {
+        let at = self.at;
+        let room = self.bytes.len().saturating_sub(at) / 8;
+        if n <= room as u64 {
+            self.at = at + 8 * n as usize;
+            Ok(())
+        } else {
+            Err(Fault::Ends.at(at + 8 * room))
+        }
     }
 }

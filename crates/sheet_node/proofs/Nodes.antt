@@ -1,5 +1,5 @@
 -- Laws of a node's parts.
-use Prim.Native.Nat.{ℕ, zero, suc, ◌+◌, ◌*◌, ◌≤◌, ◌<◌}
+use Prim.Native.Nat.{ℕ, zero, suc, ◌+◌, ◌*◌, ◌≤◌}
 use mathlib.Core.Path.{◌≡◌, sym, ap, ◌∙◌}
 use mathlib.Core.List.{List}
 use native.Mathlib.Omega.{arith}
@@ -7,13 +7,11 @@ use native.Mathlib.Numerals.{add-one}
 use lib.ListN.{length, length-take}
 use Rattle.std.specs.Prelude.{Ok, Err}
 use Rattle.refusal.specs.declared.Refusal.{Refusal}
-use Rattle.sheet_field.specs.declared.Field.{Field}
-use Rattle.sheet_field.specs.Field.{Place, FieldReading, field_at, code_at, check_field, count_at, start_of, answer_of}
-use Rattle.sheet_field.proofs.Fields.{code-at, field-at, count_at_lem, count_most, answer_ok, answer_err}
-use Rattle.sheet_field.proofs.Counted.{stays}
+use Rattle.sheet_field.specs.Field.{Place, FieldReading, field_at, code_at, check_field, count_at, start_of}
+use Rattle.sheet_field.proofs.Fields.{code-at, field-at, count_at_lem, count_most}
 use Rattle.sheet_node.specs.Node.{map_at, statement_at, statements_from, types_from, types_of, addresses_from}
 
--- one type, statement or address more
+-- one type or statement more
 pub types_more : (s : List ℕ) (p : Place) (k : ℕ) → (code_at 10 s (types_from s p k)).next ≡ types_from s p (k + 1)
 unfolding types_from
 types_more s p k = rw (add-one k)
@@ -22,11 +20,6 @@ pub statements-more : (types s : List ℕ) (p : Place) (k : ℕ)
     → (statement_at types s (statements_from types s p k).next).next ≡ (statements_from types s p (k + 1)).next
 unfolding statements_from
 statements-more types s p k = rw (add-one k)
-
-pub addresses-more : (s : List ℕ) (p : Place) (k : ℕ)
-    → (field_at 8 s (addresses_from s p k).next).next ≡ (addresses_from s p (k + 1)).next
-unfolding addresses_from
-addresses-more s p k = rw (add-one k)
 
 -- one that is read where reading was refused leaves the refusal
 pub types-keep : (s : List ℕ) (p : Place) (j : ℕ) (r : Refusal) → types_from s p j ≡ Err r → types_from s p (suc j) ≡ Err r
@@ -42,27 +35,6 @@ pub addresses-keep : (s : List ℕ) (p : Place) (j : ℕ) (r : Refusal) → (add
     → (addresses_from s p (suc j)).next ≡ Err r
 unfolding addresses_from field_at
 addresses-keep s p j r e = rw e
-
--- one type more, and where it is refused
-module _ (s : List ℕ) (from i : ℕ) {at : ℕ} (here : Ok at ≡ types_from s (Ok from) i) where
-  pub type-read : {f : Field} → answer_of (code_at 10 s (Ok at)) ≡ Ok f → Ok f.end ≡ types_from s (Ok from) (i + 1)
-  type-read e = sym (ap (λ (x : FieldReading). x.next) (answer_ok (code_at 10 s (Ok at)) e)) ∙ rw here (types_more s (Ok from) i)
-
-  pub type-refused : {n : ℕ} {r : Refusal} → answer_of (code_at 10 s (Ok at)) ≡ Err r → i < n → Err r ≡ types_from s (Ok from) n
-  type-refused {n} {r} e less =
-      let gone : types_from s (Ok from) (i + 1) ≡ Err r = sym (types_more s (Ok from) i) ∙ rw here at (answer_err (code_at 10 s (Ok at)) e) in
-      sym (stays (λ j. types_from s (Ok from) j) (types-keep s (Ok from)) n (i + 1) r gone (omega arith))
-
--- one statement more, and where it is refused
-module _ (types s : List ℕ) (from i : ℕ) {at : ℕ} (here : Ok at ≡ (statements_from types s (Ok from) i).next) where
-  pub statement-read : {p : Place} {end : ℕ} → p ≡ (statement_at types s (Ok at)).next → p ≡ Ok end → Ok end ≡ (statements_from types s (Ok from) (i + 1)).next
-  statement-read p-is on = sym on ∙ p-is ∙ rw here (statements-more types s (Ok from) i)
-
-  pub statement-refused : {n : ℕ} {p : Place} {r : Refusal} → p ≡ (statement_at types s (Ok at)).next → p ≡ Err r → i < n
-      → Err r ≡ (statements_from types s (Ok from) n).next
-  statement-refused {n} {r = r} p-is gone less =
-      let ends : (statements_from types s (Ok from) (i + 1)).next ≡ Err r = sym (p-is ∙ rw here (statements-more types s (Ok from) i)) ∙ gone in
-      sym (stays (λ j. (statements_from types s (Ok from) j).next) (statements-keep types s (Ok from)) n (i + 1) r ends (omega arith))
 
 -- types that were read whole stand inside the sheet
 pub types-end : (s : List ℕ) (p : Place) (k a : ℕ) → ((b : ℕ) → p ≡ Ok b → b ≤ length s) → types_from s p k ≡ Ok a

@@ -1,12 +1,11 @@
 -- What the contracts of the readers ask and give.
 use Rattle.std.specs.Prelude.{ℕ, ◌*◌, ◌≤◌, ◌≡◌, List, ◌++◌, true, false, length, drop, Option, Some, None, Ok}
 use Rattle.sheet_field.specs.Field.{Place, WentOn, start_of, count_at}
-use Rattle.sheet_expression.specs.Expression.{expression_at}
 use Rattle.sheet_node.specs.declared.Assignment.{Assignment}
 use Rattle.sheet_node.specs.declared.StatementParts.{StatementParts}
 use Rattle.sheet_node.specs.declared.NodeFront.{NodeFront}
 use Rattle.sheet_node.specs.declared.NodeParts.{NodeParts}
-use Rattle.sheet_node.specs.Node.{StatementRead, statement_at, statements_from, addresses_from, NodeReading, node_at}
+use Rattle.sheet_node.specs.Node.{StatementRead, statement_at, types_from, types_of, statements_from, addresses_from, NodeReading, node_at}
 
 -- What a reader of an assignment leaves: the variable, and a borrowed list that was `before` and is `after`: the value's words stand
 -- at its start, and the rest is as it was.
@@ -50,15 +49,17 @@ pub record ReadNode (s : List ℕ) (node : NodeReading) : Type 0 where
   pub is : node ≡ node_at s at
   pub on : WentOn node.next
 
--- the offset after a count of addresses and the addresses
+-- after a node's count of variables and their types
+unfoldable pub types_end : List ℕ → Place → Place
+types_end s p = let v = count_at 0 32 s p in types_from s v.next v.value
+
+-- the types of a node's variables
+unfoldable pub node_types : List ℕ → Place → List ℕ
+node_types s p = let v = count_at 0 32 s p in types_of (types_from s v.next v.value) (start_of v.next) v.value s
+
+-- after a count of addresses and the addresses
 unfoldable pub addresses_end : List ℕ → Place → Place
 addresses_end s p = let n = count_at 0 16 s p in (addresses_from s n.next n.value).next
-
--- the offset after what stands behind a node's types
-unfoldable pub body_end : List ℕ → List ℕ → Place → Place
-body_end types s p =
-    let n = count_at 0 64 s p in
-    addresses_end s (expression_at (length types) s (statements_from types s n.next n.value).next).next
 
 -- at this offset a statement was read whole, in a node of variables of these types
 pub record WholeStatement (s : List ℕ) (at : ℕ) : Type 0 where

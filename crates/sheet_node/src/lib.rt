@@ -2,14 +2,15 @@
 // statement's content.
 #![tactic(auto)]
 
-ghost use Rattle.std.specs.Prelude.{◌≡◌, ℕ, ◌+◌, ◌*◌, ◌<◌, ◌≤◌, List, length, take, drop, Ok};
-ghost use Rattle.sheet_field.specs.Field.{WentOn, answer_of};
-ghost use Rattle.expr.specs.Admission.{InTable};
-ghost use Rattle.sheet_node.specs.Node.{map_at, statement_at, statements_from, types_from, node_at};
-ghost use Rattle.sheet_node.specs.Promises.{TookStatement, front_of, reading_of, WholeStatement, WholeStatements, addresses_end, body_end};
+ghost use Rattle.std.specs.Prelude.{◌≡◌, ℕ, ◌+◌, ◌*◌, ◌<◌, ◌≤◌, List, length, take, drop, Ok, IfOk};
+ghost use Rattle.sheet_field.specs.Field.{WentOn};
+ghost use Rattle.sheet_field.specs.Reads.{Reads};
+ghost use Rattle.sheet_node.specs.Node.{map_at, statement_at, statements_from, node_at};
+ghost use Rattle.sheet_node.specs.Promises.{TookStatement, front_of, reading_of, types_end, node_types, addresses_end, WholeStatement, WholeStatements};
 
 use refusal::{Fault, Refusal};
-use sheet_field::{Field, Place};
+use sheet_expression::Types;
+use sheet_field::Reader;
 
 // What is assigned: to which variable, and how many records its value has.
 #[derive(Clone, Copy, PartialEq, Eq, Debug)]
@@ -47,10 +48,11 @@ pub struct NodeParts {
 }
 
 // A statement's map byte: 0 or 3.
-fn take_map(s: &[u8], at: usize) -> Result<Field, Refusal>
-    ensures { result ≡ answer_of (map_at s.now (Ok at)) }
+fn take_map(r: &mut Reader) -> Result<u64, Refusal>
+    ensures reads { Reads r.old r.new result (map_at r.old.bytes.now (Ok r.old.at)).next }
+    ensures value { IfOk result (λ x. x ≡ (map_at r.old.bytes.now (Ok r.old.at)).value) }
 {
-    sheet_field::take_checked::<1, _>(s, at, Fault::Code, |x| (x == 0) | (x == 3))
+    r.take_checked::<1, _>(Fault::Code, |x| (x == 0) | (x == 3))
 }
 
 // The first part of the node record at an offset where one was read whole, with nothing checked again.
@@ -76,79 +78,65 @@ pub fn types_in(s: &[u8], front: NodeFront) -> &[u8]
     &s[front.types..front.types + front.variables as usize]
 }
 
-// The offset after the statement at an offset.
-fn check_statement(s: &[u8], at: usize, types: &[u8]) -> Place
-    requires { (length types.now ≤ 32) × InTable types.now }
-    ensures { result ≡ (statement_at types.now s.now (Ok at)).next }
+// A statement, in a node of variables of these types.
+fn check_statement(r: &mut Reader, types: Types) -> Result<(), Refusal>
+    ensures { Reads r.old r.new result (statement_at types.entry.bytes.now r.old.bytes.now (Ok r.old.at)).next }
 {
-    let map = take_map(s, at)?;
-    if map.value != 3 {
-        return Ok(map.end);
+    let at = r.at;
+    let map = take_map(r)?;
+    if map != 3 {
+        return Ok(());
     }
-    let v = sheet_field::code(s, map.end, types.len() as u64)?;
-    let e = sheet_expression::check_expression(s, v.end, types)?;
-    if expr::same_type(e.typing, u64::from(types[v.value as usize])) {
-        Ok(e.end)
+    let v = r.code(types.bytes.len() as u64)?;
+    let t = sheet_expression::check_expression(r, types)?;
+    if expr::same_type(t, u64::from(types.bytes[v as usize])) {
+        Ok(())
     } else {
         Err(Fault::Typing.at(at))
     }
 }
 
-// The offset after n statements.
-fn check_statements(s: &[u8], from: usize, types: &[u8], n: u64) -> Place
-    requires { (length types.now ≤ 32) × InTable types.now }
-    ensures { result ≡ (statements_from types.now s.now (Ok from) n).next }
+fn check_statements(r: &mut Reader, types: Types, n: u64) -> Result<(), Refusal>
+    ensures { Reads r.old r.new result (statements_from types.entry.bytes.now r.old.bytes.now (Ok r.old.at) n).next }
 {
-    let mut at = from;
     for _ in 0..n {
-        at = check_statement(s, at, types)?;
+        check_statement(r, types)?;
     }
-    Ok(at)
+    Ok(())
 }
 
-// The offset after n types.
-fn check_types(s: &[u8], from: usize, n: u64) -> Place
-    ensures { result ≡ types_from s.now (Ok from) n }
+// The types of a node's variables: a count, then a byte each.
+fn check_types<'a>(r: &mut Reader<'a>) -> Result<Types<'a>, Refusal>
+    ensures reads { Reads r.old r.new result (types_end r.old.bytes.now (Ok r.old.at)) }
+    ensures types { IfOk result (λ t. t.bytes.now ≡ node_types r.old.bytes.now (Ok r.old.at)) }
 {
-    let mut at = from;
+    let n = r.count(0, 32)?;
+    let from = r.at;
     for _ in 0..n {
-        at = sheet_field::code(s, at, expr::TYPES)?.end;
+        r.code(expr::TYPES)?;
     }
-    Ok(at)
+    let s: &'a [u8] = r.bytes;
+    let bytes = &s[from..from + n as usize];
+    Ok(Types { bytes })
 }
 
-// The offset after a count of addresses and the addresses, 8 bytes each.
-fn check_addresses(s: &[u8], from: usize) -> Place
-    ensures { result ≡ addresses_end s.now (Ok from) }
+// A count of addresses, then 8 bytes each.
+fn check_addresses(r: &mut Reader) -> Result<(), Refusal>
+    ensures { Reads r.old r.new result (addresses_end r.old.bytes.now (Ok r.old.at)) }
 {
-    let n = sheet_field::count(s, from, 0, 16)?;
-    let room = s.len() - n.end;
-    let size = 8 * (n.value as usize);
-    if size <= room {
-        Ok(n.end + size)
-    } else {
-        Err(Fault::Ends.at(n.end + room / 8 * 8))
-    }
+    let n = r.count(0, 16)?;
+    r.take_words(n)
 }
 
-// The offset after what stands behind a node's types.
-fn check_body(s: &[u8], from: usize, types: &[u8]) -> Place
-    requires { (length types.now ≤ 32) × InTable types.now }
-    ensures { result ≡ body_end types.now s.now (Ok from) }
+// A node record.
+pub fn check_node(r: &mut Reader) -> Result<(), Refusal>
+    ensures { Reads r.old r.new result (node_at r.old.bytes.now (Ok r.old.at)).next }
 {
-    let n = sheet_field::count(s, from, 0, 64)?;
-    let condition = check_statements(s, n.end, types, n.value)?;
-    let e = sheet_expression::check_expression(s, condition, types)?;
-    check_addresses(s, e.end)
-}
-
-// The offset after the node record at an offset.
-pub fn check_node(s: &[u8], at: usize) -> Place
-    ensures { result ≡ (node_at s.now (Ok at)).next }
-{
-    let n = sheet_field::count(s, at, 0, 32)?;
-    let end = check_types(s, n.end, n.value)?;
-    check_body(s, end, &s[n.end..end])
+    let types = check_types(r)?;
+    let statements = r.count(0, 64)?;
+    check_statements(r, types, statements)?;
+    sheet_expression::check_expression(r, types)?;
+    check_addresses(r)
 }
 
 // The statement at an offset where one was read whole: what it holds, with nothing checked again. The records of an assigned

@@ -36,9 +36,9 @@ returns-in-8 c =
 pub returns-in-4 : goal.returns-in-4
 unfolding record_type
 returns-in-4 c =
-    let a = c.args in rw (← c.kind.ensures, c.argument-n.ensures) (own-type a.types.now (argument_of a.tag) a.a a.b c.kind.result c.in-4.if-this-lt4-own.false c.in-4.if-this-lt7-own.true)
+    let a = c.args in rw (← c.kind.ensures, c.argument-n.ensures) (own-type a.types.now (argument_of a.tag) a.a a.b c.kind.result (omega arith) (omega arith))
 
-pub returns-in_default : goal.returns-in_default
+pub returns-in-2 : goal.returns-in-2
 unfolding record_type
-returns-in_default c =
-    let a = c.args in rw (← c.kind.ensures) (truth-type a.types.now (argument_of a.tag) a.a a.b c.kind.result (omega (arith, c.in_default.in_default-own.rest)) c.in_default.if-this-lt4-own.true)
+returns-in-2 c =
+    let a = c.args in rw (← c.kind.ensures) (truth-type a.types.now (argument_of a.tag) a.a a.b c.kind.result (omega arith) (omega arith))

@@ -1,35 +1,26 @@
-use Rattle.sheet_node.proofs.Checks.{variables-end, types-stop, types-part, part-few, part-table, node-ends}
-use Rattle.std.proofs.lemmas.Result.{err_from_is_err_and}
-use native.Mathlib.Omega.{arith}
-use mathlib.Core.Path.{sym, ◌∙◌}
+use Rattle.sheet_field.proofs.Steps.{handed}
+use Rattle.sheet_node.proofs.Checks.{types-stop, statements-count-ends, statements-stop, condition-ends, node-ends}
 use Rattle.sheet_node.proofs.check_node.Goals as goal
 
-pub returns-in_err-n : goal.returns-in_err-n
-returns-in_err-n c =
-    let e = err_from_is_err_and c.from_residual.result c.from_residual.ensures.1 in
-    rw (e.1, e.2) (variables-end _ _ (sym c.count.ensures ∙ c.in_err-n.was))
+pub returns-in_err-types : goal.returns-in_err-types
+returns-in_err-types c = handed c.from_residual.ensures.1 (types-stop _ c.in_err-types.ensures.reads)
 
-pub returns-in_err-end : goal.returns-in_err-end
-returns-in_err-end c =
-    let e = err_from_is_err_and c.from_residual-in_err-end.result c.from_residual-in_err-end.ensures.1 in
-    rw (e.1, e.2) (types-stop _ _ (sym c.count.ensures ∙ c.in_ok-n.was) (sym c.check_types.ensures ∙ c.in_err-end.was))
+pub returns-in_err-statements : goal.returns-in_err-statements
+returns-in_err-statements c =
+    let types = c.in_ok-types.ensures in
+    handed c.from_residual-in_err-statements.ensures.1 (statements-count-ends _ types.reads types.types c.in_err-statements.ensures.reads)
 
-pub slice_bounds-check_body-count : goal.slice_bounds-check_body-count
-slice_bounds-check_body-count c =
-    omega (arith, (types-part _ _ (sym c.count.ensures ∙ c.in_ok-n.was) (sym c.check_types.ensures ∙ c.in_ok-end.was)).0)
+pub returns-in_err-check_statements : goal.returns-in_err-check_statements
+returns-in_err-check_statements c =
+    let types = c.in_ok-types.ensures in let n = c.in_ok-statements.ensures in
+    handed c.from_residual-in_err-check_statements.ensures.1 (statements-stop _ types.reads types.types n.reads n.value c.in_err-check_statements.ensures)
 
-pub slice_bounds-check_body-start : goal.slice_bounds-check_body-start
-slice_bounds-check_body-start c =
-    omega (arith, (types-part _ _ (sym c.count.ensures ∙ c.in_ok-n.was) (sym c.check_types.ensures ∙ c.in_ok-end.was)).0)
-
-pub slice_bounds-check_body-end : goal.slice_bounds-check_body-end
-slice_bounds-check_body-end c =
-    (types-part _ _ (sym c.count.ensures ∙ c.in_ok-n.was) (sym c.check_types.ensures ∙ c.in_ok-end.was)).1
-
-pub check_body-requires : goal.check_body-requires
-check_body-requires c =
-    (part-few _ _ (sym c.count.ensures ∙ c.in_ok-n.was) (sym c.check_types.ensures ∙ c.in_ok-end.was), part-table _ _ (sym c.count.ensures ∙ c.in_ok-n.was) (sym c.check_types.ensures ∙ c.in_ok-end.was))
+pub returns-in_err-check_expression : goal.returns-in_err-check_expression
+returns-in_err-check_expression c =
+    let types = c.in_ok-types.ensures in let n = c.in_ok-statements.ensures in
+    handed c.from_residual-in_err-check_expression.ensures.1 (condition-ends _ types.reads types.types n.reads n.value c.in_ok-check_statements.ensures c.in_err-check_expression.ensures.reads)
 
 pub returns : goal.returns
 returns c =
-    c.check_body.ensures ∙ node-ends _ _ (sym c.count.ensures ∙ c.in_ok-n.was) (sym c.check_types.ensures ∙ c.in_ok-end.was)
+    let types = c.in_ok-types.ensures in let n = c.in_ok-statements.ensures in
+    node-ends _ types.reads types.types n.reads n.value c.in_ok-check_statements.ensures c.in_ok-check_expression.ensures.reads c.check_addresses.ensures
