@@ -1,6 +1,6 @@
 -- Numbers of 8 bytes each, one after the other: where a sheet has all their bytes, and where it ends before.
 use Prim.Native.Nat.{ℕ, zero, suc, ◌+◌, ◌-◌, ◌*◌, ◌/◌, ◌≤◌, ◌<◌}
-use mathlib.Core.Path.{◌≡◌, refl, sym, ap, ◌∙◌}
+use mathlib.Core.Path.{◌≡◌, refl, ap, ◌∙◌}
 use mathlib.Core.List.{List}
 use native.Mathlib.Omega.{arith}
 use lib.ListN.{length}
@@ -8,7 +8,7 @@ use Rattle.std.specs.Prelude.{Ok, Err}
 use Rattle.refusal.specs.declared.Fault.TheVariants.{Ends}
 use Rattle.refusal.specs.declared.Refusal.{Refusal}
 use Rattle.refusal.specs.Numbers.{refused}
-use Rattle.sheet_field.specs.Field.{Place, FieldReading, field_at, words_from}
+use Rattle.sheet_field.specs.Field.{Place, field_at, words_from}
 use Rattle.sheet_field.proofs.Fields.{field-whole, field_cut}
 use Rattle.sheet_field.proofs.Counted.{stays}
 

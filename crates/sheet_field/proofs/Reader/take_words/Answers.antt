@@ -1,4 +1,4 @@
-use Rattle.std.proofs.Common.{refl, sym, ◌*◌, arith}
+use Rattle.std.proofs.Common.{refl, sym, arith}
 use Rattle.sheet_field.proofs.Words.{words-whole, words-cut}
 use Rattle.sheet_field.proofs.Reader.take_words.Goals as goal
 
