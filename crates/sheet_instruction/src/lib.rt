@@ -4,7 +4,7 @@
 
 ghost use Rattle.std.specs.Prelude.{◌≡◌, ◌+◌, ◌≤◌, length, Ok, IfOk, is_none, unwrap_or};
 ghost use Rattle.sheet_field.specs.Reads.{Reads};
-ghost use Rattle.sheet_instruction.specs.Instruction.{register_at, operand_at, registers_at, optional_registers, optional_operand, bit_of, map_ok, map_at, address_at, head_at, tail_at, instruction_at};
+ghost use Rattle.sheet_instruction.specs.Instruction.{register_at, operand_at, registers_at, bit_of, map_ok, map_at, address_at, head_at, tail_at, instruction_at};
 ghost use Rattle.sheet_instruction.specs.MapBit.{unit_of};
 ghost use Rattle.sheet_instruction.specs.Promises.{head_of, tail_of};
 
