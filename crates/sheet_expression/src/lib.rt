@@ -14,7 +14,6 @@ use sheet_field::Field;
 use stack::Stack;
 
 mod stack;
-
 pub mod words;
 
 fn has_argument(kind: u64) -> bool

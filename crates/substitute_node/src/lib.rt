@@ -53,7 +53,8 @@ impl<const N: usize> Room<N> {
             return Some(());
         };
         self.idle = false;
-        self.held.take_assignment(a.variable, a.value, &mut self.out)
+        self.held
+            .take_assignment(a.variable, a.value, &mut self.out)
     }
 
     // The next n statements, which were read whole, with nothing held before them; none where a substituted value is too long.

@@ -36,11 +36,7 @@ fn answer_on(condition: Tree, place: usize) -> Answer
 }
 
 // The answer for a condition that ends where the reader is, with the addresses behind it.
-fn judge<'a>(
-    r: &mut Reader<'a>,
-    condition: Tree,
-    place: usize,
-) -> Result<JudgedNode<'a>, Refusal>
+fn judge<'a>(r: &mut Reader<'a>, condition: Tree, place: usize) -> Result<JudgedNode<'a>, Refusal>
     requires few { length condition.words.now ≤ 256 }
     requires there { WentOn (addresses_end r.old.bytes.now (Ok r.old.at)) }
     ensures answer { answer_in result ≡ on_substituted place (into (tree_of condition.entry.words.now)) }

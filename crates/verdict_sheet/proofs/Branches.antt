@@ -160,12 +160,12 @@ module _ (s : List ℕ) (sites n : ℕ) {all : List ℕ} (all-is : all ≡ take 
         let k : ℕ = h.passed in
         let below : k < n = omega (arith, few, h.long, h.eight, r-long, ap length h.parts, ap length rest-is, length-append h.before rest, length-append r after) in
         let byte : (i : ℕ) → i < 8 → get_or r i 0 ≡ get_or s (sites + 8 * k + i) 0 = λ i lt.
-            let place : sites + (8 * k + i) ≡ sites + 8 * k + i = omega arith in
-            sym (get_or_append_left r after 0 i (omega (arith, r-long, h.eight)))
-            ∙ ap (λ (l : List ℕ). get_or l i 0) (sym rest-is)
-            ∙ sym (get_or-append-add h.before rest i 0)
-            ∙ ap (λ (l : List ℕ). get_or l (length h.before + i) 0) (sym h.parts)
-            ∙ rw (h.long, all-is) (get_or-take (8 * n) (drop sites s) (8 * k + i) 0 (omega arith) ∙ get_or-drop sites s (8 * k + i) 0 ∙ ap (λ (j : ℕ). get_or s j 0) place) in
+        let place : sites + (8 * k + i) ≡ sites + 8 * k + i = omega arith in
+        sym (get_or_append_left r after 0 i (omega (arith, r-long, h.eight)))
+        ∙ ap (λ (l : List ℕ). get_or l i 0) (sym rest-is)
+        ∙ sym (get_or-append-add h.before rest i 0)
+        ∙ ap (λ (l : List ℕ). get_or l (length h.before + i) 0) (sym h.parts)
+        ∙ rw (h.long, all-is) (get_or-take (8 * n) (drop sites s) (8 * k + i) 0 (omega arith) ∙ get_or-drop sites s (8 * k + i) 0 ∙ ap (λ (j : ℕ). get_or s j 0) place) in
         let there : address ≡ little s (sites + 8 * k) 8 = address-is ∙ little-same r s 8 0 (sites + 8 * k) (λ i lt. rw zero-add (byte i lt)) in
         record {
           passed = k + 1;

@@ -4,9 +4,13 @@ use Rattle.verdict_node.proofs.verdict_among.Goals as goal
 
 pub substitute-requires : goal.substitute-requires
 substitute-requires g c =
-    let n = c.args.node.now in let these = c.types-types.ensures in let r = c.new-r.ensures in
-    (search rules, (λ _. types-few n.bytes.now n.at n.read n.front_is these c.requires.few,
-    (rw (r.bytes, r.at) (these-statements n.bytes.now n.at n.read n.front_is these), rw (r.bytes, r.at) (this-condition n.bytes.now n.at n.read n.front_is these))))
+    let n = c.args.node.now in let these = c.types-types.ensures in let r = c.new-r.ensures in (
+      search rules,
+      (
+        λ _. types-few n.bytes.now n.at n.read n.front_is these c.requires.few,
+        (rw (r.bytes, r.at) (these-statements n.bytes.now n.at n.read n.front_is these), rw (r.bytes, r.at) (this-condition n.bytes.now n.at n.read n.front_is these)),
+      ),
+    )
 
 pub judge-requires-clause-there : goal.judge-requires-clause-there
 judge-requires-clause-there g c =

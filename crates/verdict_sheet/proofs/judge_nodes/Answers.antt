@@ -45,9 +45,11 @@ loop-node-preserved c =
     let code = c.args.code.now in
     let s = code.bytes.now in
     let whole = stands-whole _ _ code.accepted _ c.requires.nodes_value c.loop-node-test.true in
-    let judged = rw (c.new.ensures.bytes, c.new.ensures.at) at c.in_ok-judged.ensures in
-    (c.keep_at.auto.slots ∙ c.loop-node.invariant.0, λ blocks given. node-kept code c.loop-node.node-index c.requires.nodes_value c.loop-node-test.true blocks c.loop-node.slots (c.loop-node.invariant.1 blocks given) _ judged c.node_jump-jump.result
-    (node-jump s _ whole (sheet_at s).instructions.list c.node_jump-jump.result judged.addresses c.node_jump-jump.ensures) c.keep_at.ensures)
+    let judged = rw (c.new.ensures.bytes, c.new.ensures.at) at c.in_ok-judged.ensures in (
+      c.keep_at.auto.slots ∙ c.loop-node.invariant.0,
+      λ blocks given. node-kept code c.loop-node.node-index c.requires.nodes_value c.loop-node-test.true blocks c.loop-node.slots (c.loop-node.invariant.1 blocks given) _ judged c.node_jump-jump.result
+          (node-jump s _ whole (sheet_at s).instructions.list c.node_jump-jump.result judged.addresses c.node_jump-jump.ensures) c.keep_at.ensures,
+    )
 
 pub returns : goal.returns
 returns c =
