@@ -126,9 +126,9 @@ impl<'a> Reader<'a> {
         ensures same { self.new.bytes.now ≡ self.old.bytes.now }
         ensures at { self.new.at ≡ self.old.at + N }
     {
-        let at = self.at;
-        self.at = at + N;
-        bounded::<N>(self.bytes, at)
+        let from = self.at;
+        self.at = from + N;
+        bounded::<N>(self.bytes, from)
     }
 
     // A field of N bytes that passes the check.
