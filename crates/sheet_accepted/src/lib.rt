@@ -137,7 +137,7 @@ impl Record<'_> {
     }
 
     #[tactic(auto, using(crate::proofs::Records::record_inside, crate::proofs::Records::address_here))]
-    pub fn address(&self) -> u64
+    fn address(&self) -> u64
         ensures { result ≡ (recorded self.now.bytes.now self.now.at).address }
     {
         sheet_field::number::<8>(self.bytes, self.at + 1)

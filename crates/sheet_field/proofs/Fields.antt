@@ -8,16 +8,14 @@ use native.Mathlib.Nat.{add-zero, zero-add, add-suc, suc-add, pow-suc}
 use borrow.Author.Tests.{le-leb, lt-leb}
 use mathlib.Core.Bool.{Bool, true, false}
 use lib.Dec.{leb}
-use Rattle.std.specs.Prelude.{cond}
 use borrow.Author.Tests.{leb-true, ltb-true}
-use Rattle.sheet_field.specs.Field.{Place, FieldReading, little, field_at, check_field, count_at, judge, keep, start_of, code_at, WentOn, read_as, answer_of}
+use Rattle.sheet_field.specs.Field.{Place, FieldReading, little, field_at, check_field, count_at, judge, keep, start_of, code_at, WentOn, read_as}
 use Rattle.std.specs.Prelude.{Ok, Err, IsOk}
 use Rattle.std.specs.Int.{from_le_bytes, w64}
 use Rattle.refusal.specs.declared.Fault.{Fault}
 use Rattle.refusal.specs.declared.Fault.TheVariants.{Ends, Code, Count}
 use Rattle.refusal.specs.declared.Refusal.{Refusal}
 use Rattle.refusal.specs.Numbers.{refused}
-use Rattle.sheet_field.specs.declared.Field.{Field}
 use Rattle.laws.proofs.Booleans.{and_left, and_right}
 
 pub little-one : (s : List ℕ) (at : ℕ) → little s at 1 ≡ get_or s at 0
@@ -144,32 +142,6 @@ read_ok (Err r) made e = absurd cc
 pub read_err : {A : Type 0} (p : Place) (made : ℕ → A) {r : Refusal} → read_as p made ≡ Err r → p ≡ Err r
 read_err (Ok b) made e = absurd cc
 read_err (Err r) made e = cc
-
-abbrev the-field : ℕ → ℕ → Field
-the-field v b = record { value = v; end = b }
-
-pub answer_ok : (f : FieldReading) {x : Field} → answer_of f ≡ Ok x → f ≡ record { value = x.value; next = Ok x.end }
-answer_ok f {x} e =
-    let t = read_ok f.next (λ (b : ℕ). the-field f.value b) e in
-    rw t.2 (rw (← t.1) refl)
-
-pub answer_err : (f : FieldReading) {r : Refusal} → answer_of f ≡ Err r → f.next ≡ Err r
-answer_err f e = read_err f.next (λ (b : ℕ). the-field f.value b) e
-
--- a checked field as a reader returns it, where the field was read and where it was refused
-pub checked_ok : (ok : ℕ → Bool) (fault : Fault) (at : ℕ) (f : FieldReading) {x : Field} → answer_of f ≡ Ok x
-    → answer_of (check_field (ok f.value) fault at f) ≡ cond (ok x.value) (Ok x) (Err (refused fault at))
-unfolding check_field
-checked_ok ok fault at f {x} e = rw (answer_ok f e) (by-test (ok x.value))
-  where
-    by-test : (t : Bool) → answer_of (check_field t fault at (record { value = x.value; next = Ok x.end })) ≡ cond t (Ok x) (Err (refused fault at))
-    by-test true = refl
-    by-test false = refl
-
-pub checked_err : (ok : Bool) (fault : Fault) (at : ℕ) (f : FieldReading) {r : Refusal} → answer_of f ≡ Err r
-    → answer_of (check_field ok fault at f) ≡ Err r
-unfolding check_field
-checked_err ok fault at f e = rw (answer_err f e) refl
 
 -- a code: where it stood, and that it is in its table
 pub record WholeCode (limit : ℕ) (s : List ℕ) (p : Place) (a : ℕ) : Type 0 where

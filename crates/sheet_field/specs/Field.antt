@@ -4,7 +4,6 @@ use Rattle.refusal.specs.declared.Fault.{Fault}
 use Rattle.refusal.specs.declared.Fault.TheVariants.{Ends, Code, Count}
 use Rattle.refusal.specs.declared.Refusal.{Refusal}
 use Rattle.refusal.specs.Numbers.{refused}
-use Rattle.sheet_field.specs.declared.Field.{Field}
 
 -- where reading has come to: the next byte's offset, or the first refusal
 abbrev pub Place : Type 0
@@ -82,7 +81,3 @@ words_from s p (suc k) = (field_at 8 s (words_from s p k)).next
 abbrev pub read_as : {A : Type 0} → Place → (ℕ → A) → Result A Refusal
 read_as (Ok end) made = Ok (made end)
 read_as (Err r) made = Err r
-
--- a field as a reader returns it
-abbrev pub answer_of : FieldReading → Result Field Refusal
-answer_of f = read_as f.next (λ end. record { value = f.value; end = end })

@@ -3,7 +3,7 @@
 #![tactic(auto)]
 
 ghost use Rattle.std.specs.Prelude.{◌≡◌, ◌+◌, ◌≤◌, length, Ok, ℕ, Bool, IfOk, ◌^◌, ◌<◌};
-ghost use Rattle.sheet_field.specs.Field.{little, field_at, Answers, tested_at, code_at, count_at, words_from, answer_of};
+ghost use Rattle.sheet_field.specs.Field.{little, field_at, Answers, tested_at, code_at, count_at, words_from};
 ghost use Rattle.sheet_field.specs.Reads.{Reads};
 
 use refusal::{Fault, Refusal};
@@ -37,54 +37,6 @@ pub fn number<const N: usize>(s: &[u8], at: usize) -> u64
     ensures { result ≡ little s.now at N }
 {
     bounded::<N>(s, at)
-}
-
-// A field of N bytes.
-pub fn take_field<const N: usize>(s: &[u8], at: usize) -> Result<Field, Refusal>
-    requires { N ≤ 8 }
-    ensures { result ≡ answer_of (field_at N s.now (Ok at)) }
-{
-    if at <= s.len() && N <= s.len() - at {
-        Ok(Field {
-            value: number::<N>(s, at),
-            end: at + N,
-        })
-    } else {
-        Err(Fault::Ends.at(at))
-    }
-}
-
-// A field of N bytes that passes the check.
-pub fn take_checked<const N: usize, F: Fn(u64) -> bool>(
-    s: &[u8],
-    at: usize,
-    fault: Fault,
-    check: F,
-) -> Result<Field, Refusal>
-    requires width { N ≤ 8 }
-    requires callable { F.IsAlwaysCallable check }
-    ensures { (test : ℕ → Bool) → Answers (F.post check) test → result ≡ answer_of (tested_at N test fault s.now (Ok at)) }
-{
-    let f = take_field::<N>(s, at)?;
-    if check(f.value) {
-        Ok(f)
-    } else {
-        Err(fault.at(at))
-    }
-}
-
-// A code byte below its table's end.
-pub fn code(s: &[u8], at: usize, limit: u64) -> Result<Field, Refusal>
-    ensures { result ≡ answer_of (code_at limit s.now (Ok at)) }
-{
-    take_checked::<1, _>(s, at, Fault::Code, |x| x < limit)
-}
-
-// A count from least to most.
-pub fn count(s: &[u8], at: usize, least: u64, most: u64) -> Result<Field, Refusal>
-    ensures { result ≡ answer_of (count_at least most s.now (Ok at)) }
-{
-    take_checked::<2, _>(s, at, Fault::Count, |x| (least <= x) & (x <= most))
 }
 
 // The bytes of a sheet, and the offset that reading has come to. After a refusal that offset means nothing.

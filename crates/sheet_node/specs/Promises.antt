@@ -2,7 +2,6 @@
 use Rattle.std.specs.Prelude.{ℕ, ◌≤◌, ◌≡◌, List, true, false, length, Option, Some, None, Ok}
 use Rattle.sheet_field.specs.Field.{Place, WentOn, start_of, count_at}
 use Rattle.sheet_node.specs.Node.{StatementRead, statement_at, types_from, types_of, statements_from, addresses_from, NodeReading, node_at}
-use Rattle.sheet_expression.specs.Expression.{expression_at}
 use Rattle.sheet_node.specs.declared.node.Assignment.{Assignment}
 use Rattle.sheet_node.specs.declared.node.NodeFront.{NodeFront}
 use Rattle.sheet_node.specs.declared.node.NodeParts.{NodeParts}
