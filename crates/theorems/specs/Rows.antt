@@ -1,5 +1,5 @@
 -- The marked rows of the scope document's table: what the definitions answer, as one table.
-use Rattle.std.specs.Prelude.{ℕ, ◌≡◌, refl, List, [], ◌∷◌, true, false, Some, None}
+use Rattle.std.specs.Prelude.{ℕ, ◌≡◌, refl, List, [], ◌∷◌, false, Some, None}
 use Rattle.expr.specs.Codes.{unsigned32, op_add, op_mul, op_mod, op_and, op_shl, op_equal}
 use Rattle.expr.specs.Tree.{Expr}
 use Rattle.expr.specs.Tree.Expr.{variable, constant, effect, binary}
