@@ -29,7 +29,7 @@ pub number-named : (k : ℕ) → k < 35 → number_of (named k) ≡ k
 unfolding named table
 number-named k small = row 0 table numbered k small ∙ zero-add k
 
--- A mnemonic's number names it, and is a number of the table.
+-- A mnemonic's number names it.
 pub named-number : (m : Mnemonic) → named (number_of m) ≡ m
 unfolding number_of named table
 named-number m = grind arith

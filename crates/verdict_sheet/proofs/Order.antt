@@ -38,9 +38,6 @@ module _ (s : List ℕ) (code : List Instruction) where
   unfolding blocks_say
   blocks_more k is = rw (add-one k) is
 
-  pub blocks-done : {k n : ℕ} {slots : List ℕ} → k ≡ n → slots ≡ slots_of code (blocks_say s k) → slots ≡ slots_of code (blocks_say s n)
-  blocks-done whole is = rw (← whole) is
-
 -- the node of that number, where it stands
 module _ (s : List ℕ) (sheet : Sheet) (read : reading_of s ≡ Ok sheet) (number : ℕ) {nodes : List ℕ} (places : nodes ≡ (sheet_at s).nodes.places)
     (there : number < length nodes) where
