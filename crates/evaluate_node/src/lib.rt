@@ -53,8 +53,7 @@ impl<'a> Run<'a> {
     {
         let mut start = [0; 32];
         if fits {
-            let n = types.len();
-            start[..n].copy_from_slice(&values[..n]);
+            slice::copy_to(&values[..types.len()], &mut start, 0);
         }
         Run {
             types,
