@@ -72,6 +72,7 @@ fn put_entries(list: &[u8], count: usize, out: &mut Writer)
     requires lines_in_bounds { out.old.at + 45 * count ≤ length out.old.out.now }
     ensures { Puts out.old out.new (entries_text list.now 0 count) }
 {
+    // by the offsets that the text is defined with: for chunks of 18 bytes it would have to be said again, by what is left of the list
     for i in 0..count {
         put_entry(list, 18 * i, out);
     }

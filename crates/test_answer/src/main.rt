@@ -90,47 +90,27 @@ fn say_sentence(output: &impl Print, s: &[u8], number: u64, past: bool) -> Resul
     }
 }
 
-// The records' name, and what is said of each of them and of the one past the last, which `say` is told.
-fn say_all<F: Fn(u64, bool) -> Result<(), Early>>(
+// The records' name, and what is said of each of them and of the one past the last; `say` is told which of the two it is.
+fn say_records<C: Fn(Sheet) -> u64, F: Fn(u64, bool) -> Result<(), Early>>(
     output: &impl Print,
+    s: &[u8],
     name: &[u8],
-    n: u64,
+    count: C,
     say: F,
 ) -> Result<(), Early>
-    requires { F.IsAlwaysCallable say }
+    requires counts { C.IsAlwaysCallable count }
+    requires says { F.IsAlwaysCallable say }
 {
+    let sheet = match sheet::read(s) {
+        Ok(sheet) => sheet,
+        Err(r) => return refused(output, r),
+    };
     test_io::word(output, name)?;
+    let n = count(sheet);
     for i in 0..n {
         say(i, false)?;
     }
     say(n, true)
-}
-
-fn say_blocks(output: &impl Print, s: &[u8]) -> Result<(), Early> {
-    match sheet::read(s) {
-        Ok(sheet) => say_all(output, b"blocks", sheet.blocks.count, |i, past| {
-            say_answer(output, answer_block::block_verdict(s, i), past)
-        }),
-        Err(r) => refused(output, r),
-    }
-}
-
-fn say_nodes(output: &impl Print, s: &[u8]) -> Result<(), Early> {
-    match sheet::read(s) {
-        Ok(sheet) => say_all(output, b"nodes", sheet.nodes.count, |i, past| {
-            say_answer(output, answer_node::node_verdict(s, i), past)
-        }),
-        Err(r) => refused(output, r),
-    }
-}
-
-fn say_sentences(output: &impl Print, s: &[u8]) -> Result<(), Early> {
-    match sheet::read(s) {
-        Ok(sheet) => say_all(output, b"sentences", sheet.blocks.count, |i, past| {
-            say_sentence(output, s, i, past)
-        }),
-        Err(r) => refused(output, r),
-    }
 }
 
 // Commas stand between the evaluations of one line.
@@ -211,10 +191,28 @@ fn answer(output: &impl Print, frame: &[u8], values: &mut [u64]) -> Result<(), E
     // the numbers that the comment at the head gives, matched here alone: an enum of them would be one more list of the same
     match *operation {
         0 => say_reading(output, s)?,
-        1 => say_blocks(output, s)?,
+        1 => say_records(
+            output,
+            s,
+            b"blocks",
+            |sheet| sheet.blocks.count,
+            |i, past| say_answer(output, answer_block::block_verdict(s, i), past),
+        )?,
         2 => answer_evaluation(output, s, values)?,
-        3 => say_nodes(output, s)?,
-        4 => say_sentences(output, s)?,
+        3 => say_records(
+            output,
+            s,
+            b"nodes",
+            |sheet| sheet.nodes.count,
+            |i, past| say_answer(output, answer_node::node_verdict(s, i), past),
+        )?,
+        4 => say_records(
+            output,
+            s,
+            b"sentences",
+            |sheet| sheet.blocks.count,
+            |i, past| say_sentence(output, s, i, past),
+        )?,
         _ => return Err(Early::NoOperation),
     }
     test_io::word(output, b"\n")
