@@ -189,10 +189,7 @@ fn is_unsigned(t: u64) -> bool
 fn unsigned_cast(part: Tree) -> bool
     ensures { result ≡ unsigned_cast (tree_of part.entry.words.now) }
 {
-    match part.root() {
-        Root::Cast => is_unsigned(part.argument()),
-        _ => false,
-    }
+    part.root() == Root::Cast && is_unsigned(part.argument())
 }
 
 // An unsigned or pointer cast against the constant 0, on either side.

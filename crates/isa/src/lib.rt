@@ -222,10 +222,8 @@ fn is_taken(m: Mnemonic, register: bool, alone: bool) -> bool
 {
     match m {
         Mnemonic::Carry(_) => true,
-        Mnemonic::Mov => register & !alone,
-        Mnemonic::Not => register & alone,
-        Mnemonic::TwoOperand(_) => register & !alone,
-        Mnemonic::OneOperand(_) => register & alone,
+        Mnemonic::Mov | Mnemonic::TwoOperand(_) => register & !alone,
+        Mnemonic::Not | Mnemonic::OneOperand(_) => register & alone,
         Mnemonic::Other | Mnemonic::Jump(_) | Mnemonic::CountJump(_) => false,
     }
 }
@@ -240,10 +238,7 @@ pub fn is_modelled(i: Instruction) -> bool
 fn sizes_differ(a: Operand, b: Operand) -> bool
     ensures { result ≡ sizes_differ a b }
 {
-    match (a, b) {
-        (Operand::Reg(x), Operand::Reg(y)) => x.class == 1 && y.class == 1 && x.size != y.size,
-        _ => false,
-    }
+    matches!((a, b), (Operand::Reg(x), Operand::Reg(y)) if x.class == 1 && y.class == 1 && x.size != y.size)
 }
 
 fn is_outside(o: Operand) -> bool

@@ -306,16 +306,13 @@ pub fn unknown_carry(op: Unary, cf: Option<bool>) -> Option<bool>
 pub fn unary_effect(op: Unary, size: Option<Width>, cf: Option<bool>, a: u64) -> Effect
     ensures { result ≡ unary_effect op size cf a }
 {
-    match size {
-        Some(w) => {
-            let o = perform_alone(op, w, a);
-            Effect {
-                value: Some(o.value),
-                flags: keep_carry(op, cf, o.flags),
-            }
+    size.map_or(nothing_left(), |w| {
+        let o = perform_alone(op, w, a);
+        Effect {
+            value: Some(o.value),
+            flags: keep_carry(op, cf, o.flags),
         }
-        None => nothing_left(),
-    }
+    })
 }
 
 fn forget_flag(declared: bool, f: Option<bool>) -> Option<bool>

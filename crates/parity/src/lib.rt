@@ -40,10 +40,7 @@ pub enum Entry {
 pub fn constant_of(part: Tree) -> Option<u64>
     ensures { result ≡ constant_of (tree_of part.entry.words.now) }
 {
-    match part.root() {
-        Root::Constant => Some(part.value()),
-        _ => None,
-    }
+    (part.root() == Root::Constant).then_some(part.value())
 }
 
 fn on_remainder(c: Option<u64>) -> Entry

@@ -191,7 +191,7 @@ fn operated(operator: u64, left: TypedValue, right: TypedValue) -> TypedValue
 fn is_logic(operator: u64) -> bool
     ensures { result ≡ is_logic_of operator }
 {
-    (operator == expr::LOGICAL_AND) | (operator == expr::LOGICAL_OR)
+    matches!(operator, expr::LOGICAL_AND | expr::LOGICAL_OR)
 }
 
 // The value given for the variable of this number; 0 where none is given.

@@ -60,10 +60,7 @@ pub fn name(register: Register) -> &'static [u8]
     if register.offset == 8 {
         return named(&HIGH_BYTES, register.index);
     }
-    match alu::width_of(register.size) {
-        Some(width) => low_name(width, register.index),
-        None => b"",
-    }
+    alu::width_of(register.size).map_or(b"", |width| low_name(width, register.index))
 }
 
 // An instruction's name.
