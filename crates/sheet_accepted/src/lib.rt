@@ -66,7 +66,11 @@ fn take_operand_if(r: &mut Reader, there: bool) -> Operand
     ensures same { r.new.bytes.now ≡ r.old.bytes.now }
     ensures place { Ok r.new.at ≡ (optional_operand there r.old.bytes.now (Ok r.old.at)).next }
 {
-    if there { take_operand(r) } else { Operand::Absent }
+    if there {
+        take_operand(r)
+    } else {
+        Operand::Absent
+    }
 }
 
 fn take_registers(r: &mut Reader, n: u64) -> [Register; 8]
