@@ -4,7 +4,8 @@ use mathlib.Core.Path.{◌≡◌, refl, ap, sym, ◌∙◌}
 use mathlib.Core.List.{List}
 use mathlib.Core.Bool.{Bool, true, false, false≢true}
 use native.Mathlib.Omega.{arith}
-use lib.ListN.{length}
+use lib.ListN.{length, take, replicate}
+use lib.Seq.{length-take-le}
 use Rattle.isa.specs.declared.Register.{Register}
 use Rattle.isa.specs.declared.Operand.{Operand}
 use Rattle.isa.specs.declared.Operand.TheVariants.{Reg, Imm, Mem}
@@ -71,6 +72,13 @@ module _ (s : List ℕ) (at : ℕ) (on : WentOn (operand_at s (Ok at)).next) whe
 
 pub registers_inside : (s : List ℕ) (at n k : ℕ) → WentOn (registers_from s (Ok at) n).next → k < n → at + 4 * k + 4 ≤ length s
 registers_inside s at n k on less = register-inside s at n on k less
+
+-- room for the registers, and how many its first n are
+abbrev room : List Register
+room = replicate 8 (record { class = 0; index = 0; size = 0; offset = 0 })
+
+pub room_taken : (n : ℕ) → n ≤ 8 → length (take n room) ≡ n
+room_taken n few = length-take-le n room few
 
 -- optional fields
 optional-code-is : (there : Bool) (s : List ℕ) (a : ℕ) {b : ℕ} → (optional_code there 32 s (Ok a)).next ≡ Ok b

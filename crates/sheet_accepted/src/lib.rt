@@ -23,7 +23,6 @@ struct Content {
 }
 
 // The number in the next N bytes, or 0 where the record has none.
-// Not by `then`: the closure of a generic function would have to say again what `take_number` asks.
 fn take_number_if<const N: usize>(r: &mut Reader, there: bool) -> u64
     requires width { N ≤ 8 }
     requires inside { there ≡ true → r.old.at + N ≤ length r.old.bytes.now }
@@ -86,9 +85,8 @@ fn take_registers(r: &mut Reader, n: u64) -> [Register; 8]
         size: 0,
         offset: 0,
     }; 8];
-    // By index: of what is written through `iter_mut` under `zip` a proof learns nothing.
-    for i in 0..n as usize {
-        list[i] = take_register(r);
+    for slot in &mut list[..n as usize] {
+        *slot = take_register(r);
     }
     list
 }
