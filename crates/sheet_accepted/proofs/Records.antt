@@ -1,11 +1,11 @@
 -- A record that was read whole, from its parts at plain offsets.
-use Prim.Native.Nat.{ℕ, zero, suc, ◌+◌, ◌*◌, ◌≤◌, ◌<◌}
+use Prim.Native.Nat.{ℕ, ◌+◌, ◌*◌, ◌≤◌, ◌<◌}
 use mathlib.Core.Path.{◌≡◌, refl, ap, sym, ◌∙◌}
 use mathlib.Core.List.{List}
 use mathlib.Core.Bool.{Bool, true, false, false≢true}
-use mathlib.Core.Logic.{◌⊎◌, inl, inr}
 use native.Mathlib.Omega.{arith}
-use lib.ListN.{length, get_or}
+use lib.ListN.{length, take, replicate}
+use lib.Seq.{length-take-le}
 use Rattle.isa.specs.declared.Register.{Register}
 use Rattle.isa.specs.declared.Operand.{Operand}
 use Rattle.isa.specs.declared.Operand.TheVariants.{Reg, Imm, Mem}
@@ -14,16 +14,15 @@ use Rattle.isa.specs.declared.Instruction.{Instruction}
 use Rattle.isa.specs.Mnemonics.{named}
 use Rattle.std.specs.Prelude.{Ok, Err, IsOk, Option, Some, None, is_some, IfSome}
 use Rattle.std.specs.Bool.{then_some}
-use Rattle.sheet_field.specs.declared.Field.{Field}
 use Rattle.sheet_field.specs.Field.{FieldReading, Place, little, code_at, count_at, WentOn}
 use Rattle.sheet_instruction.specs.Instruction.{OperandReading, register_at, operand_at, registers_from, registers_at, optional_registers, optional_operand, optional_field, optional_code, bit_of, map_at, address_at, head_at, tail_at, instruction_at}
+use Rattle.sheet_field.proofs.Fields.{little-one}
 use Rattle.sheet_instruction.specs.Promises.{operands_at}
 use Rattle.sheet_instruction.proofs.Instructions.{registers-count}
 use Rattle.sheet_instruction.proofs.Accepted.{registers-from-on, tail-on, head-on, behind-on, TailOn, HeadOn}
-use Rattle.sheet_accepted.specs.declared.Part.{Part}
 use Rattle.sheet_accepted.specs.declared.Content.{Content}
 use Rattle.sheet_accepted.specs.Record.{WasRead, recorded}
-use Rattle.sheet_accepted.specs.Promises.{number_if, content_at}
+use Rattle.sheet_accepted.specs.Promises.{number_if, behind_if, content_at}
 use Rattle.sheet_instruction.proofs.Stages.{check-is, field_is, code_is, count-is, registers-place, register-inside, operand-inside, register-operand, immediate-operand, memory-operand}
 
 went-on : (p : Place) → IsOk p → WentOn p
@@ -32,42 +31,58 @@ went-on (Err r) e = absurd (false≢true e)
 
 -- an operand, by its code
 module _ (s : List ℕ) (at : ℕ) (on : WentOn (operand_at s (Ok at)).next) where
-  pub code_inside : at < length s
-  code_inside = omega (arith, operand-inside s at on)
+  pub code_inside : at + 1 ≤ length s
+  code_inside = operand-inside s at on
 
-  module _ (z : get_or s at 0 ≡ 0) where
-    pub register_inside : at + 5 ≤ length s
-    register_inside = (register-operand s at on z).0
+  module _ (z : little s at 1 ≡ 0) where
+    register : (at + 5 ≤ length s) × (operand_at s (Ok at) ≡ record { operand = Reg (register_at s (Ok (at + 1))).register; next = Ok (at + 5) })
+    register = register-operand s at on (sym (little-one s at) ∙ z)
+
+    pub register_inside : at + 1 + 4 ≤ length s
+    register_inside = omega (arith, register.0)
 
     pub register_is : (operand_at s (Ok at)).operand ≡ Reg (register_at s (Ok (at + 1))).register
-    register_is = ap (λ (o : OperandReading). o.operand) (register-operand s at on z).1
+    register_is = ap (λ (o : OperandReading). o.operand) register.1
 
-    pub register_end : Ok (at + 5) ≡ (operand_at s (Ok at)).next
-    register_end = sym (ap (λ (o : OperandReading). o.next) (register-operand s at on z).1)
+    pub register_end : Ok (at + 1 + 4) ≡ (operand_at s (Ok at)).next
+    register_end = let e : at + 1 + 4 ≡ at + 5 = omega arith in rw e (sym (ap (λ (o : OperandReading). o.next) register.1))
 
-  module _ (z : get_or s at 0 ≡ 1) where
-    pub immediate_inside : at + 9 ≤ length s
-    immediate_inside = (immediate-operand s at on z).0
+  module _ (z : little s at 1 ≡ 1) where
+    immediate : (at + 9 ≤ length s) × (operand_at s (Ok at) ≡ record { operand = Imm (little s (at + 1) 8); next = Ok (at + 9) })
+    immediate = immediate-operand s at on (sym (little-one s at) ∙ z)
+
+    pub immediate_inside : at + 1 + 8 ≤ length s
+    immediate_inside = omega (arith, immediate.0)
 
     pub immediate_is : (operand_at s (Ok at)).operand ≡ Imm (little s (at + 1) 8)
-    immediate_is = ap (λ (o : OperandReading). o.operand) (immediate-operand s at on z).1
+    immediate_is = ap (λ (o : OperandReading). o.operand) immediate.1
 
-    pub immediate_end : Ok (at + 9) ≡ (operand_at s (Ok at)).next
-    immediate_end = sym (ap (λ (o : OperandReading). o.next) (immediate-operand s at on z).1)
+    pub immediate_end : Ok (at + 1 + 8) ≡ (operand_at s (Ok at)).next
+    immediate_end = let e : at + 1 + 8 ≡ at + 9 = omega arith in rw e (sym (ap (λ (o : OperandReading). o.next) immediate.1))
 
-  module _ (n : get_or s at 0 ≡ 0 → ⊥) (o : get_or s at 0 ≡ 1 → ⊥) where
+  module _ (n : little s at 1 ≡ 0 → ⊥) (o : little s at 1 ≡ 1 → ⊥) where
+    memory : operand_at s (Ok at) ≡ record { operand = Mem; next = Ok (at + 1) }
+    memory = memory-operand s at on (λ z. n (little-one s at ∙ z)) (λ z. o (little-one s at ∙ z))
+
     pub memory_is : Mem ≡ (operand_at s (Ok at)).operand
-    memory_is = sym (ap (λ (o : OperandReading). o.operand) (memory-operand s at on n o))
+    memory_is = sym (ap (λ (o : OperandReading). o.operand) memory)
 
     pub memory_end : Ok (at + 1) ≡ (operand_at s (Ok at)).next
-    memory_end = sym (ap (λ (o : OperandReading). o.next) (memory-operand s at on n o))
+    memory_end = sym (ap (λ (o : OperandReading). o.next) memory)
 
 pub registers_inside : (s : List ℕ) (at n k : ℕ) → WentOn (registers_from s (Ok at) n).next → k < n → at + 4 * k + 4 ≤ length s
 registers_inside s at n k on less = register-inside s at n on k less
 
+-- room for the registers, and how many its first n are
+abbrev room : List Register
+room = replicate 8 (record { class = 0; index = 0; size = 0; offset = 0 })
+
+pub room_taken : (n : ℕ) → n ≤ 8 → length (take n room) ≡ n
+room_taken n few = length-take-le n room few
+
 -- optional fields
 optional-code-is : (there : Bool) (s : List ℕ) (a : ℕ) {b : ℕ} → (optional_code there 32 s (Ok a)).next ≡ Ok b
-    → (there ≡ true → a + 1 ≤ length s) × ((optional_code there 32 s (Ok a)).value ≡ (number_if there 1 s a).value)
+    → (there ≡ true → a + 1 ≤ length s) × ((optional_code there 32 s (Ok a)).value ≡ number_if there 1 s a)
 optional-code-is true s a on = let c = code_is 32 s {p = Ok a} refl refl on in (λ e. c.1, ap (λ (f : FieldReading). f.value) c.2)
 optional-code-is false s a on = (λ e. absurd (false≢true e), refl)
 
@@ -82,8 +97,8 @@ then-there false x = refl
 
 optional-registers-is : (there : Bool) (s : List ℕ) (a : ℕ) {b : ℕ} → (optional_registers there s (Ok a)).next ≡ Ok b
     → (there ≡ true → a + 2 ≤ length s)
-    × ((number_if there 2 s a).value ≤ 8)
-    × (optional_registers there s (Ok a) ≡ registers_from s (Ok (number_if there 2 s a).end) (number_if there 2 s a).value)
+    × (number_if there 2 s a ≤ 8)
+    × (optional_registers there s (Ok a) ≡ registers_from s (Ok (behind_if there 2 a)) (number_if there 2 s a))
 unfolding registers_at
 optional-registers-is true s a on =
     let n = count_at 0 8 s (Ok a) in
@@ -95,7 +110,7 @@ content-path : {x x' y y' : Operand} {l l' : List Register} {c c' g g' : ℕ} �
     → ◌≡◌ {A = Content} (record { first = x; second = y; written = l; count = c; flags = g }) (record { first = x'; second = y'; written = l'; count = c'; flags = g' })
 content-path p q r t u = rw (p, q, r, t, u)
 
--- the parts of a tail, each behind the one before
+-- the parts of a tail, each behind the one before, and the bytes as each call leaves them
 module _ (map : ℕ) (s : List ℕ) (at : ℕ) (on : WentOn (tail_at map s (Ok at)).next) {b4 : Bool} (b4-is : b4 ≡ bit_of map 4) where
   whole : TailOn map s (Ok at)
   whole = tail-on map s (Ok at) on.1
@@ -103,68 +118,72 @@ module _ (map : ℕ) (s : List ℕ) (at : ℕ) (on : WentOn (tail_at map s (Ok a
   pub first_on : WentOn (optional_operand b4 s (Ok at)).next
   first_on = rw b4-is whole.one
 
-  module _ {a : Part} (a-is : (a.operand ≡ (optional_operand b4 s (Ok at)).operand) × (Ok a.end ≡ (optional_operand b4 s (Ok at)).next))
-      {b8 : Bool} (b8-is : b8 ≡ bit_of map 8) where
-    pub second_on : WentOn (optional_operand b8 s (Ok a.end)).next
-    second_on = rw (b8-is, a-is.1, b4-is) whole.two
+  module _ {x : Operand} {s1 : List ℕ} {a : ℕ} (x-is : x ≡ (optional_operand b4 s (Ok at)).operand) (s1-is : s1 ≡ s)
+      (a-is : Ok a ≡ (optional_operand b4 s (Ok at)).next) {b8 : Bool} (b8-is : b8 ≡ bit_of map 8) where
+    pub second_on : WentOn (optional_operand b8 s1 (Ok a)).next
+    second_on = rw (s1-is, b8-is, a-is, b4-is) whole.two
 
-    module _ {b : Part} (b-is : (b.operand ≡ (optional_operand b8 s (Ok a.end)).operand) × (Ok b.end ≡ (optional_operand b8 s (Ok a.end)).next))
-        {b16 : Bool} (b16-is : b16 ≡ bit_of map 16) where
-      behind : Ok b.end ≡ (operands_at map s (Ok at)).next
-      behind = b-is.1 ∙ rw (b8-is, a-is.1, b4-is)
+    module _ {y : Operand} {s2 : List ℕ} {b : ℕ} (y-is : y ≡ (optional_operand b8 s1 (Ok a)).operand) (s2-is : s2 ≡ s1)
+        (b-is : Ok b ≡ (optional_operand b8 s1 (Ok a)).next) {b16 : Bool} (b16-is : b16 ≡ bit_of map 16) where
+      same2 : s2 ≡ s
+      same2 = s2-is ∙ s1-is
 
-      written_on : WentOn (optional_registers b16 s (Ok b.end)).next
-      written_on = rw (b16-is, behind) whole.written
+      behind : Ok b ≡ (operands_at map s (Ok at)).next
+      behind = b-is ∙ rw (s1-is, b8-is, a-is, b4-is)
 
-      pub count_inside : b16 ≡ true → b.end + 2 ≤ length s
-      count_inside = (optional-registers-is b16 s b.end written_on.1).0
+      written-on : WentOn (optional_registers b16 s (Ok b)).next
+      written-on = rw (b16-is, behind) whole.written
 
-      module _ {n : Field} (n-is : n ≡ number_if b16 2 s b.end) where
-        pub few : n.value ≤ 8
-        few = rw n-is (optional-registers-is b16 s b.end written_on.1).1
+      pub count_inside : b16 ≡ true → b + 2 ≤ length s2
+      count_inside = rw same2 (optional-registers-is b16 s b written-on.1).0
 
-        written_is : optional_registers b16 s (Ok b.end) ≡ registers_from s (Ok n.end) n.value
-        written_is = rw n-is (optional-registers-is b16 s b.end written_on.1).2
+      module _ {n : ℕ} {s3 : List ℕ} {e : ℕ} (number : n ≡ number_if b16 2 s2 b) (s3-is : s3 ≡ s2) (e-is : e ≡ behind_if b16 2 b) where
+        same3 : s3 ≡ s
+        same3 = s3-is ∙ same2
 
-        pub registers_on : WentOn (registers_from s (Ok n.end) n.value).next
-        registers_on = rw (← written_is) written_on
+        n-is : n ≡ number_if b16 2 s b
+        n-is = number ∙ rw same2
 
-        -- the registers' end is inside, or where they start
-        pub end_inside : (n.value ≡ 0) ⊎ (n.end + 4 * n.value ≤ length s)
-        end_inside = go n.value refl
-          where
-            go : (k : ℕ) → n.value ≡ k → (n.value ≡ 0) ⊎ (n.end + 4 * n.value ≤ length s)
-            go zero q = inl q
-            go (suc k) q =
-                let r = register-inside s n.end n.value registers_on k (omega (arith, q)) in
-                inr (omega (arith, q, r))
+        pub few : n ≤ 8
+        few = rw n-is (optional-registers-is b16 s b written-on.1).1
 
-        end_is : (optional_registers (bit_of map 16) s (operands_at map s (Ok at)).next).next ≡ Ok (n.end + 4 * n.value)
-        end_is =
-            rw (← b16-is, ← behind, written_is)
-            (registers-place s n.end n.value registers_on n.value (omega arith))
+        written-is : optional_registers b16 s (Ok b) ≡ registers_from s (Ok e) n
+        written-is = rw (n-is, e-is) (optional-registers-is b16 s b written-on.1).2
 
-        module _ {b32 : Bool} (b32-is : b32 ≡ bit_of map 32) where
-          flags-on : WentOn (optional_code b32 32 s (Ok (n.end + 4 * n.value))).next
+        these-on : WentOn (registers_from s (Ok e) n).next
+        these-on = rw (← written-is) written-on
+
+        pub registers_on : WentOn (registers_from s3 (Ok e) n).next
+        registers_on = rw same3 these-on
+
+        module _ {l : List Register} {s4 : List ℕ} {g : ℕ} (l-is : l ≡ (registers_from s3 (Ok e) n).list) (s4-is : s4 ≡ s3) (g-is : g ≡ e + 4 * n)
+            {b32 : Bool} (b32-is : b32 ≡ bit_of map 32) where
+          same4 : s4 ≡ s
+          same4 = s4-is ∙ same3
+
+          end-is : (optional_registers (bit_of map 16) s (operands_at map s (Ok at)).next).next ≡ Ok g
+          end-is = rw (← b16-is, ← behind, written-is, g-is) (registers-place s e n these-on n (omega arith))
+
+          flags-on : WentOn (optional_code b32 32 s (Ok g)).next
           unfolding tail_at
-          flags-on = rw (b32-is, ← end_is) on
+          flags-on = rw (b32-is, ← end-is) on
 
-          pub flags_inside : b32 ≡ true → n.end + 4 * n.value + 1 ≤ length s
-          flags_inside = (optional-code-is b32 s (n.end + 4 * n.value) flags-on.1).0
+          pub flags_inside : b32 ≡ true → g + 1 ≤ length s4
+          flags_inside = rw same4 (optional-code-is b32 s g flags-on.1).0
 
-          pub content_is : {written : List Register} {f : Field} → written ≡ (registers_from s (Ok n.end) n.value).list
-              → f ≡ number_if b32 1 s (n.end + 4 * n.value)
-              → ◌≡◌ {A = Content} (record { first = a.operand; second = b.operand; written = written; count = n.value; flags = f.value }) (content_at map s (Ok at))
+          pub content_is : {f : ℕ} → f ≡ number_if b32 1 s4 g
+              → ◌≡◌ {A = Content} (record { first = x; second = y; written = l; count = n; flags = f }) (content_at map s (Ok at))
           unfolding tail_at
-          content_is {f} written-list f-is =
+          content_is {f} f-is =
               let all = optional_registers (bit_of map 16) s (operands_at map s (Ok at)).next in
-              let list : all ≡ registers_from s (Ok n.end) n.value = rw (← b16-is, ← behind) written_is in
-              let one : a.operand ≡ (operands_at map s (Ok at)).first = a-is.0 ∙ rw b4-is in
-              let two : b.operand ≡ (operands_at map s (Ok at)).second = b-is.0 ∙ rw (b8-is, a-is.1, b4-is) in
-              let count : n.value ≡ all.count = rw list (sym (registers-count s (Ok n.end) n.value)) in
-              let flags : f.value ≡ (optional_code (bit_of map 32) 32 s all.next).value =
-              rw (f-is, ← b32-is, end_is) (sym (optional-code-is b32 s (n.end + 4 * n.value) flags-on.1).1) in
-              content-path one two (rw list written-list) count flags
+              let list : all ≡ registers_from s (Ok e) n = rw (← b16-is, ← behind) written-is in
+              let one : x ≡ (operands_at map s (Ok at)).first = x-is ∙ rw b4-is in
+              let two : y ≡ (operands_at map s (Ok at)).second = y-is ∙ rw (s1-is, b8-is, a-is, b4-is) in
+              let written : l ≡ all.list = rw list (l-is ∙ rw same3) in
+              let count : n ≡ all.count = rw list (sym (registers-count s (Ok e) n)) in
+              let flags : f ≡ (optional_code (bit_of map 32) 32 s all.next).value =
+              rw (f-is, same4, ← b32-is, end-is) (sym (optional-code-is b32 s g flags-on.1).1) in
+              content-path one two written count flags
 
 -- the parts of a record
 module _ (s : List ℕ) (at : ℕ) (read : WasRead s at) where

@@ -1,22 +1,15 @@
 // The instruction record at an offset of an accepted sheet: what it holds, with nothing checked again.
 #![tactic(auto)]
 
-ghost use Rattle.std.specs.Prelude.{◌≡◌, true, ◌+◌, ◌≤◌, length, Ok, is_some};
+ghost use Rattle.std.specs.Prelude.{◌≡◌, true, ◌+◌, ◌*◌, ◌≤◌, length, Ok, is_some};
 ghost use Rattle.sheet_field.specs.Field.{WentOn, little};
-ghost use Rattle.sheet_instruction.specs.Instruction.{operand_at, registers_from, optional_operand, head_at, tail_at};
+ghost use Rattle.sheet_instruction.specs.Instruction.{register_at, operand_at, registers_from, optional_operand, head_at, tail_at};
 ghost use Rattle.sheet_accepted.specs.Record.{WasRead, recorded};
-ghost use Rattle.sheet_accepted.specs.Promises.{number_if, content_at};
+ghost use Rattle.sheet_accepted.specs.Promises.{number_if, behind_if, content_at};
 
 use isa::{Instruction, Mnemonic, Operand, Register};
-use sheet_field::Field;
+use sheet_field::Reader;
 use sheet_instruction::MapBit;
-
-// An operand, and the offset after it.
-#[derive(Clone, Copy)]
-struct Part {
-    operand: Operand,
-    end: usize,
-}
 
 // What stands behind a record's target.
 #[derive(Clone, Copy)]
@@ -29,64 +22,62 @@ struct Content {
     flags: u64,
 }
 
-// A number of N bytes and the offset after it, 0 where the record has none.
-// Not by `then`: the closure of a generic function would have to say again what `number` asks.
-fn number_if<const N: usize>(bit: bool, s: &[u8], at: usize) -> Field
+// The number in the next N bytes, or 0 where the record has none.
+fn take_number_if<const N: usize>(r: &mut Reader, there: bool) -> u64
     requires width { N ≤ 8 }
-    requires inside { bit ≡ true → at + N ≤ length s.now }
-    ensures { result ≡ number_if bit N s.now at }
+    requires inside { there ≡ true → r.old.at + N ≤ length r.old.bytes.now }
+    ensures value { result ≡ number_if there N r.old.bytes.now r.old.at }
+    ensures same { r.new.bytes.now ≡ r.old.bytes.now }
+    ensures at { r.new.at ≡ behind_if there N r.old.at }
 {
-    if bit {
-        Field {
-            value: sheet_field::number::<N>(s, at),
-            end: at + N,
-        }
-    } else {
-        Field { value: 0, end: at }
-    }
+    if there { r.take_number::<N>() } else { 0 }
+}
+
+fn take_register(r: &mut Reader) -> Register
+    requires { r.old.at + 4 ≤ length r.old.bytes.now }
+    ensures value { result ≡ (register_at r.old.bytes.now (Ok r.old.at)).register }
+    ensures same { r.new.bytes.now ≡ r.old.bytes.now }
+    ensures at { r.new.at ≡ r.old.at + 4 }
+{
+    let register = sheet_instruction::register_at(r.bytes, r.at);
+    r.at += 4;
+    register
 }
 
 #[tactic(auto, using(crate::proofs::Records::code_inside, crate::proofs::Records::register_inside, crate::proofs::Records::register_is, crate::proofs::Records::register_end, crate::proofs::Records::immediate_inside, crate::proofs::Records::immediate_is, crate::proofs::Records::immediate_end, crate::proofs::Records::memory_is, crate::proofs::Records::memory_end))]
-fn operand_at(s: &[u8], at: usize) -> Part
-    requires { WentOn (operand_at s.now (Ok at)).next }
-    ensures operand { result.operand ≡ (operand_at s.now (Ok at)).operand }
-    ensures end { Ok result.end ≡ (operand_at s.now (Ok at)).next }
+fn take_operand(r: &mut Reader) -> Operand
+    requires { WentOn (operand_at r.old.bytes.now (Ok r.old.at)).next }
+    ensures value { result ≡ (operand_at r.old.bytes.now (Ok r.old.at)).operand }
+    ensures same { r.new.bytes.now ≡ r.old.bytes.now }
+    ensures place { Ok r.new.at ≡ (operand_at r.old.bytes.now (Ok r.old.at)).next }
 {
-    let kind = s[at];
-    if kind == 0 {
-        return Part {
-            operand: Operand::Reg(sheet_instruction::register_at(s, at + 1)),
-            end: at + 5,
-        };
-    }
-    if kind == 1 {
-        return Part {
-            operand: Operand::Imm(sheet_field::number::<8>(s, at + 1)),
-            end: at + 9,
-        };
-    }
-    Part {
-        operand: Operand::Mem,
-        end: at + 1,
+    match r.take_number::<1>() {
+        0 => Operand::Reg(take_register(r)),
+        1 => Operand::Imm(r.take_number::<8>()),
+        _ => Operand::Mem,
     }
 }
 
-// The operand at an offset, where its bit stands.
-fn operand_if(bit: bool, s: &[u8], at: usize) -> Part
-    requires { WentOn (optional_operand bit s.now (Ok at)).next }
-    ensures operand { result.operand ≡ (optional_operand bit s.now (Ok at)).operand }
-    ensures end { Ok result.end ≡ (optional_operand bit s.now (Ok at)).next }
+// The operand at the reader, where its bit stands.
+fn take_operand_if(r: &mut Reader, there: bool) -> Operand
+    requires { WentOn (optional_operand there r.old.bytes.now (Ok r.old.at)).next }
+    ensures value { result ≡ (optional_operand there r.old.bytes.now (Ok r.old.at)).operand }
+    ensures same { r.new.bytes.now ≡ r.old.bytes.now }
+    ensures place { Ok r.new.at ≡ (optional_operand there r.old.bytes.now (Ok r.old.at)).next }
 {
-    bit.then(|| operand_at(s, at)).unwrap_or(Part {
-        operand: Operand::Absent,
-        end: at,
-    })
+    if there {
+        take_operand(r)
+    } else {
+        Operand::Absent
+    }
 }
 
-fn registers_at(s: &[u8], at: usize, n: u64) -> [Register; 8]
+fn take_registers(r: &mut Reader, n: u64) -> [Register; 8]
     requires n_bound { n ≤ 8 }
-    requires went_on { WentOn (registers_from s.now (Ok at) n).next }
-    ensures { result ≡ (registers_from s.now (Ok at) n).list }
+    requires went_on { WentOn (registers_from r.old.bytes.now (Ok r.old.at) n).next }
+    ensures value { result ≡ (registers_from r.old.bytes.now (Ok r.old.at) n).list }
+    ensures same { r.new.bytes.now ≡ r.old.bytes.now }
+    ensures at { r.new.at ≡ r.old.at + 4 * n }
 {
     let mut list = [Register {
         class: 0,
@@ -94,29 +85,28 @@ fn registers_at(s: &[u8], at: usize, n: u64) -> [Register; 8]
         size: 0,
         offset: 0,
     }; 8];
-    // By index: of what is written through `iter_mut` under `zip` a proof learns nothing.
-    for i in 0..n as usize {
-        list[i] = sheet_instruction::register_at(s, at + 4 * i);
+    for slot in &mut list[..n as usize] {
+        *slot = take_register(r);
     }
     list
 }
 
-fn content_at(s: &[u8], at: usize, map: u64) -> Content
-    requires { WentOn (tail_at map s.now (Ok at)).next }
-    ensures { result ≡ content_at map s.now (Ok at) }
+#[tactic(auto, using(crate::proofs::Records::count_inside, crate::proofs::Records::few, crate::proofs::Records::flags_inside))]
+fn take_content(r: &mut Reader, map: u64) -> Content
+    requires { WentOn (tail_at map r.old.bytes.now (Ok r.old.at)).next }
+    ensures { result ≡ content_at map r.old.bytes.now (Ok r.old.at) }
 {
-    let first = operand_if(MapBit::First.is_in(map), s, at);
-    let second = operand_if(MapBit::Second.is_in(map), s, first.end);
-    let n = number_if::<2>(MapBit::Written.is_in(map), s, second.end);
-    let written = registers_at(s, n.end, n.value);
-    let end = n.end + 4 * (n.value as usize);
-    let flags = number_if::<1>(MapBit::Flags.is_in(map), s, end);
+    let first = take_operand_if(r, MapBit::First.is_in(map));
+    let second = take_operand_if(r, MapBit::Second.is_in(map));
+    let count = take_number_if::<2>(r, MapBit::Written.is_in(map));
+    let written = take_registers(r, count);
+    let flags = take_number_if::<1>(r, MapBit::Flags.is_in(map));
     Content {
-        first: first.operand,
-        second: second.operand,
+        first,
+        second,
         written,
-        count: n.value,
-        flags: flags.value,
+        count,
+        flags,
     }
 }
 
@@ -185,7 +175,8 @@ impl Record<'_> {
         ensures { result ≡ recorded self.now.bytes.now self.now.at }
     {
         let map = self.map();
-        let content = content_at(self.bytes, self.operands(), map);
+        let mut r = Reader::new(self.bytes, self.operands());
+        let content = take_content(&mut r, map);
         let written = content.written;
         Instruction {
             address: self.address(),

@@ -11,13 +11,6 @@ use refusal::{Fault, Refusal};
 // Where reading has come to: the next byte's offset, or the first refusal.
 pub type Place = Result<usize, Refusal>;
 
-// What a field holds, and the offset after it.
-#[derive(Clone, Copy, PartialEq, Eq, Debug)]
-pub struct Field {
-    pub value: u64,
-    pub end: usize,
-}
-
 // The number in the N bytes from an offset on, below 256 to the N.
 fn bounded<const N: usize>(s: &[u8], at: usize) -> u64
     requires width { N ≤ 8 }
