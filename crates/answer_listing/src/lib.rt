@@ -28,7 +28,7 @@ fn write_lines(code: &Code, slots: &[u8], list: &mut [u8]) -> Result<u64, Refusa
 }
 
 // The listing with an index of the given lists, or none where the sheet has more records than they hold. The lists are as long as the slots, which hold
-// nothing. Each goes to a function of its own below: a struct of them would be made and taken apart here alone.
+// nothing. They are five: a struct of them would be made by one caller and taken apart here, and go nowhere as a whole.
 fn list_in(
     s: &[u8],
     addresses: &mut [u64],

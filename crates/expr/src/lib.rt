@@ -1,4 +1,5 @@
-// Expression records: what the words of a tree say, read off the words themselves.
+// Expression records: what the words of a tree say, read off the words themselves. A record has two: its tag word, the number of its kind and 16
+// times its argument, and its value, which is 0 but for a constant.
 #![tactic(auto)]
 
 ghost use Rattle.std.specs.Prelude.{◌≡◌, ◌+◌, ◌≤◌, length, get_or};

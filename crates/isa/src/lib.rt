@@ -9,7 +9,8 @@ ghost use Rattle.isa.specs.FlagBits.{has_bit, flag_bit, declares};
 ghost use Rattle.isa.specs.Modelled.{is_register, is_absent, takes, modelled, sizes_differ, outside, is_mov, declares_result, declares_own, undeclared};
 ghost use Rattle.isa.specs.Promises.{is_size, is_unary, fault_of};
 
-// Class 1 are the general registers; index, size in bits and offset in bits name the part. A class is a number, as any byte is one.
+// Class 1 are the general registers; index, size in bits and offset in bits name the part. All four are numbers, as a sheet may have any bytes
+// for them.
 #[derive(Clone, Copy, PartialEq, Eq)]
 pub struct Register {
     pub class: u8,
@@ -18,7 +19,7 @@ pub struct Register {
     pub offset: u8,
 }
 
-// No Option around it for `Absent`: each rule has that in one arm with others, as `Absent | Mem`.
+// `Absent` is no `None`: most rules have it in one arm with operands that are no register, and an Option would be matched twice in each of these.
 #[derive(Clone, Copy, PartialEq, Eq)]
 pub enum Operand {
     Absent,

@@ -8,8 +8,8 @@ ghost use Rattle.search.specs.Ascending.{Ascending};
 ghost use Rattle.poly.specs.Terms.{Written, toggle, sum, sum_times, sum_product, over};
 
 // Adds a term to the first count, and gives the new count. A struct of the list and its count would have to keep the order between the move and
-// the write of a new term. Where the term is put behind the others and turned into its place (`rotate_right`) it could, and lists of a few terms
-// would take a fifth longer.
+// the write of a new term. Tried: where the term is put behind the others and turned into its place (`rotate_right`), lists of a few terms take a
+// fifth longer.
 fn toggle(list: &mut [u64], count: usize, term: u64) -> usize
     requires { (count < length list.old) × Ascending (take count list.old) }
     ensures { (result ≡ length (toggle term (take count list.old))) × (list.new ≡ over (toggle term (take count list.old)) list.old) }

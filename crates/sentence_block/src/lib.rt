@@ -26,6 +26,7 @@ use verdict_block::Range;
 
 // The code and its first number go side by side through four functions: in a struct of both, each contract would name the sheet's bytes behind one
 // more borrow.
+
 // The causes of the flags' values after the instructions of an accepted sheet from number `first` up to `end`, where nothing is known at their start.
 fn setters_in(code: &Code, first: usize, end: usize) -> Setters
     requires { (first ≤ end) × (end ≤ length code.now.places.now) × (end ≤ 65536) }

@@ -13,7 +13,7 @@ use refusal::{Fault, Refusal};
 use sheet_accepted::Record;
 
 // The bytes of an accepted sheet, what reading gives of them, and the address and the offset of each instruction.
-// Two lists, as a search walks the addresses alone: entries of both would double what it loads.
+// Two lists: a search walks the addresses alone, and the number that it finds leads to the offset.
 #[derive(Clone, Copy)]
 pub struct Code<'a> {
     pub bytes: &'a [u8],

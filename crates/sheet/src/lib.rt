@@ -10,7 +10,7 @@ ghost use Rattle.sheet.specs.Index.{over, Noted, Indexed};
 ghost use Rattle.sheet.specs.Promises.{found_on};
 
 use refusal::{Fault, Refusal};
-use sheet_field::{Place, Reader};
+use sheet_field::Reader;
 
 pub mod code;
 
@@ -105,13 +105,13 @@ pub fn read_index(
     read_instructions(&mut r, instructions.count, addresses, places)?;
     let blocks = take_section(&mut r, 1024)?;
     r.take_words(2 * blocks.count)?;
-    let graph = take_section(&mut r, 1024)?;
-    read_nodes(&mut r, graph.count, nodes)?;
+    let last = take_section(&mut r, 1024)?;
+    read_nodes(&mut r, last.count, nodes)?;
     if s.len() <= r.at {
         Ok(Sheet {
             instructions,
             blocks,
-            nodes: graph,
+            nodes: last,
         })
     } else {
         // bytes left over
@@ -128,7 +128,7 @@ pub fn read(s: &[u8]) -> Result<Sheet, Refusal>
 
 // Where the node of that number, from 0, starts; or the refusal.
 #[tactic(auto, using(crate::proofs::Found::found_refused, crate::proofs::Found::found_missing))]
-pub fn find_node(s: &[u8], number: u64) -> Place
+pub fn find_node(s: &[u8], number: u64) -> Result<usize, Refusal>
     ensures { result ≡ found_on (reading_of s.now) s.now number }
 {
     let mut nodes = [0; 1024];

@@ -8,9 +8,6 @@ ghost use Rattle.sheet_field.specs.Reads.{Reads};
 
 use refusal::{Fault, Refusal};
 
-// Where reading has come to: the next byte's offset, or the first refusal.
-pub type Place = Result<usize, Refusal>;
-
 // The number in the N bytes from an offset on, below 256 to the N.
 fn bounded<const N: usize>(s: &[u8], at: usize) -> u64
     requires width { N ≤ 8 }

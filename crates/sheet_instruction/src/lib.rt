@@ -4,7 +4,7 @@
 
 ghost use Rattle.std.specs.Prelude.{◌≡◌, ◌+◌, ◌≤◌, length, Ok, IfOk, is_none, unwrap_or};
 ghost use Rattle.sheet_field.specs.Reads.{Reads};
-ghost use Rattle.sheet_instruction.specs.Instruction.{register_at, operand_at, registers_at, bit_of, map_ok, map_at, address_at, head_at, tail_at, instruction_at};
+ghost use Rattle.sheet_instruction.specs.Instruction.{register_at, operand_at, optional_operand, registers_at, bit_of, map_ok, map_at, address_at, head_at, tail_at, instruction_at};
 ghost use Rattle.sheet_instruction.specs.MapBit.{unit_of};
 ghost use Rattle.sheet_instruction.specs.Promises.{head_of, tail_of};
 
@@ -95,6 +95,19 @@ fn check_operand(r: &mut Reader) -> Result<Operand, Refusal>
     }
 }
 
+// An operand, where its bit stands in the map.
+#[inline(always)]
+fn check_operand_if(r: &mut Reader, bit: bool) -> Result<Operand, Refusal>
+    ensures reads { Reads r.old r.new result (optional_operand bit r.old.bytes.now (Ok r.old.at)).next }
+    ensures value { IfOk result (λ x. x ≡ (optional_operand bit r.old.bytes.now (Ok r.old.at)).operand) }
+{
+    if bit {
+        check_operand(r)
+    } else {
+        Ok(Operand::Absent)
+    }
+}
+
 #[tactic(auto, using(crate::proofs::Checks::list_stays, crate::proofs::Checks::count_inside, crate::proofs::Checks::register_refused, crate::proofs::Checks::register_end, crate::proofs::Instructions::registers_next), unfolding(crate::specs::Instruction::registers_at, crate::specs::Instruction::registers_from))]
 fn check_written(r: &mut Reader) -> Result<(), Refusal>
     ensures { Reads r.old r.new result (registers_at r.old.bytes.now (Ok r.old.at)).next }
@@ -111,16 +124,8 @@ fn check_tail(r: &mut Reader, map: u64) -> Result<Tail, Refusal>
     ensures reads { Reads r.old r.new result (tail_at map r.old.bytes.now (Ok r.old.at)).next }
     ensures value { IfOk result (λ x. x ≡ tail_of (tail_at map r.old.bytes.now (Ok r.old.at))) }
 {
-    let first = if MapBit::First.is_in(map) {
-        check_operand(r)?
-    } else {
-        Operand::Absent
-    };
-    let second = if MapBit::Second.is_in(map) {
-        check_operand(r)?
-    } else {
-        Operand::Absent
-    };
+    let first = check_operand_if(r, MapBit::First.is_in(map))?;
+    let second = check_operand_if(r, MapBit::Second.is_in(map))?;
     if MapBit::Written.is_in(map) {
         check_written(r)?;
     }

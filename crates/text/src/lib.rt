@@ -31,7 +31,8 @@ impl<'a> Writer<'a> {
         self.at = end;
     }
 
-    // Puts the last digits of n in a base, as many as the width. By index: of what an adapter of `iter_mut`, as `rev`, writes, a proof learns nothing.
+    // Puts the last digits of n in a base, as many as the width. By index: of what is written through
+    // `iter_mut().rev()` a proof learns nothing.
     pub fn put_digits(&mut self, n: u64, base: u64, width: usize)
         requires base_nonzero { 0 < base }
         requires base_bound { base ≤ 16 }

@@ -27,8 +27,9 @@ impl Reason {
     }
 }
 
-// What is said of a branch: that it always jumps, or never, and why; that neither is known; or that there is none. All four are answers with
-// numbers, of blocks and of nodes alike: as an Option, none would be a second type in `Answer`, asked for before each match on the other three.
+// What is said of a branch: that it always jumps, or never, and why; that neither is known; or that there is none, which is said of blocks
+// alone. As an `Option` around the other three it would make answers of two types, one for blocks and one for nodes, each with a definition of its
+// numbers.
 #[derive(Clone, Copy, PartialEq, Eq, Debug)]
 pub enum Verdict {
     Always(Reason),

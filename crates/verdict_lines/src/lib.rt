@@ -12,8 +12,8 @@ ghost use Rattle.verdict_lines.specs.Slots.{slot_of, kept, decided_of, decided_i
 use sheet::code::Code;
 use verdict::Verdict;
 
-// What a slot holds of a verdict: 0 where it decides nothing, else twice the reason's number, and one more for always. A byte, as an enum has a tag of
-// its own: `Option<(Reason, bool)>` takes three, and a Verdict would have two words for an empty slot.
+// What a slot holds of a verdict: 0 where it decides nothing, else twice the reason's number, and one more for always. A byte for
+// each instruction, since every listing clears them all: an `Option<(Reason, bool)>` has three, and a Verdict has two words for an empty slot.
 #[tactic(auto, using(crate::proofs::Decided::small))]
 fn slot_of(v: Verdict) -> u8
     ensures { result ≡ slot_of v }
@@ -74,7 +74,7 @@ pub fn write(code: &Code, slots: &[u8], list: &mut [u8])
     ensures { list.new ≡ over (records line_bytes (lines_in code.now.addresses.now (targets_of (sheet_at code.now.bytes.now).instructions.list) slots.now)) list.old }
 {
     let mut at = 0;
-    // By number, as a target is found by it.
+    // By number: there is no list of the targets to go along, each is found by its instruction's number.
     for i in 0..slots.len() {
         at = put_line(
             list,
