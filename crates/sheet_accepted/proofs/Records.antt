@@ -23,7 +23,7 @@ use Rattle.sheet_instruction.proofs.Accepted.{registers-from-on, tail-on, head-o
 use Rattle.sheet_accepted.specs.declared.Content.{Content}
 use Rattle.sheet_accepted.specs.Record.{WasRead, recorded}
 use Rattle.sheet_accepted.specs.Promises.{number_if, behind_if, content_at}
-use Rattle.sheet_instruction.proofs.Stages.{check-is, field_is, code_is, count-is, registers-place, register-inside, operand-inside, register-operand, immediate-operand, memory-operand}
+use Rattle.sheet_instruction.proofs.Stages.{check-is, field_is, code_is, count-is, registers-place, register-operand, immediate-operand, memory-operand}
 
 went-on : (p : Place) → IsOk p → WentOn p
 went-on (Ok b) e = (b, refl)
@@ -31,9 +31,6 @@ went-on (Err r) e = absurd (false≢true e)
 
 -- an operand, by its code
 module _ (s : List ℕ) (at : ℕ) (on : WentOn (operand_at s (Ok at)).next) where
-  pub code_inside : at + 1 ≤ length s
-  code_inside = operand-inside s at on
-
   module _ (z : little s at 1 ≡ 0) where
     register : (at + 5 ≤ length s) × (operand_at s (Ok at) ≡ record { operand = Reg (register_at s (Ok (at + 1))).register; next = Ok (at + 5) })
     register = register-operand s at on (sym (little-one s at) ∙ z)
@@ -69,9 +66,6 @@ module _ (s : List ℕ) (at : ℕ) (on : WentOn (operand_at s (Ok at)).next) whe
 
     pub memory_end : Ok (at + 1) ≡ (operand_at s (Ok at)).next
     memory_end = sym (ap (λ (o : OperandReading). o.next) memory)
-
-pub registers_inside : (s : List ℕ) (at n k : ℕ) → WentOn (registers_from s (Ok at) n).next → k < n → at + 4 * k + 4 ≤ length s
-registers_inside s at n k on less = register-inside s at n on k less
 
 -- room for the registers, and how many its first n are
 abbrev room : List Register

@@ -44,7 +44,7 @@ fn take_register(r: &mut Reader) -> Register
     register
 }
 
-#[tactic(auto, using(crate::proofs::Records::code_inside, crate::proofs::Records::register_inside, crate::proofs::Records::register_is, crate::proofs::Records::register_end, crate::proofs::Records::immediate_inside, crate::proofs::Records::immediate_is, crate::proofs::Records::immediate_end, crate::proofs::Records::memory_is, crate::proofs::Records::memory_end))]
+#[tactic(auto, using(crate::proofs::Records::register_inside, crate::proofs::Records::register_is, crate::proofs::Records::register_end, crate::proofs::Records::immediate_inside, crate::proofs::Records::immediate_is, crate::proofs::Records::immediate_end, crate::proofs::Records::memory_is, crate::proofs::Records::memory_end))]
 fn take_operand(r: &mut Reader) -> Operand
     requires { WentOn (operand_at r.old.bytes.now (Ok r.old.at)).next }
     ensures value { result ≡ (operand_at r.old.bytes.now (Ok r.old.at)).operand }

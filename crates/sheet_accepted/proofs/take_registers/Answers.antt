@@ -2,8 +2,8 @@ use Rattle.std.proofs.Common.{refl, sym, ◌∙◌, ◌≡◌, ◌<◌, length, 
 use lib.Seq.{set-append_left}
 use Rattle.sheet_instruction.specs.Instruction.{registers_from}
 use Rattle.sheet_instruction.proofs.Instructions.{registers-more}
-use Rattle.sheet_instruction.proofs.Stages.{registers-place}
-use Rattle.sheet_accepted.proofs.Records.{registers_inside, room_taken}
+use Rattle.sheet_instruction.proofs.Stages.{registers-place, register-inside}
+use Rattle.sheet_accepted.proofs.Records.{room_taken}
 use Rattle.sheet_accepted.proofs.take_registers.Goals as goal
 
 pub loop-slot-init : goal.loop-slot-init
@@ -13,7 +13,7 @@ loop-slot-init c = record { list = take-append-drop _ _; same = refl; at = omega
 pub take_register-requires : goal.take_register-requires
 take_register-requires c =
     let l = c.loop-slot in
-    rw (l.invariant.same, l.invariant.at) (registers_inside c.args.r.now.bytes.now c.args.r.now.at c.args.n l.slot-index c.requires.went_on (omega (arith, c.loop-slot-test.true, room_taken c.args.n c.requires.n_bound)))
+    rw (l.invariant.same, l.invariant.at) (register-inside c.args.r.now.bytes.now c.args.r.now.at c.args.n c.requires.went_on l.slot-index (omega (arith, c.loop-slot-test.true, room_taken c.args.n c.requires.n_bound)))
 
 pub loop-slot-preserved : goal.loop-slot-preserved
 loop-slot-preserved c =
