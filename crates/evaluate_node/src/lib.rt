@@ -123,8 +123,9 @@ fn run_node(node: &Node, values: &[u64], condition: Plain) -> Evaluation
     let unfit = first_unfit(types, values);
     let mut run = Run::new(types, values, unfit.is_none());
     let mut r = Reader::new(node.bytes, node.front.body);
-    run.statements(&mut r, node.front.statements)
-        .ok_or(Fault::NotPlain.at(node.at))?;
+    let Some(()) = run.statements(&mut r, node.front.statements) else {
+        return Err(Fault::NotPlain.at(node.at));
+    };
     if let Some(v) = unfit {
         return Err(Fault::Value.at(v));
     }
@@ -138,7 +139,8 @@ pub fn evaluate_node(node: &Node, values: &[u64]) -> Evaluation
     let mut words = [0u64; 256];
     let parts = node.parts(&mut words);
     let mut r = Reader::new(node.bytes, parts.condition);
-    let condition = words::take_expression(&mut r, &mut words);
-    let condition = Plain::of(condition).ok_or(Fault::NotPlain.at(node.at))?;
+    let Some(condition) = Plain::of(words::take_expression(&mut r, &mut words)) else {
+        return Err(Fault::NotPlain.at(node.at));
+    };
     run_node(node, values, condition)
 }

@@ -29,10 +29,10 @@ pub fn first_from(list: &[u64], guess: usize, x: u64) -> usize
     if !are_below(list, guess, x) {
         return first_at_or_above(list, x);
     }
-    list[guess..]
-        .iter()
-        .position(|y| x <= *y)
-        .map_or(list.len(), |n| guess + n)
+    match list[guess..].iter().position(|y| x <= *y) {
+        Some(n) => guess + n,
+        None => list.len(),
+    }
 }
 
 // Where x stands.

@@ -58,10 +58,10 @@ fn verdict_among<'a, const N: usize>(node: &Node<'a>) -> Result<JudgedNode<'a>, 
     let types = node.types();
     let mut r = Reader::new(node.bytes, node.front.body);
     let mut room: Room<N> = Room::new();
-    let condition = room
-        .substitute(&mut r, types, node.front.statements)
-        .ok_or(Fault::Records.at(node.at))?;
-    judge(&mut r, condition, node.at)
+    match room.substitute(&mut r, types, node.front.statements) {
+        Some(condition) => judge(&mut r, condition, node.at),
+        None => Err(Fault::Records.at(node.at)),
+    }
 }
 
 // The answer for a node without statements: its condition is decided as it stands.
