@@ -6,7 +6,7 @@ use mathlib.Core.List.{List, [], ◌∷◌}
 use native.Mathlib.Nat.{mul-le-mul_right, suc-mul}
 use native.Mathlib.Numerals.{add-one}
 use native.Mathlib.Omega.{arith}
-use lib.ListN.{length, get_or, take, drop}
+use lib.ListN.{length, get_or, take, drop, length-take}
 use lib.Seq.{take-append_seam, drop-append-add, drop-drop, drop-cons, drop-length, length-take-le}
 use lib.Dec.{ltb, eqb}
 use lib.Bits.{bit_or}
@@ -52,7 +52,7 @@ drop-over t l room upto =
     let all : length t + (room - length t) ≡ room = omega arith in
     rw all at (drop-append-add t (drop (length t) l) (room - length t) ∙ drop-drop (room - length t) (length t) l)
 
-toggle-written : (old new : List ℕ) (n t m : ℕ) → n < length old
+pub toggle-written : (old new : List ℕ) (n t m : ℕ) → n < length old
     → (m ≡ length (toggle t (take n old))) × (new ≡ over (toggle t (take n old)) old)
     → Written (toggle t (take n old)) m (n + 1) old new
 toggle-written old new n t m room gave = record {
@@ -89,6 +89,12 @@ running-done {new = new} {n = n} run upto within = record {
 pub record Times (old new : List ℕ) (count x : ℕ) (b : List ℕ) (n i : ℕ) : Type 0 where
   pub within : i ≤ length b
   pub run : Running (sum_times (take n new) x (drop i b)) (sum_times (take count old) x b) old new n (count + i) (count + length b)
+
+pub times_none : (l : List ℕ) (n x : ℕ) (b : List ℕ) → Ascending (take n l) → Times l l n x b n 0
+times_none l n x b up = record {
+  within = omega arith;
+  run = record { due = refl; ordered = up; few = omega arith; long = refl; beyond = refl };
+}
 
 pub times_more : {old new new' b : List ℕ} {n count x i : ℕ} (m : ℕ) → Times old new count x b n i
     → i < length b → count + length b ≤ length old → length new' ≡ length new
@@ -134,6 +140,12 @@ pub record Products (old new : List ℕ) (count : ℕ) (a b : List ℕ) (n i : �
   pub run : Running (sum_product (take n new) (drop i a) b) (sum_product (take count old) a b) old new n
       (count + i * length b) (count + length a * length b)
 
+pub products-none : (l : List ℕ) (n : ℕ) (a b : List ℕ) → Ascending (take n l) → Products l l n a b n 0
+products-none l n a b up = record {
+  within = omega arith;
+  run = record { due = refl; ordered = up; few = omega arith; long = refl; beyond = refl };
+}
+
 -- the pairs of one more term of a fit
 pub row_room : (i k m : ℕ) → i < k → i * m + m ≤ k * m
 row_room i k m less = omega (arith, suc-mul i m, mul-le-mul_right m less)
@@ -172,6 +184,9 @@ products-done {old} {new} {a} {b} {n} {count} {i} so_far end room =
     let all : i ≡ length a = omega (arith, so_far.within) in
     running-done (rw (all, drop-length a) at so_far.run) (omega arith) room
 
--- For callers: what stands at the start ascends where the definition does.
+-- For callers: what stands at the start fits the list, and ascends where the definition does.
+pub written-fits : {t old new : List ℕ} {n room : ℕ} → Written t n room old new → n ≤ length new
+written-fits {new = new} {n = n} w = omega (arith, w.count, ap length w.terms, length-take n new)
+
 pub written-ordered : {t old new : List ℕ} {n room : ℕ} → Written t n room old new → Ascending t → Ascending (take n new)
 written-ordered w up = rw w.terms up
