@@ -1,7 +1,7 @@
 -- The laws of the calls by which `parity` goes through a part: what a child borrows, and what a part's polynomial is by its root.
 use Prim.Native.Nat.{ℕ, ◌+◌, ◌*◌, ◌-◌, ◌≤◌, ◌<◌}
 use mathlib.Core.Path.{◌≡◌, refl, sym, ap, subst, ◌∙◌}
-use mathlib.Core.Bool.{true}
+use mathlib.Core.Bool.{Bool, true, false}
 use mathlib.Core.List.{List, ◌++◌}
 use native.Mathlib.Omega.{arith}
 use lib.ListN.{length, take, drop, length-append, length-drop}
@@ -17,11 +17,11 @@ use Rattle.parity.specs.Parity.{Low, constant_poly, entered, atom_low, pair_poly
 use Rattle.parity.specs.declared.Pair.{Pair}
 use Rattle.parity.specs.declared.Entry.{Entry}
 use Rattle.parity.specs.declared.TooMany.{TooMany}
-use Rattle.std.specs.Prelude.{Result, Ok}
-use Rattle.parity.specs.Lent.{pair_of, Lent, Sides, Made, Given}
+use Rattle.std.specs.Prelude.{Result, Ok, Err}
+use Rattle.parity.specs.Lent.{too_many, pair_of, Lent, Sides, Made, Given}
 use Rattle.parity.proofs.Ordered.{parity-ascending, parity-few, atoms-few}
 use Rattle.parity.proofs.Rooms.{leaves, parity-terms, eight-each, pairs-room, products-lent}
-use Rattle.parity.proofs.Steps.{Told, told, told-within}
+use Rattle.parity.proofs.Steps.{Told, told, made_none, told-within}
 
 pub wf-length : (ws : List ℕ) → Wf ws → length (flat (tree_of ws)) ≡ length ws
 wf-length ws w = ap length w
@@ -41,6 +41,13 @@ given-same f a m = record { made = rw f m; numbered = λ _. a }
 -- what is given of one result is given of an equal one
 pub given-as : {low low' : Low} {l : List Expr} {terms : List ℕ} {r : Result ℕ TooMany} → low ≡ low' → Given low' l terms r → Given low l terms r
 given-as {l = l} {terms = terms} {r = r} e g = subst (λ (x : Low). Given x l terms r) (sym e) g
+
+-- a part that passes the limits
+pub given-none : {low : Low} (l : List Expr) (terms : List ℕ) → low.fits ≡ false → Given low l terms (Err too_many)
+given-none {low} l terms h = record {
+  made = made_none low.poly terms h;
+  numbered = λ k. let z : ◌≡◌ {A = Bool} false true = sym h ∙ k in cc;
+}
 
 -- a part's polynomial by its root
 module _ (l : List Expr) (e : Expr) where

@@ -1,7 +1,7 @@
 -- The two tables of what is entered say the same: the low bit that an operator's own rule gives is the one that its way of being
 -- entered gives.
-use Prim.Native.Nat.{ℕ, zero, suc, ◌%◌, ◌≤◌}
-use mathlib.Core.Path.{◌≡◌, refl}
+use Prim.Native.Nat.{ℕ, zero, suc, ◌%◌, ◌≤◌, ◌<◌}
+use mathlib.Core.Path.{◌≡◌, refl, sym}
 use mathlib.Core.Bool.{Bool, true, false, cond, not, xor, ◌&&◌, ◌||◌}
 use native.Mathlib.Omega.{arith}
 use lib.Dec.{eqb, ltb}
@@ -25,11 +25,22 @@ bit_of Keeps x y own = x
 bit_of Clears x y own = false
 bit_of Atom x y own = own
 
+-- the first two operators are entered by both sides, and those that are none of the eight are not entered
+pub entered-low : (o : ℕ) (b : Expr) → o < 2 → Both Sum ≡ entered o b
+unfolding entered
+entered-low zero b h = refl
+entered-low (suc zero) b h = refl
+entered-low (suc (suc o)) b h = absurd (omega arith)
+
+pub entered-not : (o : ℕ) (b : Expr) → 2 ≤ o → (o ≡ 7 → ⊥) → (o ≡ 2 → ⊥) → (o ≡ 5 → ⊥) → (o ≡ 6 → ⊥) → (o ≡ 4 → ⊥) → (o ≡ 8 → ⊥) → Atom ≡ entered o b
+unfolding entered
+entered-not o b h h7 h2 h5 h6 h4 h8 =
+    rw (ne_eqb o 0 (λ e. omega arith), ne_eqb o 1 (λ e. omega arith), ne_eqb o 7 h7, ne_eqb o 2 h2, ne_eqb o 5 h5, ne_eqb o 6 h6, ne_eqb o 4 h4, ne_eqb o 8 h8)
+
 -- no operator from 9 on is entered
 pub beyond : (o : ℕ) → 9 ≤ o → (b : Expr) → entered o b ≡ Atom
-unfolding entered
 beyond o h b =
-    rw (ne_eqb o 0 (λ e. omega arith), ne_eqb o 1 (λ e. omega arith), ne_eqb o 7 (λ e. omega arith), ne_eqb o 2 (λ e. omega arith), ne_eqb o 5 (λ e. omega arith), ne_eqb o 6 (λ e. omega arith), ne_eqb o 4 (λ e. omega arith), ne_eqb o 8 (λ e. omega arith))
+    sym (entered-not o b (omega arith) (λ e. omega arith) (λ e. omega arith) (λ e. omega arith) (λ e. omega arith) (λ e. omega arith) (λ e. omega arith))
 
 -- one more than an odd number is even
 even-after : (n : ℕ) → eqb (suc n % 2) 0 ≡ bit n

@@ -7,7 +7,7 @@ use mathlib.Core.List.{List, [], ◌∷◌, ◌++◌, append_assoc}
 use Rattle.std.specs.Prelude.{Some, None, Result, Ok, Err}
 use native.Mathlib.Nat.{mod-eq_of_lt, pow-le-pow_right, lt_of_le_of_lt}
 use native.Mathlib.Omega.{arith}
-use lib.Dec.{lit<}
+use lib.Dec.{leb, lit<}
 use lib.ListN.{length, take, drop, set, length-take, length-drop}
 use borrow.Rule.Slice.PartMut.{put_mid}
 use Rattle.std.proofs.lemmas.Slice.{put_mid-paste}
@@ -23,9 +23,9 @@ use Rattle.expr.proofs.Views.{constant-root}
 use Rattle.poly.specs.Terms.{Written, sum, product}
 use Rattle.poly.proofs.Running.{length-times, times_one, written-ordered}
 use Rattle.poly.proofs.Values.{ascending-sum}
-use Rattle.parity.specs.Parity.{constant_of, few, few_pairs, constant_poly, number_in, noted, atom_low}
+use Rattle.parity.specs.Parity.{constant_of, few, few_pairs, joined, constant_poly, number_in, noted, atom_low}
 use Rattle.parity.specs.declared.TooMany.{TooMany}
-use Rattle.parity.specs.Lent.{too_many, Lent, Sides, Made, Given}
+use Rattle.parity.specs.Lent.{too_many, within, Lent, Sides, Made, Given}
 use Rattle.parity.proofs.Numbers.{number-upto}
 
 -- a constant's value, by its root
@@ -75,6 +75,9 @@ passed {fits} {poly} {terms} {r} {x} m e = go fits refl (sym m.size ∙ e)
     go true f h = cc
     go false f h = f
 
+pub made_none : {fits : Bool} (poly terms : List ℕ) → fits ≡ false → Made fits poly terms (Err too_many)
+made_none poly terms h = record { size = rw h; stands = λ k. let z : ◌≡◌ {A = Bool} false true = sym h ∙ k in cc }
+
 -- a list copied into another stands there, and what is before it is as it was
 pub copied-part : (l q : List ℕ) (at k : ℕ) → length q ≡ k → at + k ≤ length l → take k (drop at (paste l at q (length q))) ≡ q
 copied-part l q at k e h =
@@ -99,13 +102,38 @@ length-behind terms n k h = length-take-le k (drop n terms) (omega (arith, lengt
 pub length-sum : (p q : List ℕ) → length (sum p q) ≤ length p + length q
 length-sum p q = rw (sym (times_one p q)) (length-times p 0 q)
 
+-- a polynomial at the start, its count held to the limit
+pub limited-made : {poly old new : List ℕ} {count room : ℕ} {r : Result ℕ TooMany} → Written poly count room old new
+    → r ≡ within (leb count 256) count → Made (few poly) poly new r
+limited-made w e = record { size = rw w.count at e; stands = λ _. rw w.count at w.terms }
+
 pub told-within : {fits : Bool} {poly terms : List ℕ} {n : ℕ} → Told fits poly terms n → n ≤ length terms
 told-within {terms = terms} {n = n} t = omega (arith, t.count, ap length t.stands, length-take n terms)
+
+pub told-length : {fits : Bool} {poly terms : List ℕ} {n : ℕ} → Told fits poly terms n → length (take n terms) ≡ n
+told-length {terms = terms} {n = n} t = length-take-le n terms (told-within t)
+
+-- a polynomial moved from the start of one list to that of another
+pub moved_made : {fits : Bool} {poly from : List ℕ} {n : ℕ} (terms : List ℕ) → Told fits poly from n → n ≤ length terms
+    → Made fits poly (paste terms 0 (take n from) (length (take n from))) (Ok n)
+moved_made {from = from} {n = n} terms t h = record {
+  size = rw (t.fit, t.count);
+  stands = λ _. ap (λ (j : ℕ). take j (paste terms 0 (take n from) (length (take n from)))) (sym t.count) ∙ copied-part terms (take n from) 0 n (told-length t) (omega arith) ∙ t.stands;
+}
 
 -- a product within the limits has few terms
 pub product-few : (pairs : Bool) (poly : List ℕ) → (pairs && few poly) ≡ true → length poly ≤ 256
 product-few true poly h = leb-true (length poly) 256 h
 product-few false poly h = cc
+
+no_join : (a b c : Bool) → (a && b) ≡ false → (a && (b && c)) ≡ false
+no_join true true c h = cc
+no_join true false c h = refl
+no_join false b c h = refl
+
+-- an or whose product passes the limits passes them
+pub join-past : (p q : List ℕ) → (few_pairs p q && few (product p q)) ≡ false → (few_pairs p q && (few (product p q) && few (joined p q))) ≡ false
+join-past p q h = no_join (few_pairs p q) (few (product p q)) (few (joined p q)) h
 
 module _ (terms : List ℕ) (n k : ℕ) (scratch : List ℕ) (s : Sides terms n k scratch) where
   left-count : length (take n terms) ≡ n

@@ -4,13 +4,14 @@ ghost use Rattle.expr.specs.Tree.{tree_of};
 
 use expr::Tree;
 
-// The atoms that have a number, each at its own; another tree stands where there is none yet. An array with a count, since nothing here allocates.
-#[derive(Drop)]
+// The atoms that have a number, each at its own: `trees_of` is the trees of the first `count` of the list. Behind them another tree stands, which is no
+// atom. An array with a count, since nothing here allocates.
+#[derive(Clone, Copy)]
 pub struct Atoms<'a> {
-    list: [Tree<'a>; 64],
-    count: usize,
-    ghost full: { length list ≡ 64 },
-    ghost few: { count ≤ 64 },
+    pub list: [Tree<'a>; 64],
+    pub count: usize,
+    pub ghost full: { length list ≡ 64 },
+    pub ghost few: { count ≤ 64 },
 }
 
 impl<'a> Atoms<'a> {
