@@ -15,11 +15,16 @@ use Rattle.parity.specs.Parity.{parity, difference}
 use Rattle.parity.specs.declared.Pair.TheVariants.{Sum}
 use Rattle.parity.specs.declared.TooMany.{TooMany}
 use Rattle.parity.specs.Lent.{within, pair_of, Lent, Given}
+use Rattle.parity.proofs.Rooms.{products-lent}
 use Rattle.parity.proofs.Steps.{told, passed}
 use Rattle.parity.proofs.Limits.{only}
 use Rattle.exact.specs.Exact.{is_one, decided_bit, low, shape, at_most_one, shape_value, exact, shape_written, written, shape_fits, exact_fits}
 use Rattle.exact.specs.declared.Shape.{Shape}
 use Rattle.exact.specs.Answers.{Buffers, sum_fits}
+
+-- the same space serves a smaller part
+pub buffers-lent : {u w : ℕ} {terms scratch terms' scratch' : List ℕ} → Buffers w terms scratch → u ≤ w → length terms' ≡ length terms → length scratch' ≡ length scratch → Buffers u terms' scratch'
+buffers-lent b h k m = record { space = omega (arith, b.space, k); products = products-lent b.products h m }
 
 -- a part by itself, with no atoms before it
 pub lent_whole : {w : ℕ} {l : List Expr} {terms scratch : List ℕ} → l ≡ [] → w ≤ 256 → Buffers w terms scratch → Lent w (length l) terms scratch
