@@ -4,13 +4,14 @@ use mathlib.Core.Path.{◌≡◌, refl, sym, ap, ◌∙◌}
 use mathlib.Core.Bool.{Bool, true, false, cond}
 use mathlib.Core.List.{List, []}
 use native.Mathlib.Omega.{arith}
-use lib.ListN.{length, take, drop}
+use lib.ListN.{length, take, drop, length-drop}
+use lib.Seq.{length-take-le}
 use Rattle.std.specs.Prelude.{Result, Ok, Err, IfOk, IsOk}
 use Rattle.std.proofs.lemmas.Result.{IfOk-weaker}
 use Rattle.refusal.specs.declared.Fault.TheVariants.{Records, Terms}
 use Rattle.refusal.specs.declared.Refusal.{Refusal}
 use Rattle.refusal.specs.Numbers.{refused}
-use Rattle.sheet_field.specs.Field.{little, WentOn}
+use Rattle.sheet_field.specs.Field.{little, start_of, WentOn}
 use Rattle.expr.specs.Tree.{Expr, tree_of}
 use Rattle.sheet_expression.specs.Expression.{Taken, expression_at}
 use Rattle.sheet_field.proofs.Fields.{went-on}
@@ -20,7 +21,7 @@ use Rattle.sheet_node.specs.declared.node.NodeFront.{NodeFront}
 use Rattle.sheet_node.specs.Node.{StatementsRead, statements_from, node_at, types_in, node_of}
 use Rattle.sheet_node.specs.Promises.{front_of, addresses_end}
 use Rattle.sheet_node.proofs.Accepted.{Parts, whole-node}
-use Rattle.sheet_node.proofs.Decoding.{body-there, addresses-on-end, addresses_are, sites-there}
+use Rattle.sheet_node.proofs.Decoding.{body-there, addresses-inside, addresses-on-end, addresses_are, sites-there}
 use Rattle.substitution.specs.Substitution.{into, too_long, with_assignments}
 use Rattle.substitution.proofs.Nothing.{nothing-assigned}
 use Rattle.decide.specs.Decide.{decide, fits}
@@ -83,7 +84,7 @@ module _ (s : List ℕ) (at : ℕ) (read : IsOk (node_at s (Ok at)).next) {front
 
     -- refusal 10
     pub judged_long : with_assignments passed.list (tree_of condition.words) ≡ too_long → JudgedIs (Err (refused Records at)) s (node_at s (Ok at)) at
-    judged_long much = record { answer = sym (verdict-here ∙ ap (on_substituted at) much); addresses = tt }
+    judged_long much = record { answer = sym (verdict-here ∙ ap (on_substituted at) much); addresses = tt; count = tt; sites = tt }
 
     -- from the substituted condition, and the addresses after it
     module _ {end : ℕ} (end_is : Ok end ≡ condition.next) where
@@ -94,10 +95,15 @@ module _ (s : List ℕ) (at : ℕ) (read : IsOk (node_at s (Ok at)).next) {front
       node-addresses = addresses-on-end s at on there
 
       pub judged-into : {r : Result JudgedNode Refusal} (c : Expr) → with_assignments passed.list (tree_of condition.words) ≡ into c
-          → answer_in r ≡ on_substituted at (into c) → IfOk r (λ j. j.addresses.now ≡ take (8 * little s end 2) (drop (end + 2) s)) → JudgedIs r s (node_at s (Ok at)) at
-      judged-into {r} c made answer found = record {
+          → answer_in r ≡ on_substituted at (into c) → IfOk r (λ j. j.addresses.now ≡ take (8 * little s end 2) (drop (end + 2) s)) → IfOk r (λ j. j.sites ≡ end + 2)
+          → JudgedIs r s (node_at s (Ok at)) at
+      judged-into {r} c made answer found first = record {
         answer = answer ∙ ap (on_substituted at) (sym made) ∙ sym verdict-here;
         addresses = IfOk-weaker r _ _ (λ j p. p ∙ rw (addresses_are s at on there, ← sites-there s at on there)) found;
+        count =
+            let inside = addresses-inside s end node-addresses in
+            IfOk-weaker r _ _ (λ j p. ap length p ∙ length-take-le (8 * little s end 2) (drop (end + 2) s) (omega (arith, inside.0, inside.1, length-drop (end + 2) s)) ∙ ap (λ (n : ℕ). 8 * n) (addresses_are s at on there)) found;
+        sites = IfOk-weaker r _ _ (λ j p. p ∙ ap start_of (sites-there s at on there)) first;
       }
 
 -- a node without statements: its condition stands as it was read
@@ -135,8 +141,8 @@ module _ (s : List ℕ) (at : ℕ) (read : IsOk (node_at s (Ok at)).next) {front
     plain-addresses = node-addresses s at read front-is refl end-there
 
     pub judged-plain : {r : Result JudgedNode Refusal} → answer_in r ≡ on_substituted at (into (tree_of tree.words.now))
-        → IfOk r (λ j. j.addresses.now ≡ take (8 * little s end 2) (drop (end + 2) s)) → JudgedIs r s (node_at s (Ok at)) at
-    judged-plain answer found =
+        → IfOk r (λ j. j.addresses.now ≡ take (8 * little s end 2) (drop (end + 2) s)) → IfOk r (λ j. j.sites ≡ end + 2) → JudgedIs r s (node_at s (Ok at)) at
+    judged-plain answer found first =
         judged-into s at read front-is refl end-there (tree_of tree.words.now)
         (rw (nothing-passed, ← stands-there, ← took.words) (nothing-assigned tree.words.now tree.wf plain-short))
-        answer found
+        answer found first

@@ -19,11 +19,12 @@ use sheet_node::node::Node;
 use substitute_node::Room;
 use verdict::{Answer, Verdict};
 
-// The verdict on a node, and the node's addresses, 8 bytes each.
+// The verdict on a node, and the node's addresses, 8 bytes each, with the offset of the first (sites).
 #[derive(Clone, Copy)]
 pub struct JudgedNode<'a> {
     pub verdict: Verdict,
     pub addresses: &'a [u8],
+    pub sites: usize,
 }
 
 // The verdict on a condition, or refusal 11 where an equality passes the limits.
@@ -41,10 +42,16 @@ fn judge<'a>(r: &mut Reader<'a>, condition: Tree, place: usize) -> Result<Judged
     requires there { WentOn (addresses_end r.old.bytes.now (Ok r.old.at)) }
     ensures answer { answer_in result ≡ on_substituted place (into (tree_of condition.entry.words.now)) }
     ensures addresses { IfOk result (λ j. j.addresses.now ≡ take (8 * little r.old.bytes.now r.old.at 2) (drop (r.old.at + 2) r.old.bytes.now)) }
+    ensures sites { IfOk result (λ j. j.sites ≡ r.old.at + 2) }
 {
     let verdict = answer_on(condition, place)?;
+    let sites = r.at + 2;
     let addresses = node::take_addresses(r);
-    Ok(JudgedNode { verdict, addresses })
+    Ok(JudgedNode {
+        verdict,
+        addresses,
+        sites,
+    })
 }
 
 // The answer for a node of up to N variables: refusal 10, or that of the decision on the condition. Its bytes are read once. What it works in has a frame

@@ -22,7 +22,7 @@ pub returns-in-Some : goal.returns-in-Some
 returns-in-Some g c =
     let n = c.args.node.now in let these = c.types-types.ensures in let r = c.new-r.ensures in
     let made = rw (r.bytes, r.at) at c.in-Some.ensures.made in
-    judged-into n.bytes.now n.at n.read n.front_is these made.0 _ made.2 c.judge.ensures.answer (rw (c.substitute.ensures.same, r.bytes) at c.judge.ensures.addresses)
+    judged-into n.bytes.now n.at n.read n.front_is these made.0 _ made.2 c.judge.ensures.answer (rw (c.substitute.ensures.same, r.bytes) at c.judge.ensures.addresses) c.judge.ensures.sites
 
 pub returns-in-None : goal.returns-in-None
 returns-in-None g c =

@@ -20,4 +20,4 @@ judge-requires-clause-there c =
 pub returns : goal.returns
 returns c =
     let n = c.args.node.now in let r = c.new-r.ensures in let e = c.take_expression-condition.ensures in let j = c.judge.ensures in
-    judged-plain n.bytes.now n.at n.read n.front_is c.requires (rw (r.bytes, r.at) at e.took) j.answer (rw (e.same, r.bytes) at j.addresses)
+    judged-plain n.bytes.now n.at n.read n.front_is c.requires (rw (r.bytes, r.at) at e.took) j.answer (rw (e.same, r.bytes) at j.addresses) j.sites
