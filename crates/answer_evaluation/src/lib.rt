@@ -12,5 +12,5 @@ pub fn evaluation(s: &[u8], number: u64, values: &[u64]) -> Evaluation
     ensures { in_numbers result ≡ evaluation_answer s.now number values.now }
 {
     let at = sheet::find_node(s, number)?;
-    evaluate_node::evaluate_node(&Node::new(s, at), values)
+    evaluate_node::evaluate_node(&Node::new(s, at), at, values)
 }

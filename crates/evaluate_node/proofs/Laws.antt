@@ -3,7 +3,7 @@ use Rattle.std.specs.Prelude.{Option, Some, None, Ok}
 use Prim.Native.Nat.{ℕ, suc, ◌+◌, ◌≤◌, ◌<◌}
 use mathlib.Core.Path.{◌≡◌, refl, sym, ap, ◌∙◌}
 use mathlib.Core.List.{List, [], ◌∷◌}
-use mathlib.Core.Bool.{Bool, true, false}
+use mathlib.Core.Bool.{Bool, true, false, false≢true}
 use native.Mathlib.Omega.{arith}
 use native.Mathlib.Numerals.{add-one}
 use lib.ListN.{length, get_or, drop, drop_of_length-le}
@@ -57,6 +57,22 @@ none-next types s p = refl
 -- an assignment that was read whole
 pub plain-taken : {x : StatementRead} {f : Assignment} → TookAssignment f x → {plain : Bool} → plain ≡ plain_expr (tree_of f.value.words.now) → plain ≡ plain_statement (statement_of x)
 plain-taken took is = rw (took.assigned, ← took.words) is
+
+-- a statement that is no assignment is not plain
+pub plain_other : (x : StatementRead) → x.assigned ≡ false → false ≡ plain_statement (statement_of x)
+plain_other x other' = rw other'
+
+-- a plain statement is an assignment
+pub plain-assigned : (r : StatementRead) → plain_statement (statement_of r) ≡ true → r.assigned ≡ true
+plain-assigned r h = go r.assigned refl
+  where
+    go : (b : Bool) → r.assigned ≡ b → r.assigned ≡ true
+    go true q = q
+    go false q = let z : false ≡ true = rw q at h in absurd (false≢true z)
+
+-- and its value is plain
+pub plain-words : (r : StatementRead) → plain_statement (statement_of r) ≡ true → plain_expr (tree_of r.words) ≡ true
+plain-words r h = rw (plain-assigned r h) at h
 
 -- nothing is made after the run stopped
 pub rests : (types : List ℕ) (x : Statement) (values : List ℕ) → after_statement types x (stopped values) ≡ stopped values

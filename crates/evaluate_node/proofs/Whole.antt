@@ -70,10 +70,10 @@ module _ (s : List ℕ) (at : ℕ) (read : IsOk (node_at s (Ok at)).next) where
       condition-few =
           let took = reader (node_at s (Ok at)).variables condition-there in rw took.words took.few
 
-      pub condition-refused : false ≡ plain_expr (tree_of tree.words.now) → (values : List ℕ)
-          → Err (refused NotPlain at) ≡ evaluation_of (node_of s (node_at s (Ok at))) at values
+      pub condition-refused : false ≡ plain_expr (tree_of tree.words.now) → (place : ℕ) (values : List ℕ)
+          → Err (refused NotPlain place) ≡ evaluation_of (node_of s (node_at s (Ok at))) place values
       unfolding evaluation_of node_of
-      condition-refused fails values =
+      condition-refused fails place values =
           let out : plain_expr (tree_of (expression_at (node_at s (Ok at)).variables s (node_at s (Ok at)).condition).words) ≡ false = rw (← condition-words) (sym fails) in
           sym (rw (out, and-false))
 

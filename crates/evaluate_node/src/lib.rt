@@ -115,32 +115,32 @@ fn outcome(t: Option<bool>, place: usize) -> Evaluation
 }
 
 // The node, read whole, whose condition is plain.
-fn run_node(node: &Node, values: &[u64], condition: Plain) -> Evaluation
+fn run_node(node: &Node, place: usize, values: &[u64], condition: Plain) -> Evaluation
     requires { condition.tree.words.now ≡ (expression_at (node_at node.now.bytes.now (Ok node.now.at)).variables node.now.bytes.now (node_at node.now.bytes.now (Ok node.now.at)).condition).words }
-    ensures { result ≡ evaluation_of (node_of node.now.bytes.now (node_at node.now.bytes.now (Ok node.now.at))) node.now.at values.now }
+    ensures { result ≡ evaluation_of (node_of node.now.bytes.now (node_at node.now.bytes.now (Ok node.now.at))) place values.now }
 {
     let types = node.types();
     let unfit = first_unfit(types, values);
     let mut run = Run::new(types, values, unfit.is_none());
     let mut r = Reader::new(node.bytes, node.front.body);
     let Some(()) = run.statements(&mut r, node.front.statements) else {
-        return Err(Fault::NotPlain.at(node.at));
+        return Err(Fault::NotPlain.at(place));
     };
     if let Some(v) = unfit {
         return Err(Fault::Value.at(v));
     }
-    outcome(run.condition(condition), node.at)
+    outcome(run.condition(condition), place)
 }
 
-// The node, read whole.
-pub fn evaluate_node(node: &Node, values: &[u64]) -> Evaluation
-    ensures { result ≡ evaluation_of (node_of node.now.bytes.now (node_at node.now.bytes.now (Ok node.now.at))) node.now.at values.now }
+// The node, read whole; its refusals 14 and 15 stand at the place that is given.
+pub fn evaluate_node(node: &Node, place: usize, values: &[u64]) -> Evaluation
+    ensures { result ≡ evaluation_of (node_of node.now.bytes.now (node_at node.now.bytes.now (Ok node.now.at))) place values.now }
 {
     let mut words = [0u64; 256];
     let parts = node.parts(&mut words);
     let mut r = Reader::new(node.bytes, parts.condition);
     let Some(condition) = Plain::of(words::take_expression(&mut r, &mut words)) else {
-        return Err(Fault::NotPlain.at(node.at));
+        return Err(Fault::NotPlain.at(place));
     };
-    run_node(node, values, condition)
+    run_node(node, place, values, condition)
 }

@@ -7,10 +7,12 @@ use Prim.Native.Nat.{ℕ, ◌+◌, ◌/◌, ◌%◌, ◌-◌, ◌≤◌, ◌<◌
 use native.Mathlib.Omega.{arith}
 use lib.Dec.{lit≤}
 use lib.ListN.{length, get_or, take, drop}
-use Rattle.expr.specs.Codes.{kind_load}
+use Rattle.expr.specs.Codes.{kind_load, kind_ternary}
+use Rattle.expr.specs.Types.{type_of, record_type}
 use Rattle.expr.specs.Tree.{Expr, kind_of, flat, flats, arity_of, child, nodes, node, tree_of, tree_count, last_start, Wf, Trees, Formed}
-use Rattle.expr.specs.Tree.Expr.{condition_true, cast, binary, ternary}
+use Rattle.expr.specs.Tree.Expr.{condition_true, load, cast, binary, ternary}
 use Rattle.expr.proofs.Laws.{kids, kids-arity, formed-own, parse-of-flats, tree_of-flat, wf-flat, trees-flats, nine}
+use Rattle.expr.proofs.Stack.{node-type, record-agrees}
 use Rattle.expr.proofs.Parts.{root, Split, split}
 
 -- words that are a tree's
@@ -86,6 +88,16 @@ module _ (ws : List ℕ) (n : ℕ) (w : Wf ws) (e : n + 2 ≡ length ws) where
   root-kind k h =
       (root ws n w e).made ∙ ap (λ (i : ℕ). get_or (nodes (get_or ws n 0 / 16) (get_or ws (n + 1) 0) (kids (tree_of ws))) i condition_true) h
 
+  -- the static type of a tree of one record, below kind 5
+  pub leaf_type : (types : List ℕ) → kind_of (get_or ws n 0) < kind_load → type_of types (tree_of ws) ≡ record_type types (get_or ws n 0) 0 0
+  unfolding arity_of
+  leaf_type types h =
+      let tag = get_or ws n 0 in
+      let l : kind_of tag ≤ kind_ternary = omega arith in
+      ap (type_of types) (root ws n w e).made
+      ∙ node-type types tag (get_or ws (n + 1) 0) (kids (tree_of ws)) l
+      ∙ record-agrees types tag _ _ 0 0 l (λ two. absurd (omega (arith, leaf-arity tag h)))
+
   -- the record at n is formed
   pub root-formed : Formed (get_or ws n 0) (get_or ws (n + 1) 0)
   root-formed =
@@ -108,6 +120,10 @@ module _ (ws : List ℕ) (n : ℕ) (w : Wf ws) (e : n + 2 ≡ length ws) where
       let words : take n ws ≡ flat b = (root ws n w e).body ∙ ap flats (one (kids (tree_of ws)) (kids-count ∙ a)) in
       let p = part (take n ws) b words in
       record { tree = t ∙ ap make (sym p.1); wf = p.0 }
+
+  -- kind 5
+  pub load-child : get_or ws n 0 % 16 ≡ 5 → OneChild ws n (load (get_or ws n 0 / 16))
+  load-child h = one-child (load (get_or ws n 0 / 16)) (arity-kind (get_or ws n 0) 5 h) (root-kind 5 h)
 
   -- kind 6
   pub cast-child : get_or ws n 0 % 16 ≡ 6 → OneChild ws n (cast (get_or ws n 0 / 16))

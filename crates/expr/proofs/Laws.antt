@@ -136,6 +136,10 @@ trees-flats s = ap flats (parse-of-flats s)
 pub wf-parse : (ws : List ℕ) → Wf ws → parse [] ws ≡ tree_of ws ∷ []
 wf-parse ws h = ap (parse []) (sym h) ∙ parse-of-flat (tree_of ws)
 
+pub wf-trees : (ws : List ℕ) → Wf ws → Trees ws
+unfolding Trees flats
+wf-trees ws h = ap flats (wf-parse ws h) ∙ h
+
 one-tree : (ws : List ℕ) (s : List Expr) → flats s ≡ ws → length s ≡ 1 → flat (child s 0) ≡ ws
 unfolding flats
 one-tree ws [] e n = absurd (omega (arith, n))
@@ -146,6 +150,9 @@ one-tree ws (d ∷ b ∷ s) e n = absurd (omega (arith, n))
 pub trees-wf : (ws : List ℕ) → Trees ws → tree_count ws ≡ 1 → Wf ws
 unfolding Trees tree_of
 trees-wf ws h one = one-tree ws (parse [] ws) h one
+
+pub wf-count : (ws : List ℕ) → Wf ws → tree_count ws ≡ 1
+wf-count ws h = ap length (wf-parse ws h)
 
 pub flats-append : (s t : List Expr) → flats (s ++ t) ≡ flats t ++ flats s
 unfolding flats
@@ -311,3 +318,22 @@ wf-even ws h = rw (← h) (flat-even (tree_of ws))
 
 pub wf-two : (ws : List ℕ) → Wf ws → 2 ≤ length ws
 wf-two ws h = rw (← h) (flat-two (tree_of ws))
+
+-- trees after trees
+pub parse-join : (a b : List ℕ) → Trees a → Trees b → parse [] (a ++ b) ≡ parse [] b ++ parse [] a
+unfolding Trees
+parse-join a b h k =
+    ap₂ (λ (x y : List ℕ). parse [] (x ++ y)) (sym h) (sym k)
+    ∙ ap (parse []) (sym (flats-append (parse [] b) (parse [] a)))
+    ∙ parse-of-flats (parse [] b ++ parse [] a)
+
+pub trees-join : (a b : List ℕ) → Trees a → Trees b → Trees (a ++ b)
+unfolding Trees
+trees-join a b h k =
+    ap flats (parse-join a b h k)
+    ∙ flats-append (parse [] b) (parse [] a)
+    ∙ ap₂ (λ (x y : List ℕ). x ++ y) h k
+
+-- one tree after trees
+pub parse-tree : (a b : List ℕ) → Trees a → Wf b → parse [] (a ++ b) ≡ tree_of b ∷ parse [] a
+parse-tree a b h k = parse-join a b h (wf-trees b k) ∙ ap (λ (s : List Expr). s ++ parse [] a) (wf-parse b k)

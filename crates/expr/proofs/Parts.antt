@@ -4,7 +4,7 @@ use mathlib.Core.Path.{◌≡◌, refl, sym, ap, ap₂, subst, ◌∙◌}
 use mathlib.Core.List.{List, [], ◌∷◌, ◌++◌, append_assoc, append-nil, append_cancel_left}
 use Prim.Native.Nat.{ℕ, zero, suc, ◌+◌, ◌-◌, ◌≤◌, ◌<◌}
 use native.Mathlib.Omega.{arith}
-use lib.ListN.{length, get_or, take, drop, length-append}
+use lib.ListN.{length, get_or, take, drop, length-append, length-take}
 use lib.Seq.{take-length, length-take-le, take-take, take_at, get_or_at, get_or-take, take-add, drop-append-add}
 use Rattle.expr.specs.Tree.{Expr, tag_of, value_of, own, flat, flats, arity_of, child, node, push, parse, tree_of, tree_count, last_start, Wf, Trees}
 use Rattle.expr.proofs.Laws.{kids, kids-arity, push-own, flat-root, flat-two, flats-append, parse-of-flats, trees-flats, wf-two}
@@ -153,6 +153,10 @@ root ws n h e =
       count = ap tree_count body ∙ ap length (parse-of-flats (kids (tree_of ws))) ∙ kids-arity (tree_of ws) ∙ ap arity_of (sym tag);
       made = node-own (tree_of ws) ∙ ap₂ (λ (t v : ℕ). node t v (kids (tree_of ws))) (sym tag) (sym value);
     }
+
+-- where a last tree starts is an offset of the words
+pub start-within : (ws : List ℕ) (n m : ℕ) → m ≡ last_start (take n ws) → (m ≤ n) × (m ≡ length (take m ws))
+start-within ws n m h = (omega (arith, length-take n ws), omega (arith, length-take n ws, length-take m ws))
 
 -- the first n words are trees, and m is where the last of them starts
 pub record Split (ws : List ℕ) (n m : ℕ) (e : Expr) (st : List Expr) : Type 0 where

@@ -1,6 +1,6 @@
 -- Sameness of trees: it is equality, and over words a comparison word by word. Assumes nothing.
 use mathlib.Core.Path.{◌≡◌, refl, sym, ap, ap₂, ◌∙◌}
-use mathlib.Core.Bool.{Bool, true, ◌&&◌}
+use mathlib.Core.Bool.{Bool, true, false, ◌&&◌, true≢false}
 use mathlib.Core.List.{List, [], ◌∷◌}
 use Prim.Native.Nat.{ℕ}
 use lib.Dec.{eqb}
@@ -22,6 +22,9 @@ same_tree-refl e = words-refl (flat e)
 
 pub same_tree-equal : (d e : Expr) → d ≡ e → same_tree d e ≡ true
 same_tree-equal d e h = ap (same_tree d) (sym h) ∙ same_tree-refl d
+
+pub same_tree-false : (d e : Expr) → same_tree d e ≡ false → d ≡ e → ⊥
+same_tree-false d e h k = true≢false (sym (same_tree-equal d e k) ∙ h)
 
 -- Wf words hold the same tree where they are the same words
 pub same-words : (a b : List ℕ) → Wf a → Wf b → same_tree (tree_of a) (tree_of b) ≡ same_words a b

@@ -112,7 +112,7 @@ module _ (p : ℕ → Bool) (q : Expr → Bool) (agree : (e : Expr) → q e ≡ 
 kind-eq : (k a j : ℕ) → k < 16 → eqb k j ≡ of_kind j (k + 16 * a)
 kind-eq k a j h = rw (kind-of k a h)
 
-effect-tag : (e : Expr) → is_effect e ≡ of_kind 4 (tag_of e)
+pub effect-tag : (e : Expr) → is_effect e ≡ of_kind 4 (tag_of e)
 unfolding is_effect tag_of
 effect-tag (variable n) = kind-eq 0 n 4 (lit< tt)
 effect-tag (constant w x) = kind-eq 1 w 4 (lit< tt)

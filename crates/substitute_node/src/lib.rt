@@ -1,11 +1,12 @@
 // A node's statements, read where they stand in an accepted sheet, are substituted into its condition. Each statement's bytes are read once.
 #![tactic(auto)]
 
-ghost use Rattle.std.specs.Prelude.{◌≡◌, ℕ, ◌≤◌, ◌<◌, length, Ok};
+ghost use Rattle.std.specs.Prelude.{◌≡◌, ℕ, ◌≤◌, ◌<◌, true, length, Ok};
 ghost use Rattle.sheet_field.specs.Field.{WentOn};
 ghost use Rattle.sheet_expression.specs.Expression.{expression_at};
 ghost use Rattle.sheet_node.specs.Node.{statement_at, statements_from};
 ghost use Rattle.substitution.specs.Held.{table_of};
+ghost use Rattle.substitution.specs.Substitution.{nothing_held};
 ghost use Rattle.substitute_node.specs.Node.{Idle, Stepped, Passed, MadeNode};
 
 use expr::Tree;
@@ -25,7 +26,11 @@ pub struct Room<const N: usize> {
 }
 
 impl<const N: usize> Room<N> {
-    pub fn new() -> Self {
+    // Nothing is held.
+    pub fn new() -> Self
+        ensures held { table_of result.held ≡ nothing_held }
+        ensures idle { result.idle ≡ true }
+    {
         Room {
             held: Held::new(),
             idle: true,

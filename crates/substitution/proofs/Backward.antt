@@ -33,10 +33,22 @@ few-words ws wf {e} is short =
 pub not-long : (e : Expr) → length (flat e) ≤ 256 → long e ≡ false
 not-long e h = le-ltb most_records (size e) (omega (arith, flat-size e))
 
--- the trees that are pending behind a record under a load
-pending-under : (left tag : ℕ) {a : ℕ} → (left ≡ 0 → ⊥) → a ≡ arity_of tag → left - 1 + a ≡ pending_after left tag
-unfolding pending_after
-pending-under left tag {a} l p = rw (ne_eqb left 0 l, p)
+-- the trees that are pending behind a record, case by case
+module _ (left tag : ℕ) where
+  pub pending-load : {k : ℕ} → left ≡ 0 → k ≡ kind_of tag → k ≡ kind_load → 1 ≡ pending_after left tag
+  unfolding pending_after
+  pending-load {k} l p q = rw (eq-eqb left 0 l, eq-eqb (kind_of tag) kind_load (sym p ∙ q))
+
+  pub pending-other : {k : ℕ} → left ≡ 0 → k ≡ kind_of tag → (k ≡ kind_load → ⊥) → 0 ≡ pending_after left tag
+  unfolding pending_after
+  pending-other {k} l p q = rw (eq-eqb left 0 l, ne_eqb (kind_of tag) kind_load (λ z. q (p ∙ z)))
+
+  pub pending-under : {a : ℕ} → (left ≡ 0 → ⊥) → a ≡ arity_of tag → left - 1 + a ≡ pending_after left tag
+  unfolding pending_after
+  pending-under {a} l p = rw (ne_eqb left 0 l, p)
+
+  pub pending-fits : {a : ℕ} → (left ≡ 0 → ⊥) → a ≡ arity_of tag → pending_after left tag ≤ 256 → left - 1 + a ≤ 256
+  pending-fits l p h = rw (pending-under l p) h
 
 -- ---- what is still to be written
 

@@ -7,10 +7,11 @@ use native.Mathlib.Decide.{dec_lt, ℕ_discrete}
 use native.Mathlib.Omega.{arith}
 use lib.Dec.{eqb, lit<}
 use lib.ListN.{length, get_or, take, set, replicate}
-use borrow.Author.Tests.{ne_eqb, eqb-true, eqb-false}
+use borrow.Author.Tests.{eq-eqb, ne_eqb, eqb-true, eqb-false}
 use Rattle.expr.specs.Codes.{kind_variable}
-use Rattle.expr.specs.Tree.{Expr, Wf, tree_of, tag_of, kind_of}
+use Rattle.expr.specs.Tree.{Expr, Wf, tree_of, tag_of, kind_of, argument_of}
 use Rattle.expr.specs.Tree.Expr.{variable, constant, condition_true, condition_false, effect, load, cast, binary, ternary}
+use Rattle.expr.specs.Scan.{any_node, plain_expr}
 use Rattle.expr.proofs.Laws.{kind-of, argument-of, wf-two}
 use Rattle.substitution.specs.declared.slot.Slot.{Slot}
 use Rattle.substitution.specs.Substitution.{Entry, free, held, Table, nothing_held, entry_reads, kept, ended, holdable, entry_of, assigned}
@@ -18,6 +19,19 @@ use Rattle.substitution.specs.Held.{entry_in, table_in, ended_tag}
 
 -- a record that is another variable whose held value ends
 module _ (v : ℕ) (h : Table) (tag : ℕ) where
+  pub ended-other : {k w : ℕ} {r : Bool} → k ≡ kind_of tag → k ≡ kind_variable → w ≡ argument_of tag → (w ≡ v → ⊥) → r ≡ entry_reads v (h w)
+      → r ≡ ended_tag v h tag
+  unfolding ended_tag
+  ended-other {k} {w} {r} kind is number off reads-it =
+      let kind-is : kind_of tag ≡ kind_variable = sym kind ∙ is in
+      rw (eq-eqb (kind_of tag) kind_variable kind-is, ← number, ne_eqb w v off) reads-it
+
+  pub ended-own : {k w : ℕ} → k ≡ kind_of tag → k ≡ kind_variable → w ≡ argument_of tag → w ≡ v → false ≡ ended_tag v h tag
+  unfolding ended_tag
+  ended-own {k} {w} kind is number same =
+      let kind-is : kind_of tag ≡ kind_variable = sym kind ∙ is in
+      rw (eq-eqb (kind_of tag) kind_variable kind-is, ← number, eq-eqb w v same)
+
   pub ended-none : {k : ℕ} → k ≡ kind_of tag → (k ≡ kind_variable → ⊥) → false ≡ ended_tag v h tag
   unfolding ended_tag
   ended-none {k} kind off = rw (ne_eqb (kind_of tag) kind_variable (λ z. off (kind ∙ z)))
@@ -38,6 +52,11 @@ ended-tag v h (load t a) = ended-none v h (5 + 16 * t) (sym (kind-of 5 t (lit< t
 ended-tag v h (cast t a) = ended-none v h (6 + 16 * t) (sym (kind-of 6 t (lit< tt))) (omega arith)
 ended-tag v h (binary o a b) = ended-none v h (7 + 16 * o) (sym (kind-of 7 o (lit< tt))) (omega arith)
 ended-tag v h (ternary c a b) = ended-none v h 8 refl (omega arith)
+
+-- a value is held
+pub holdable-by : (v : ℕ) (h : Table) (e : Expr) {a b : Bool} → a ≡ plain_expr e → b ≡ any_node (ended v h) e → (a && not b) ≡ holdable v h e
+unfolding holdable
+holdable-by v h e p q = rw (p, q)
 
 -- what stands where
 pub beyond : {n : ℕ} (slots : List (Slot n)) (v : ℕ) → length slots ≤ v → table_in slots v ≡ free

@@ -216,6 +216,10 @@ ev-typed types ρ σ m f (ternary c a b) =
     choose-typed t (truth_of (ev types ρ σ (under 0 m) (under 0 f) c)) (taken (type_of types a) t u) (taken (type_of types b) t v) (taken-typed (type_of types a) t u) (taken-typed (type_of types b) t v)
 
 module _ (types values : List ℕ) where
+  pub evaluated-typed : (e : Expr) {t : ℕ} {v : Option ℕ} → t ≡ type_of types e → v ≡ evaluated types values e → Typed t v
+  unfolding evaluated
+  evaluated-typed e et ee = rw (et, ee) (ev-typed types (λ n. get_or values n 0) (λ n. get_or values n 0) (λ path t a. 0) (λ path. 0) e)
+
   -- evaluation by the root
   evaluated-cast : (t : ℕ) (a : Expr) → evaluated types values (cast t a) ≡ taken (type_of types a) t (evaluated types values a)
   unfolding evaluated ev

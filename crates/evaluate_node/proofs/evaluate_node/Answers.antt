@@ -17,7 +17,7 @@ of-requires c =
 pub returns-in_default : goal.returns-in_default
 returns-in_default c =
     let n = c.args.node.now in let there = ap (λ (x : NodeReading). x.condition) c.parts-parts.ensures in
-    rw c.at.ensures (condition-refused n.bytes.now n.at n.read there (rw (c.new-r.ensures.bytes, c.new-r.ensures.at) at c.take_expression.ensures.took) c.in_default.ensures.plain c.args.values.now)
+    rw c.at.ensures (condition-refused n.bytes.now n.at n.read there (rw (c.new-r.ensures.bytes, c.new-r.ensures.at) at c.take_expression.ensures.took) c.in_default.ensures.plain c.args.place c.args.values.now)
 
 pub run_node-requires : goal.run_node-requires
 run_node-requires c =

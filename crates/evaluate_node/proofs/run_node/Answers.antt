@@ -28,19 +28,19 @@ returns-in_default c =
     let n = c.args.node.now in
     let r = running n.bytes.now n.at n.read c.types-types.ensures c.requires in
     let k = rw (c.new-run.ensures.types, c.new-r.ensures.bytes, c.new-r.ensures.at, statements-there n.bytes.now n.at n.read c.types-types.ensures c.requires n.front_is, c.in_default.is) at c.statements.ensures.state in
-    rw c.at.ensures (node-refused n.bytes.now (node_at n.bytes.now (Ok n.at)) n.at c.types-types.result.now c.args.values.now c.args.condition.tree.words.now r c.args.condition.plain k)
+    rw c.at.ensures (node-refused n.bytes.now (node_at n.bytes.now (Ok n.at)) c.args.place c.types-types.result.now c.args.values.now c.args.condition.tree.words.now r c.args.condition.plain k)
 
 pub returns-in-Some-unfit : goal.returns-in-Some-unfit
 returns-in-Some-unfit c =
     let n = c.args.node.now in
     let r = running n.bytes.now n.at n.read c.types-types.ensures c.requires in
     let k = rw (c.new-run.ensures.types, c.new-r.ensures.bytes, c.new-r.ensures.at, statements-there n.bytes.now n.at n.read c.types-types.ensures c.requires n.front_is, c.in-Some.is) at c.statements.ensures.state in
-    rw c.at-in-Some-unfit.ensures (node-unfit n.bytes.now (node_at n.bytes.now (Ok n.at)) n.at c.types-types.result.now c.args.values.now c.args.condition.tree.words.now r c.args.condition.plain k.0 c.first_unfit-unfit.ensures c.is_none.ensures c.new-run.result.going c.new-run.result.values c.new-run.ensures.started c.in-Some-unfit.is)
+    rw c.at-in-Some-unfit.ensures (node-unfit n.bytes.now (node_at n.bytes.now (Ok n.at)) c.args.place c.types-types.result.now c.args.values.now c.args.condition.tree.words.now r c.args.condition.plain k.0 c.first_unfit-unfit.ensures c.is_none.ensures c.new-run.result.going c.new-run.result.values c.new-run.ensures.started c.in-Some-unfit.is)
 
 pub returns : goal.returns
 returns c =
     let n = c.args.node.now in
     let r = running n.bytes.now n.at n.read c.types-types.ensures c.requires in
     let k = rw (c.new-run.ensures.types, c.new-r.ensures.bytes, c.new-r.ensures.at, statements-there n.bytes.now n.at n.read c.types-types.ensures c.requires n.front_is, c.in-Some.is) at c.statements.ensures.state in
-    node-went n.bytes.now (node_at n.bytes.now (Ok n.at)) n.at c.types-types.result.now c.args.values.now c.args.condition.tree.words.now r c.args.condition.plain k.0 c.first_unfit-unfit.ensures c.is_none.ensures c.new-run.result.going c.new-run.result.values c.new-run.ensures.started c.in_default-unfit.is k.1
+    node-went n.bytes.now (node_at n.bytes.now (Ok n.at)) c.args.place c.types-types.result.now c.args.values.now c.args.condition.tree.words.now r c.args.condition.plain k.0 c.first_unfit-unfit.ensures c.is_none.ensures c.new-run.result.going c.new-run.result.values c.new-run.ensures.started c.in_default-unfit.is k.1
     (rw (c.statements.ensures.types, c.new-run.ensures.types) at c.condition.ensures) c.outcome.ensures
