@@ -12,7 +12,7 @@ truncated Word x = mod-mod-pow x 48 16
 truncated Double x = mod-mod-pow x 32 32
 truncated Quad x = mod-mod-pow x 0 64
 
-turns : (w : Width) (a b : ℕ) → b < 2 ^ 64 → (a + (2 ^ 64 - b)) % 2 ^ bits w ≡ (a + (2 ^ bits w - b % 2 ^ bits w)) % 2 ^ bits w
+pub turns : (w : Width) (a b : ℕ) → b < 2 ^ 64 → (a + (2 ^ 64 - b)) % 2 ^ bits w ≡ (a + (2 ^ bits w - b % 2 ^ bits w)) % 2 ^ bits w
 turns Byte a b h = omega arith
 turns Word a b h = omega arith
 turns Double a b h = omega arith

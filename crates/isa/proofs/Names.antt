@@ -29,7 +29,11 @@ pub number-named : (k : ℕ) → k < 35 → number_of (named k) ≡ k
 unfolding named table
 number-named k small = row 0 table numbered k small ∙ zero-add k
 
--- A mnemonic's number names it.
+-- A mnemonic's number names it, and is a number of the table.
 pub named-number : (m : Mnemonic) → named (number_of m) ≡ m
 unfolding number_of named table
 named-number m = grind arith
+
+pub number-below : (m : Mnemonic) → number_of m < 35
+unfolding number_of
+number-below m = grind arith

@@ -1,5 +1,5 @@
 -- Laws of `Ascending`, `count_below` and `place_of`.
-use Prim.Native.Nat.{ℕ, zero, suc, ◌+◌, ◌-◌, ◌≤◌, ◌<◌}
+use Prim.Native.Nat.{ℕ, zero, suc, ◌+◌, ◌-◌, ◌≤◌, ◌<◌, min}
 use mathlib.Core.Path.{◌≡◌, refl, ap}
 use mathlib.Core.Bool.{Bool, true, false, cond}
 use mathlib.Core.Logic.{◌⊎◌, inl, inr}
@@ -9,8 +9,8 @@ use native.Mathlib.Numerals.{add-one}
 use native.Mathlib.Decide.{dec_lt}
 use native.Mathlib.Omega.{arith}
 use lib.Dec.{eqb}
-use lib.ListN.{length, get_or, length-append, get_or-append}
-use lib.Seq.{get_or-append_seam}
+use lib.ListN.{length, get_or, take, length-append, length-take, get_or-append}
+use lib.Seq.{get_or-append_seam, get_or-take, take-suc, length-take-le}
 use borrow.Author.Tests.{lt-ltb, le-ltb, eq-eqb, ne_eqb, eqb-true, eqb-false}
 use Rattle.search.specs.Ascending.{Ascending, Below, count_below, place_of}
 use Rattle.std.specs.Prelude.{Option, Some, None, option_map, Result, Ok, Err, drop}
@@ -66,6 +66,21 @@ ascending-more {l} up x last = record { rises = λ i h. rise i (simp length-appe
     rise : (i : ℕ) → i + 1 < length l + 1 → get_or (l ++ (x ∷ [])) i 0 < get_or (l ++ (x ∷ [])) (i + 1) 0
     rise i h = rw (old i (omega arith)) (pick i (eq-or-lt_of_le (omega arith)))
 
+-- the start of an ascending list
+pub ascending-take : {l : List ℕ} → Ascending l → (n : ℕ) → Ascending (take n l)
+ascending-take {l} up n = record { rises = λ i h. rise i (simp length-take at h) }
+  where
+    rise : (i : ℕ) → i + 1 < min n (length l) → get_or (take n l) i 0 < get_or (take n l) (i + 1) 0
+    rise i h = rw (get_or-take n l i 0 (omega arith), get_or-take n l (i + 1) 0 (omega arith)) (up.rises i (omega arith))
+
+-- the start, one element longer
+pub ascending-longer : (l : List ℕ) (n : ℕ) → Ascending (take n l) → n < length l
+    → (1 ≤ n → get_or l (n - 1) 0 < get_or l n 0) → Ascending (take (n + 1) l)
+ascending-longer l n up within last =
+    let size : length (take n l) ≡ n = length-take-le n l (omega arith) in
+    rw (add-one, take-suc l n 0 within)
+    (ascending-more up (get_or l n 0) (rw size (λ h. rw (get_or-take n l (n - 1) 0 (omega arith)) (last h))))
+
 -- the rest of an ascending list
 pub ascending-rest : {a : ℕ} {l : List ℕ} → Ascending (a ∷ l) → Ascending l
 ascending-rest {a} {l} up = record { rises = λ i h. rw add-one (rw add-one at (up.rises (suc i) (omega arith))) }
@@ -83,6 +98,25 @@ bracket-whole l x = record {
   within = omega arith;
   below = λ i h. absurd (omega arith);
   above = λ i h h'. absurd (omega arith);
+}
+
+-- an element below x moves lo to the index after it, and one at or above x moves hi to it
+pub bracket-up : {l : List ℕ} {x lo hi n : ℕ} → Ascending l → Bracket l x lo hi → (m : ℕ)
+    → (m < hi) × (n ≡ m + 1) × (get_or l m 0 < x) → Bracket l x n hi
+bracket-up {l} {x} up b m known = record {
+  order = omega arith;
+  within = b.within;
+  below = λ i h. omega (arith, ascending-upto up i m (omega arith) (omega arith));
+  above = b.above;
+}
+
+pub bracket-down : {l : List ℕ} {x lo hi n : ℕ} → Ascending l → Bracket l x lo hi → (m : ℕ)
+    → (lo ≤ m) × (m < hi) × (n ≡ m) × (x ≤ get_or l m 0) → Bracket l x lo n
+bracket-down {l} {x} up b m known = record {
+  order = omega arith;
+  within = omega arith;
+  below = b.below;
+  above = λ i h h'. omega (arith, ascending-upto up m i (omega arith) h');
 }
 
 -- Where the two meet is the count of the elements below x.
@@ -162,6 +196,21 @@ pub place_here : {l : List ℕ} {x i : ℕ} → Ascending l → (i < length l) �
 place_here {l} {x} {i} up here =
     place_at l x i here.0 here.1 (λ j h e. omega (arith, ascending-below up j i h here.0))
 
+-- Where the first element at or above x is another, or there is none, x stands nowhere.
+pub place-past : {l : List ℕ} {x n : ℕ} → Ascending l → n ≡ count_below l x
+    → (n < length l → get_or l n 0 ≡ x → ⊥) → None ≡ place_of l x
+place-past {l} {x} {n} up count off = place_none l x (λ i h e. go i h e (dec_lt i n))
+  where
+    split : Bracket l x n n
+    split = rw count (count-splits l up x)
+
+    go : (i : ℕ) → i < length l → get_or l i 0 ≡ x → Dec (i < n) → ⊥
+    go i h e (yes before) = omega (arith, split.below i before)
+    go i h e (no from) =
+        let least : x ≤ get_or l n 0 = split.above n (omega arith) (omega arith) in
+        let upto : get_or l n 0 ≤ get_or l i 0 = ascending-upto up n i (omega arith) h in
+        off (omega arith) (omega arith)
+
 -- What an index tells: the element there is x, and where x stands nowhere no element is.
 abbrev Told : List ℕ → ℕ → Option ℕ → Type 0
 Told l x (Some i) = (i < length l) × (get_or l i 0 ≡ x)
@@ -183,6 +232,10 @@ place-tells (a ∷ l) x = go (eqb a x) refl (place_of l x) (place-tells l x)
 
 pub place_found : (l : List ℕ) (x : ℕ) {p : Option ℕ} {i : ℕ} → p ≡ place_of l x → p ≡ Some i → (i < length l) × (get_or l i 0 ≡ x)
 place_found l x place at = rw (← place, at) at (place-tells l x)
+
+pub place-missing : (l : List ℕ) (x : ℕ) {p : Option ℕ} → p ≡ place_of l x → p ≡ None
+    → (i : ℕ) → i < length l → get_or l i 0 ≡ x → ⊥
+place-missing l x place at = rw (← place, at) at (place-tells l x)
 
 -- Where an element is below x, all up to it are.
 pub below-upto : {l : List ℕ} {x n : ℕ} → Ascending l → (m : ℕ) → (m < length l) × (n ≡ m + 1) × (get_or l m 0 < x) → Below l x n

@@ -9,6 +9,9 @@ use Rattle.text.specs.Promises.{Puts}
 use Rattle.text.proofs.Puts.{puts_then, put-none}
 use Rattle.sentence_text.specs.Sentence.{turned, turned_times}
 
+pub turned-long : length turned ≡ 24
+turned-long = refl
+
 pub turns_long : (n : ℕ) → length (turned_times n) ≡ 24 * n
 unfolding turned_times
 turns_long zero = refl

@@ -71,12 +71,15 @@ within-most base (suc times) (suc k) n some h =
 pub places-most : (base k n : ℕ) → 0 < base → n < base ^ suc k → places_of base n ≤ suc k
 places-most base k n some h = within-most base n k n some h
 
--- how long numbers of 64 bits and of 8 bits can be
+-- how long numbers of 64 bits, of 8 bits and below ten can be
 pub word-short : (n : ℕ) → n < 2 ^ 64 → length (decimal n) ≤ 20
 word-short n h = rw digits_long (places-most 10 19 n (omega arith) (omega arith))
 
 pub byte-short : (n : ℕ) → n < 2 ^ 8 → length (decimal n) ≤ 3
 byte-short n h = rw digits_long (places-most 10 2 n (omega arith) (omega arith))
+
+pub one-short : (n : ℕ) → n ≤ 9 → length (decimal n) ≤ 1
+one-short n h = rw (digits_long, places-few 10 n (omega arith)) (omega arith)
 
 -- how long the pieces of a text are
 pub ruleset short = (digits_long, word-short, byte-short)
