@@ -5,7 +5,7 @@ ghost use Rattle.std.specs.Prelude.{◌≡◌};
 ghost use Rattle.verdict.specs.Numbers.{answer_numbers};
 ghost use Rattle.answer_block.specs.Block.{block_answer};
 
-use sheet::code::Code;
+use sheet::code::CodeIndex;
 use verdict::Answer;
 
 // The verdict on the block of that number, from 0.
@@ -14,6 +14,6 @@ pub fn block_verdict(s: &[u8], number: u64) -> Answer
 {
     let mut addresses = [0; 2048];
     let mut places = [0; 2048];
-    let code = Code::with_block(s, number, &mut addresses, &mut places)?;
-    Ok(verdict_block::verdict_on(&code, number))
+    let index = CodeIndex::with_block(s, number, &mut addresses, &mut places)?;
+    Ok(verdict_block::verdict_on(&index, number))
 }

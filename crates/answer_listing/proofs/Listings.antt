@@ -11,6 +11,7 @@ use Rattle.refusal.specs.declared.Refusal.{Refusal}
 use Rattle.refusal.specs.Numbers.{refused}
 use Rattle.sheet.specs.declared.Sheet.{Sheet}
 use Rattle.sheet.specs.declared.code.Code.{Code}
+use Rattle.sheet.specs.declared.code.CodeIndex.{CodeIndex}
 use Rattle.sheet.specs.Sheet.{sheet_at, reading_of}
 use Rattle.sheet.specs.Index.{over, addresses_of, targets_of}
 use Rattle.sheet.proofs.InCode.{code-addresses, code-places}
@@ -46,14 +47,14 @@ module _ (s sites targets slots list : List ℕ) (each-site : length sites ≡ l
 
 -- what judging came to
 module _ (s : List ℕ) (slots : List ℕ) where
-  listed-through : {addresses targets : List ℕ} (j : Judged) (r : Result ℕ Refusal) (after list : List ℕ) → addresses ≡ addresses_of (sheet_at s).instructions.list
+  pub listed-through : {addresses targets : List ℕ} (j : Judged) (r : Result ℕ Refusal) (after list : List ℕ) → addresses ≡ addresses_of (sheet_at s).instructions.list
       → targets ≡ targets_of (sheet_at s).instructions.list → Reached (sheet_at s).instructions.list (Ok tt) slots j
       → Gives r after (written s (lines_in addresses targets slots) list) → Gives r after (on_judged j s list)
   listed-through (Ok said) r after list addresses-are targets-are is gives =
       rw (← lines-due (sheet_at s).instructions.list said, ← addresses-are, ← targets-are, ← is) gives
   listed-through (Err e) r after list addresses-are targets-are is gives = absurd is
 
-  listed-refused : (j : Judged) (r : Refusal) (list : List ℕ) → Reached (sheet_at s).instructions.list (Err r) slots j → Gives (Err r) list (on_judged j s list)
+  pub listed-refused : (j : Judged) (r : Refusal) (list : List ℕ) → Reached (sheet_at s).instructions.list (Err r) slots j → Gives (Err r) list (on_judged j s list)
   listed-refused (Ok said) r list is = absurd is
   listed-refused (Err e) r list is = rw is (refl, refl)
 
@@ -64,11 +65,11 @@ take-nothing (suc n) zero fits = absurd (omega arith)
 take-nothing (suc n) (suc m) fits = ap (λ (l : List ℕ). 0 ∷ l) (take-nothing n m (omega arith))
 
 -- slots for an accepted sheet's instructions, of a list that holds nothing
-module _ (c : Code) where
-  pub targets-count : length (targets_of (sheet_at c.bytes.now).instructions.list) ≡ length c.addresses.now
-  unfolding targets_of
-  targets-count = rw (length-map, code-addresses c)
+pub targets-count : (index : CodeIndex) → length (targets_of (sheet_at index.code.bytes.now).instructions.list) ≡ length index.addresses.now
+unfolding targets_of
+targets-count index = rw (length-map, code-addresses index)
 
+module _ (c : Code) where
   pub slots-front : (m : ℕ) → length c.places.now ≤ m → take (length c.places.now) (replicate m 0) ≡ slots_of (sheet_at c.bytes.now).instructions.list []
   slots-front m fits = rw (take-nothing (length c.places.now) m fits, code-places c) (slots-empty (sheet_at c.bytes.now).instructions.list)
 
@@ -78,20 +79,20 @@ module _ (s list : List ℕ) where
   unfolding listing_of
   listing_refused is = rw is (refl, refl)
 
-  listing-accepted : {sheet : Sheet} (g : Result ℕ Refusal) (after : List ℕ) → reading_of s ≡ Ok sheet
+  pub listing-accepted : {sheet : Sheet} (g : Result ℕ Refusal) (after : List ℕ) → reading_of s ≡ Ok sheet
       → Gives g after (on_judged (judged_up_to s sheet.blocks.count sheet.nodes.count) s list) → Gives g after (listing_of s list)
   unfolding listing_of
   listing-accepted g after is gives = rw is gives
 
 -- the listing of an accepted sheet, from what judging came to
-module _ (c : Code) (slots list : List ℕ) where
+module _ (index : CodeIndex) (slots list : List ℕ) where
   pub listing-through : (g : Result ℕ Refusal) (after : List ℕ)
-      → Reached (sheet_at c.bytes.now).instructions.list (Ok tt) slots (judged_up_to c.bytes.now c.sheet.blocks.count c.sheet.nodes.count)
-      → Gives g after (written c.bytes.now (lines_in c.addresses.now (targets_of (sheet_at c.bytes.now).instructions.list) slots) list) → Gives g after (listing_of c.bytes.now list)
+      → Reached (sheet_at index.code.bytes.now).instructions.list (Ok tt) slots (judged_up_to index.code.bytes.now index.code.sheet.blocks.count index.code.sheet.nodes.count)
+      → Gives g after (written index.code.bytes.now (lines_in index.addresses.now (targets_of (sheet_at index.code.bytes.now).instructions.list) slots) list) → Gives g after (listing_of index.code.bytes.now list)
   listing-through g after reached gives =
-      listing-accepted c.bytes.now list g after c.accepted (listed-through c.bytes.now slots (judged_up_to c.bytes.now c.sheet.blocks.count c.sheet.nodes.count) g after list c.addressed refl reached gives)
+      listing-accepted index.code.bytes.now list g after index.code.accepted (listed-through index.code.bytes.now slots (judged_up_to index.code.bytes.now index.code.sheet.blocks.count index.code.sheet.nodes.count) g after list index.addressed refl reached gives)
 
-  pub listing-ended : (r : Refusal) → Reached (sheet_at c.bytes.now).instructions.list (Err r) slots (judged_up_to c.bytes.now c.sheet.blocks.count c.sheet.nodes.count)
-      → Gives (Err r) list (listing_of c.bytes.now list)
+  pub listing-ended : (r : Refusal) → Reached (sheet_at index.code.bytes.now).instructions.list (Err r) slots (judged_up_to index.code.bytes.now index.code.sheet.blocks.count index.code.sheet.nodes.count)
+      → Gives (Err r) list (listing_of index.code.bytes.now list)
   listing-ended r reached =
-      listing-accepted c.bytes.now list (Err r) list c.accepted (listed-refused c.bytes.now slots (judged_up_to c.bytes.now c.sheet.blocks.count c.sheet.nodes.count) r list reached)
+      listing-accepted index.code.bytes.now list (Err r) list index.code.accepted (listed-refused index.code.bytes.now slots (judged_up_to index.code.bytes.now index.code.sheet.blocks.count index.code.sheet.nodes.count) r list reached)

@@ -9,21 +9,21 @@ ghost use Rattle.answer_listing.specs.Listing.{Gives, written, listing_of};
 ghost use Rattle.answer_listing.specs.Promises.{Attempted};
 
 use refusal::{Fault, Refusal};
-use sheet::code::Code;
+use sheet::code::CodeIndex;
 
 // The lines that slots hold, written where the list can hold them; how many they are.
-fn write_lines(code: &Code, slots: &[u8], list: &mut [u8]) -> Result<u64, Refusal>
-    requires { (length code.now.addresses.now ≡ length slots.now) × (length (targets_of (sheet_at code.now.bytes.now).instructions.list) ≡ length slots.now) }
-    ensures { Gives result list.new (written code.now.bytes.now (lines_in code.now.addresses.now (targets_of (sheet_at code.now.bytes.now).instructions.list) slots.now) list.old) }
+fn write_lines(index: &CodeIndex, slots: &[u8], list: &mut [u8]) -> Result<u64, Refusal>
+    requires { (length index.now.addresses.now ≡ length slots.now) × (length (targets_of (sheet_at index.now.code.bytes.now).instructions.list) ≡ length slots.now) }
+    ensures { Gives result list.new (written index.now.code.bytes.now (lines_in index.now.addresses.now (targets_of (sheet_at index.now.code.bytes.now).instructions.list) slots.now) list.old) }
 {
     let n = verdict_lines::count(slots);
     if n == 0 {
         return Ok(0);
     }
     if ((list.len() / 18) as u64) < n {
-        return Err(Fault::Room.at(code.bytes.len()));
+        return Err(Fault::Room.at(index.code.bytes.len()));
     }
-    verdict_lines::write(code, slots, list);
+    verdict_lines::write(&index.code, index.addresses, slots, list);
     Ok(n)
 }
 
@@ -49,10 +49,10 @@ fn list_in(
     if (nodes.len() as u64) < sheet.nodes.count {
         return Ok(None);
     }
-    let code = Code::new(s, sheet, addresses, places);
-    let slots = &mut room[..code.places.len()];
-    verdict_sheet::judge(&code, &nodes[..sheet.nodes.count as usize], slots)?;
-    Ok(Some(write_lines(&code, slots, list)?))
+    let index = CodeIndex::new(s, sheet, addresses, places);
+    let slots = &mut room[..index.code.places.len()];
+    verdict_sheet::judge(&index, &nodes[..sheet.nodes.count as usize], slots)?;
+    Ok(Some(write_lines(&index, slots, list)?))
 }
 
 // The listing with an index of N instructions and M nodes, or none where the sheet has more. Each has a frame of its own, with arrays of its size.

@@ -4,7 +4,7 @@
 ghost use Rattle.answer_sentence.specs.Sentence.{sentence_answer, Gives};
 
 use refusal::{Fault, Refusal};
-use sheet::code::Code;
+use sheet::code::CodeIndex;
 
 // Writes the sentence of the verdict on the block of that number, from 0, to the start of the text, and gives its length. A block without a verdict
 // has none: length 0.
@@ -13,6 +13,6 @@ pub fn block_sentence(s: &[u8], number: u64, text: &mut [u8]) -> Result<usize, R
 {
     let mut addresses = [0; 2048];
     let mut places = [0; 2048];
-    let code = Code::with_block(s, number, &mut addresses, &mut places)?;
-    sentence_block::sentence_on(&code, number, text).map_err(|short| Fault::Text.at(short.needed))
+    let index = CodeIndex::with_block(s, number, &mut addresses, &mut places)?;
+    sentence_block::sentence_on(&index, number, text).map_err(|short| Fault::Text.at(short.needed))
 }

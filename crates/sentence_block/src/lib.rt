@@ -21,7 +21,7 @@ use machine::State;
 use phrase::{Cause, FlagGroup};
 use sentence::{Setters, Telling};
 use sentence_text::{Said, TooShort};
-use sheet::code::Code;
+use sheet::code::{Code, CodeIndex};
 use verdict_block::Range;
 
 // The code and its first number go side by side through four functions: in a struct of both, each contract would name the sheet's bytes behind one
@@ -100,10 +100,10 @@ fn said_in(code: &Code, range: Range) -> Option<Said>
 }
 
 // Writes the sentence of the block of that number, of an accepted sheet with its index, to the start of a text that can hold it.
-pub fn sentence_on(code: &Code, number: u64, text: &mut [u8]) -> Result<usize, TooShort>
-    requires { number < code.now.sheet.blocks.count }
-    ensures { Fits result (sentence_on code.now.bytes.now number) text.old text.new }
+pub fn sentence_on(index: &CodeIndex, number: u64, text: &mut [u8]) -> Result<usize, TooShort>
+    requires { number < index.now.code.sheet.blocks.count }
+    ensures { Fits result (sentence_on index.now.code.bytes.now number) text.old text.new }
 {
-    let range = verdict_block::range_of(code, number, 0);
-    sentence_text::tell(said_in(code, range), text)
+    let range = verdict_block::range_of(index, number, 0);
+    sentence_text::tell(said_in(&index.code, range), text)
 }

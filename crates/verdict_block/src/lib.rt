@@ -13,7 +13,7 @@ ghost use Rattle.verdict_block.specs.Promises.{RangeOf};
 
 use isa::Mnemonic;
 use machine::State;
-use sheet::code::Code;
+use sheet::code::{Code, CodeIndex};
 use verdict::{Reason, Verdict};
 
 // The instructions of a sheet from number `first` up to `end`. Not std's range, which cannot be copied.
@@ -63,13 +63,13 @@ fn verdict_at(state: &State, jump: Option<Mnemonic>) -> Verdict
 
 // The instructions of the block of that number, of an accepted sheet with its index: quickly found where they start at or shortly
 // after a guess.
-pub fn range_of(code: &Code, number: u64, guess: usize) -> Range
-    requires { number < code.now.sheet.blocks.count }
-    ensures { RangeOf code.now.bytes.now number result }
+pub fn range_of(index: &CodeIndex, number: u64, guess: usize) -> Range
+    requires { number < index.now.code.sheet.blocks.count }
+    ensures { RangeOf index.now.code.bytes.now number result }
 {
-    let block = code.nth_block(number);
-    let first = search::first_from(code.addresses, guess, block.from);
-    let end = search::first_from(code.addresses, first, block.to);
+    let block = index.code.sheet.nth_block(index.code.bytes, number);
+    let first = search::first_from(index.addresses, guess, block.from);
+    let end = search::first_from(index.addresses, first, block.to);
     Range { first, end }
 }
 
@@ -88,10 +88,10 @@ pub fn verdict_in(code: &Code, range: Range) -> Verdict
 }
 
 // The verdict on the block of that number, of an accepted sheet with its index.
-pub fn verdict_on(code: &Code, number: u64) -> Verdict
-    requires { number < code.now.sheet.blocks.count }
-    ensures { result ≡ verdict_on code.now.bytes.now number }
+pub fn verdict_on(index: &CodeIndex, number: u64) -> Verdict
+    requires { number < index.now.code.sheet.blocks.count }
+    ensures { result ≡ verdict_on index.now.code.bytes.now number }
 {
-    let range = range_of(code, number, 0);
-    verdict_in(code, range)
+    let range = range_of(index, number, 0);
+    verdict_in(&index.code, range)
 }

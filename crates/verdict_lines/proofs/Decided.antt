@@ -5,7 +5,7 @@ use mathlib.Core.Bool.{cond, not}
 use mathlib.Core.List.{List, [], ◌∷◌}
 use native.Mathlib.Omega.{arith}
 use native.Mathlib.Numerals.{add-one}
-use lib.ListN.{length, get_or, set, drop}
+use lib.ListN.{length, get_or, set, drop, drop_of_length-le}
 use lib.Dec.{eqb}
 use borrow.Author.Tests.{ne_eqb}
 use lib.Seq.{drop-cons}
@@ -54,6 +54,10 @@ pub decided-one : (x : ℕ) → (x ≡ 0 → ⊥) → decided_of x ≡ 1
 decided-one zero some = absurd (some refl)
 decided-one (suc x) some = refl
 
+pub decided-few : (x : ℕ) → decided_of x ≤ 1
+decided-few zero = omega arith
+decided-few (suc x) = omega arith
+
 pub decided-empty : (x : ℕ) → x ≡ 0 → decided_of x ≡ 0
 decided-empty x none = rw none
 
@@ -62,6 +66,10 @@ pub decided-more : (slots : List ℕ) (i : ℕ) → i < length slots
     → decided_in (drop i slots) ≡ decided_of (get_or slots i 0) + decided_in (drop (i + 1) slots)
 unfolding decided_in
 decided-more slots i there = rw (add-one i, drop-cons slots i 0 there)
+
+pub decided-past : (slots : List ℕ) (i : ℕ) → length slots ≤ i → decided_in (drop i slots) ≡ 0
+unfolding decided_in
+decided-past slots i out = rw (drop_of_length-le slots out)
 
 -- the line of a slot that is not empty
 pub slot-line : (site target x : ℕ) → (x ≡ 0 → ⊥)

@@ -68,10 +68,10 @@ fn put_line(list: &mut [u8], at: usize, site: u64, target: u64, slot: u8) -> usi
     at + 18
 }
 
-// Writes the lines of an accepted sheet's slots over the start of a list that can hold them.
-pub fn write(code: &Code, slots: &[u8], list: &mut [u8])
-    requires { RoomFor code.now.addresses.now (targets_of (sheet_at code.now.bytes.now).instructions.list) slots.now list.old }
-    ensures { list.new ≡ over (records line_bytes (lines_in code.now.addresses.now (targets_of (sheet_at code.now.bytes.now).instructions.list) slots.now)) list.old }
+// Writes the lines over the start of a list that can hold them: the targets are those of an accepted sheet's instructions, the sites are given.
+pub fn write(code: &Code, sites: &[u64], slots: &[u8], list: &mut [u8])
+    requires { RoomFor sites.now (targets_of (sheet_at code.now.bytes.now).instructions.list) slots.now list.old }
+    ensures { list.new ≡ over (records line_bytes (lines_in sites.now (targets_of (sheet_at code.now.bytes.now).instructions.list) slots.now)) list.old }
 {
     let mut at = 0;
     // By number: there is no list of the targets to go along, each is found by its instruction's number.
@@ -79,7 +79,7 @@ pub fn write(code: &Code, slots: &[u8], list: &mut [u8])
         at = put_line(
             list,
             at,
-            code.addresses[i],
+            sites[i],
             code.nth_target(i).unwrap_or(0),
             slots[i],
         );

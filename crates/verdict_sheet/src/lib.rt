@@ -16,29 +16,29 @@ ghost use Rattle.verdict_sheet.specs.Said.{Said, saying, blocks_say, judged_up_t
 ghost use Rattle.verdict_sheet.specs.Kept.{if_branch, branch_ending, SiteIs, kept_at, HasSlot, slots_of, Reached};
 
 use refusal::Refusal;
-use sheet::code::Code;
+use sheet::code::{Code, CodeIndex};
 use sheet_node::node::Node;
 use verdict::Verdict;
 use verdict_block::Range;
 
 // The number of the conditional branch at an address, or else another.
-fn branch_or(code: &Code, address: u64, otherwise: Option<usize>) -> Option<usize>
-    ensures { result ≡ if_branch (sheet_at code.now.bytes.now).instructions.list (place_of code.now.addresses.now address) otherwise }
+fn branch_or(index: &CodeIndex, address: u64, otherwise: Option<usize>) -> Option<usize>
+    ensures { result ≡ if_branch (sheet_at index.now.code.bytes.now).instructions.list (place_of index.now.addresses.now address) otherwise }
 {
-    match search::find(code.addresses, address) {
-        Some(k) if code.is_branch(k) => Some(k),
+    match search::find(index.addresses, address) {
+        Some(k) if index.code.is_branch(k) => Some(k),
         _ => otherwise,
     }
 }
 
 // The number of a node's jump, from its addresses, which were read whole, 8 bytes each. A loop, as a closure over `code`, which `rev().find_map`
 // needs, gives a proof nothing of what the methods of `code` ensure.
-fn node_jump(code: &Code, addresses: &[u8]) -> Option<usize>
-    ensures { (sites n : ℕ) → addresses.now ≡ take (8 * n) (drop sites code.now.bytes.now) → WentOn (addresses_from code.now.bytes.now (Ok sites) n).next → SiteIs (sheet_at code.now.bytes.now).instructions.list result (last_branch (sheet_at code.now.bytes.now).instructions.list (addresses_from code.now.bytes.now (Ok sites) n).list) }
+fn node_jump(index: &CodeIndex, addresses: &[u8]) -> Option<usize>
+    ensures { (sites n : ℕ) → addresses.now ≡ take (8 * n) (drop sites index.now.code.bytes.now) → WentOn (addresses_from index.now.code.bytes.now (Ok sites) n).next → SiteIs (sheet_at index.now.code.bytes.now).instructions.list result (last_branch (sheet_at index.now.code.bytes.now).instructions.list (addresses_from index.now.code.bytes.now (Ok sites) n).list) }
 {
     let mut jump = None;
     for address in addresses.chunks_exact(8) {
-        jump = branch_or(code, sheet_field::number::<8>(address, 0), jump);
+        jump = branch_or(index, sheet_field::number::<8>(address, 0), jump);
     }
     jump
 }
@@ -77,49 +77,49 @@ fn keep_end(code: &Code, range: Range, slots: &mut [u8], number: usize)
 }
 
 // The block of that number, where it has a branch; and where its instructions end, a guess where the next block's start.
-fn judge_block(code: &Code, number: u64, guess: usize, slots: &mut [u8]) -> usize
-    requires number_lt_count { number < code.now.sheet.blocks.count }
-    requires slots_len { length slots.old ≡ length code.now.addresses.now }
-    ensures { (said : List Said) → slots.old ≡ slots_of (sheet_at code.now.bytes.now).instructions.list said → slots.new ≡ slots_of (sheet_at code.now.bytes.now).instructions.list (said ++ saying (block_site code.now.bytes.now number) (verdict_on code.now.bytes.now number)) }
+fn judge_block(index: &CodeIndex, number: u64, guess: usize, slots: &mut [u8]) -> usize
+    requires number_lt_count { number < index.now.code.sheet.blocks.count }
+    requires slots_len { length slots.old ≡ length index.now.addresses.now }
+    ensures { (said : List Said) → slots.old ≡ slots_of (sheet_at index.now.code.bytes.now).instructions.list said → slots.new ≡ slots_of (sheet_at index.now.code.bytes.now).instructions.list (said ++ saying (block_site index.now.code.bytes.now number) (verdict_on index.now.code.bytes.now number)) }
 {
-    let range = verdict_block::range_of(code, number, guess);
-    if let Some(k) = last_branch(code, range) {
-        keep_end(code, range, slots, k);
+    let range = verdict_block::range_of(index, number, guess);
+    if let Some(k) = last_branch(&index.code, range) {
+        keep_end(&index.code, range, slots, k);
     }
     range.end
 }
 
 // All blocks, in order.
-fn judge_blocks(code: &Code, slots: &mut [u8])
-    requires { slots.old ≡ slots_of (sheet_at code.now.bytes.now).instructions.list [] }
-    ensures { slots.new ≡ slots_of (sheet_at code.now.bytes.now).instructions.list (blocks_say code.now.bytes.now code.now.sheet.blocks.count) }
+fn judge_blocks(index: &CodeIndex, slots: &mut [u8])
+    requires { slots.old ≡ slots_of (sheet_at index.now.code.bytes.now).instructions.list [] }
+    ensures { slots.new ≡ slots_of (sheet_at index.now.code.bytes.now).instructions.list (blocks_say index.now.code.bytes.now index.now.code.sheet.blocks.count) }
 {
     let mut guess = 0;
-    for i in 0..code.sheet.blocks.count {
-        guess = judge_block(code, i, guess, slots);
+    for i in 0..index.code.sheet.blocks.count {
+        guess = judge_block(index, i, guess, slots);
     }
 }
 
 // All nodes, in order, up to the first that is refused.
-fn judge_nodes(code: &Code, nodes: &[u64], slots: &mut [u8]) -> Result<(), Refusal>
-    requires nodes_value { nodes.now ≡ (sheet_at code.now.bytes.now).nodes.places }
-    requires slots_value { slots.old ≡ slots_of (sheet_at code.now.bytes.now).instructions.list (blocks_say code.now.bytes.now code.now.sheet.blocks.count) }
-    ensures { Reached (sheet_at code.now.bytes.now).instructions.list result slots.new (judged_up_to code.now.bytes.now code.now.sheet.blocks.count code.now.sheet.nodes.count) }
+fn judge_nodes(index: &CodeIndex, nodes: &[u64], slots: &mut [u8]) -> Result<(), Refusal>
+    requires nodes_value { nodes.now ≡ (sheet_at index.now.code.bytes.now).nodes.places }
+    requires slots_value { slots.old ≡ slots_of (sheet_at index.now.code.bytes.now).instructions.list (blocks_say index.now.code.bytes.now index.now.code.sheet.blocks.count) }
+    ensures { Reached (sheet_at index.now.code.bytes.now).instructions.list result slots.new (judged_up_to index.now.code.bytes.now index.now.code.sheet.blocks.count index.now.code.sheet.nodes.count) }
 {
     for node in nodes {
-        let judged = verdict_node::verdict_of(&Node::new(code.bytes, *node as usize))?;
-        let jump = node_jump(code, judged.addresses);
+        let judged = verdict_node::verdict_of(&Node::new(index.code.bytes, *node as usize))?;
+        let jump = node_jump(index, judged.addresses);
         keep_at(slots, jump, judged.verdict);
     }
     Ok(())
 }
 
 // All records of an accepted sheet with its index, on slots that hold nothing.
-pub fn judge(code: &Code, nodes: &[u64], slots: &mut [u8]) -> Result<(), Refusal>
-    requires nodes_value { nodes.now ≡ (sheet_at code.now.bytes.now).nodes.places }
-    requires slots_value { slots.old ≡ slots_of (sheet_at code.now.bytes.now).instructions.list [] }
-    ensures { Reached (sheet_at code.now.bytes.now).instructions.list result slots.new (judged_up_to code.now.bytes.now code.now.sheet.blocks.count code.now.sheet.nodes.count) }
+pub fn judge(index: &CodeIndex, nodes: &[u64], slots: &mut [u8]) -> Result<(), Refusal>
+    requires nodes_value { nodes.now ≡ (sheet_at index.now.code.bytes.now).nodes.places }
+    requires slots_value { slots.old ≡ slots_of (sheet_at index.now.code.bytes.now).instructions.list [] }
+    ensures { Reached (sheet_at index.now.code.bytes.now).instructions.list result slots.new (judged_up_to index.now.code.bytes.now index.now.code.sheet.blocks.count index.now.code.sheet.nodes.count) }
 {
-    judge_blocks(code, slots);
-    judge_nodes(code, nodes, slots)
+    judge_blocks(index, slots);
+    judge_nodes(index, nodes, slots)
 }

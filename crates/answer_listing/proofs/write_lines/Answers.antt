@@ -6,13 +6,13 @@ use Rattle.answer_listing.proofs.write_lines.Goals as goal
 
 pub returns-then-n-eq0 : goal.returns-then-n-eq0
 returns-then-n-eq0 c =
-    let code = c.args.code.now in
-    nothing-due code.bytes.now code.addresses.now (targets_of (sheet_at code.bytes.now).instructions.list) c.args.slots.now c.args.list.now c.requires.0 c.requires.1 c.count-n.ensures c.if-n-eq0.true
+    let index = c.args.index.now in
+    nothing-due index.code.bytes.now index.addresses.now (targets_of (sheet_at index.code.bytes.now).instructions.list) c.args.slots.now c.args.list.now c.requires.0 c.requires.1 c.count-n.ensures c.if-n-eq0.true
 
 pub returns-then-list-n : goal.returns-then-list-n
 returns-then-list-n c =
-    let code = c.args.code.now in
-    rw c.at.ensures (too_short code.bytes.now code.addresses.now (targets_of (sheet_at code.bytes.now).instructions.list) c.args.slots.now c.args.list.now c.requires.0 c.requires.1 c.count-n.ensures c.if-list-n.true)
+    let index = c.args.index.now in
+    rw c.at.ensures (too_short index.code.bytes.now index.addresses.now (targets_of (sheet_at index.code.bytes.now).instructions.list) c.args.slots.now c.args.list.now c.requires.0 c.requires.1 c.count-n.ensures c.if-list-n.true)
 
 pub write-requires : goal.write-requires
 write-requires c =
@@ -20,5 +20,5 @@ write-requires c =
 
 pub returns : goal.returns
 returns c =
-    let code = c.args.code.now in
-    all-written code.bytes.now code.addresses.now (targets_of (sheet_at code.bytes.now).instructions.list) c.args.slots.now c.args.list.now c.requires.0 c.requires.1 c.count-n.ensures c.if-list-n.false c.write.ensures
+    let index = c.args.index.now in
+    all-written index.code.bytes.now index.addresses.now (targets_of (sheet_at index.code.bytes.now).instructions.list) c.args.slots.now c.args.list.now c.requires.0 c.requires.1 c.count-n.ensures c.if-list-n.false c.write.ensures

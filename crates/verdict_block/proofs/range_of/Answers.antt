@@ -4,12 +4,13 @@ use Rattle.verdict_block.proofs.range_of.Goals as goal
 
 pub first_from-first-requires : goal.first_from-first-requires
 first_from-first-requires c =
-    code-rises c.args.code.now
+    code-rises c.args.index.now
 
 pub first_from-end-requires : goal.first_from-end-requires
 first_from-end-requires c =
-    code-rises c.args.code.now
+    code-rises c.args.index.now
 
 pub returns : goal.returns
 returns c =
-    range-is-of c.args.code.now c.args.number c.nth_block-block.ensures c.first_from-first.ensures c.first_from-end.ensures
+    let index = c.args.index.now in
+    range-is-of _ _ index.code.accepted c.args.number index.addressed c.nth_block-block.ensures c.first_from-first.ensures c.first_from-end.ensures

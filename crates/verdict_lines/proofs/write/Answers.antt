@@ -26,7 +26,7 @@ put_line-at-requires c =
 
 pub loop-i-preserved : goal.loop-i-preserved
 loop-i-preserved c =
-    let sites = c.args.code.now.addresses.now in
+    let sites = c.args.sites.now in
     let targets = targets_of (sheet_at c.args.code.now.bytes.now).instructions.list in
     let slots = c.args.slots.now in
     let i = c.loop-i.i in
@@ -43,4 +43,4 @@ loop-i-preserved c =
 
 pub returns : goal.returns
 returns c =
-    write_done c.args.code.now.addresses.now (targets_of (sheet_at c.args.code.now.bytes.now).instructions.list) c.args.slots.now c.loop-i.i c.loop-i.at c.loop-i.list (omega (arith, c.requires.each_site)) c.loop-i.invariant.0
+    write_done c.args.sites.now (targets_of (sheet_at c.args.code.now.bytes.now).instructions.list) c.args.slots.now c.loop-i.i c.loop-i.at c.loop-i.list (omega (arith, c.requires.each_site)) c.loop-i.invariant.0

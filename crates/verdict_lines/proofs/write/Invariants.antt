@@ -10,6 +10,6 @@ use Rattle.verdict_lines.proofs.write.Given as goal
 
 abbrev pub invariant-loop-i : goal.invariant-loop-i
 invariant-loop-i l = let targets = targets_of (sheet_at l.code.bytes.now).instructions.list in
-    let sites = l.code.addresses.now in
+    let sites = l.sites in
     (put_at l.at (records line_bytes (lines_in (drop l.i sites) (drop l.i targets) (drop l.i l.slots))) l.list ≡ over (records line_bytes (lines_in sites targets l.slots)) l.initial.list)
     × ((l.at + 18 * decided_in (drop l.i l.slots) ≤ length l.list) × (length l.list ≡ length l.initial.list))

@@ -11,25 +11,25 @@ use Rattle.verdict_sheet.proofs.judge_block.Goals as goal
 
 pub last_branch-requires : goal.last_branch-requires
 last_branch-requires c =
-    end-inside c.args.code.now c.range_of-range.ensures.within
+    end-inside c.args.index.now.code c.range_of-range.ensures.within
 
 pub keep_end-requires : goal.keep_end-requires
 keep_end-requires c =
-    let code = c.args.code.now in
-    let s = code.bytes.now in
+    let index = c.args.index.now in
+    let s = index.code.bytes.now in
     let site = block-site s c.args.number c.range_of-range.result c.range_of-range.ensures c.last_branch.ensures in
-    (end-inside code c.range_of-range.ensures.within, omega (arith, c.requires.slots_len, code-addresses code, slot-there (sheet_at s).instructions.list (block_site s c.args.number) c.last_branch.result site c.in-Some.is))
+    (end-inside index.code c.range_of-range.ensures.within, omega (arith, c.requires.slots_len, code-addresses index, slot-there (sheet_at s).instructions.list (block_site s c.args.number) c.last_branch.result site c.in-Some.is))
 
 pub returns-in-Some : goal.returns-in-Some
 returns-in-Some c =
-    let code = c.args.code.now in
-    let s = code.bytes.now in
+    let index = c.args.index.now in
+    let s = index.code.bytes.now in
     let site = block-site s c.args.number c.range_of-range.result c.range_of-range.ensures c.last_branch.ensures in
-    λ said is. block-kept (sheet_at s).instructions.list (code-rises code) code.addressed said (block_site s c.args.number) (verdict_on s c.args.number) c.last_branch.result site is c.in-Some.is (verdict-is code c.args.number c.range_of-range.ensures refl) c.keep_end.ensures
+    λ said is. block-kept (sheet_at s).instructions.list (code-rises index) index.addressed said (block_site s c.args.number) (verdict_on s c.args.number) c.last_branch.result site is c.in-Some.is (verdict-is _ _ index.code.accepted c.args.number c.range_of-range.ensures refl) c.keep_end.ensures
 
 pub returns-in_default : goal.returns-in_default
 returns-in_default c =
-    let code = c.args.code.now in
-    let s = code.bytes.now in
+    let index = c.args.index.now in
+    let s = index.code.bytes.now in
     let site = block-site s c.args.number c.range_of-range.result c.range_of-range.ensures c.last_branch.ensures in
-    λ said is. block-silent (sheet_at s).instructions.list (code-rises code) code.addressed said (block_site s c.args.number) (verdict_on s c.args.number) c.last_branch.result site is c.in_default.is refl
+    λ said is. block-silent (sheet_at s).instructions.list (code-rises index) index.addressed said (block_site s c.args.number) (verdict_on s c.args.number) c.last_branch.result site is c.in_default.is refl

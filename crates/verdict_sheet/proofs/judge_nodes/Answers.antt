@@ -15,15 +15,15 @@ use Rattle.verdict_sheet.proofs.judge_nodes.Goals as goal
 
 pub loop-node-init : goal.loop-node-init
 loop-node-init c =
-    (refl, λ blocks is. nodes-none c.args.code.now.bytes.now blocks is)
+    (refl, λ blocks is. nodes-none c.args.index.now.code.bytes.now blocks is)
 
 pub new-requires : goal.new-requires
 new-requires c =
-    stands-whole _ _ c.args.code.now.accepted _ c.requires.nodes_value c.loop-node-test.true
+    stands-whole _ _ c.args.index.now.code.accepted _ c.requires.nodes_value c.loop-node-test.true
 
 pub keep_at-requires : goal.keep_at-requires
 keep_at-requires c =
-    let code = c.args.code.now in
+    let code = c.args.index.now.code in
     let s = code.bytes.now in
     let list = (sheet_at s).instructions.list in
     let node = node_at s (Ok (get_or c.args.nodes.now c.loop-node.node-index 0)) in
@@ -34,7 +34,7 @@ keep_at-requires c =
 
 pub returns-in_err-judged : goal.returns-in_err-judged
 returns-in_err-judged c =
-    let code = c.args.code.now in
+    let code = c.args.index.now.code in
     let blocks = code.sheet.blocks.count in
     let p = err_from_is_err_and c.from_residual.result c.from_residual.ensures.1 in
     let all = ap length c.requires.nodes_value ∙ node-places-count code.bytes.now code.sheet code.accepted in
@@ -42,7 +42,7 @@ returns-in_err-judged c =
 
 pub loop-node-preserved : goal.loop-node-preserved
 loop-node-preserved c =
-    let code = c.args.code.now in
+    let code = c.args.index.now.code in
     let s = code.bytes.now in
     let whole = stands-whole _ _ code.accepted _ c.requires.nodes_value c.loop-node-test.true in
     let judged = rw (c.new.ensures.bytes, c.new.ensures.at) at c.in_ok-judged.ensures in (
@@ -53,7 +53,7 @@ loop-node-preserved c =
 
 pub returns : goal.returns
 returns c =
-    let code = c.args.code.now in
+    let code = c.args.index.now.code in
     let blocks = code.sheet.blocks.count in
     let all = ap length c.requires.nodes_value ∙ node-places-count code.bytes.now code.sheet code.accepted in
     nodes-whole code.bytes.now blocks c.loop-node.node-index code.sheet.nodes.count c.loop-node.slots (omega (arith, all)) (c.loop-node.invariant.1 blocks c.requires.slots_value)

@@ -3,7 +3,7 @@ use native.Mathlib.Nat.{le_trans}
 use Rattle.std.proofs.Common.{rules}
 use Rattle.sheet.proofs.Accepted.{accepted}
 use Rattle.sheet.proofs.ByNumber.{front-addresses, front-places}
-use Rattle.sheet.proofs.code.Code.with_block.Goals as goal
+use Rattle.sheet.proofs.code.CodeIndex.with_block.Goals as goal
 
 pub new-requires : goal.new-requires
 new-requires c =
