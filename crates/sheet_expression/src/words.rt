@@ -28,7 +28,7 @@ fn take_record(r: &mut Reader) -> (u64, u64)
 
 // Puts the words of an expression that was read whole at the start of `out`, and gives how many records it has. What a slice that is lent in chunks
 // ends as is not known, so the words are put by their indices.
-fn put_expression(r: &mut Reader, out: &mut [u64]) -> usize
+pub fn put_expression(r: &mut Reader, out: &mut [u64]) -> usize
     requires { WholeExpression r.old.bytes.now r.old.at × (256 ≤ length out.old) }
     ensures same { r.new.bytes.now ≡ r.old.bytes.now }
     ensures took { (variables : ℕ) → WentOn (expression_at variables r.old.bytes.now (Ok r.old.at)).next → Took result (Ok r.new.at) out.old out.new (expression_at variables r.old.bytes.now (Ok r.old.at)) }

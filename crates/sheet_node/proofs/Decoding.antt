@@ -13,13 +13,13 @@ use Rattle.sheet_field.specs.Field.{Place, FieldReading, little, field_at, code_
 use Rattle.sheet_field.proofs.Fields.{judge-at, check-at, count-on, count_most, went-on}
 use Rattle.expr.specs.declared.Tree.{Tree}
 use Rattle.sheet_expression.specs.Expression.{expression_at}
-use Rattle.sheet_expression.specs.Promises.{TookTree, WholeExpression}
+use Rattle.sheet_expression.specs.Promises.{Took, TookTree, WholeExpression}
 use Rattle.sheet_expression.proofs.Accepted.{one-tree}
 use Rattle.sheet_expression.proofs.Decoding.{field-from, code-from}
 use Rattle.sheet_node.specs.declared.node.NodeFront.{NodeFront}
-use Rattle.sheet_node.specs.declared.node.Assignment.{Assignment}
+use Rattle.sheet_node.specs.declared.node.Put.{Put}
 use Rattle.sheet_node.specs.Node.{NodeReading, map_at, assignment_at, statement_at, statements_from, types_from, addresses_from, node_at, types_in}
-use Rattle.sheet_node.specs.Promises.{TookStatement, front_of, reading_of, WholeStatements, addresses_end}
+use Rattle.sheet_node.specs.Promises.{PutStatement, front_of, reading_of, WholeStatements, addresses_end}
 use Rattle.sheet_node.proofs.Accepted.{assignment-on, types-on, addresses-on, Parts, whole-node}
 use Rattle.sheet_node.proofs.Nodes.{types-end, addresses-end}
 
@@ -47,9 +47,10 @@ module _ (types s : List ℕ) (at : ℕ) (on : WentOn (statement_at types s (Ok 
   map-inside = map_read.0
 
   module _ {map : ℕ} (map_is : map ≡ little s at 1) where
-    pub other-took : (map ≡ 3 → ⊥) → TookStatement None (at + 1) (statement_at types s (Ok at))
+    pub other-took : (map ≡ 3 → ⊥) → (list : List ℕ) → PutStatement None (at + 1) list list (statement_at types s (Ok at))
     unfolding statement_at
-    other-took other = rw (map_read.1, ← map_is, ne_eqb map 3 other) record { assignment = refl; place = refl }
+    other-took other list =
+        rw (map_read.1, ← map_is, ne_eqb map 3 other) record { content = refl; size = refl; few = omega arith; place = refl; list = refl }
 
     module _ (three : map ≡ 3) where
       statement-is : statement_at types s (Ok at) ≡ assignment_at types at s (Ok (at + 1))
@@ -72,20 +73,18 @@ module _ (types s : List ℕ) (at : ℕ) (on : WentOn (statement_at types s (Ok 
       pub value_on : WentOn (expression_at (length types) s (Ok (at + 1 + 1))).next
       value_on = (on.0, value-is)
 
-      pub assigned-took : {f : Assignment} {end : ℕ} → f.variable ≡ little s (at + 1) 1
-          → TookTree f.value end (expression_at (length types) s (Ok (at + 1 + 1)))
-          → TookStatement (Some f) end (statement_at types s (Ok at))
+      pub assigned-took : {f : Put} {end : ℕ} {before after : List ℕ} → f.variable ≡ little s (at + 1) 1
+          → Took f.records (Ok end) before after (expression_at (length types) s (Ok (at + 1 + 1)))
+          → PutStatement (Some f) end before after (statement_at types s (Ok at))
       unfolding assignment_at
       assigned-took v-is took =
           let words : (statement_at types s (Ok at)).words ≡ (expression_at (length types) s (Ok (at + 1 + 1))).words = rw (statement-is, variable-read.1) in
           record {
-            assignment = record {
-              assigned = rw statement-is;
-              variable = v-is ∙ rw (statement-is, variable-read.1);
-              words = rw words took.words;
-              few = rw words took.few;
-            };
+            content = (rw statement-is, v-is ∙ rw (statement-is, variable-read.1));
+            size = rw words took.size;
+            few = took.few;
             place = took.place ∙ value-is ∙ sym on.1;
+            list = rw words (took.list value_on);
           }
 
 count-from : (least most : ℕ) (s : List ℕ) (at : ℕ) {b : ℕ} → (count_at least most s (Ok at)).next ≡ Ok b

@@ -1,10 +1,30 @@
 -- What the contracts of the readers ask and give.
-use Rattle.std.specs.Prelude.{ℕ, ◌≤◌, ◌≡◌, List, true, false, length, Option, Some, None, Ok}
+use Rattle.std.specs.Prelude.{ℕ, ◌*◌, ◌≤◌, ◌≡◌, List, ◌++◌, true, false, length, drop, Option, Some, None, Ok}
 use Rattle.sheet_field.specs.Field.{Place, WentOn, start_of, count_at}
 use Rattle.sheet_node.specs.Node.{StatementRead, statement_at, types_from, types_of, statements_from, addresses_from, NodeReading, node_at}
 use Rattle.sheet_node.specs.declared.node.Assignment.{Assignment}
 use Rattle.sheet_node.specs.declared.node.NodeFront.{NodeFront}
 use Rattle.sheet_node.specs.declared.node.NodeParts.{NodeParts}
+use Rattle.sheet_node.specs.declared.node.Put.{Put}
+
+-- how many records of a value were put
+abbrev pub records_put : Option Put → ℕ
+records_put (Some f) = f.records
+records_put None = 0
+
+-- an assignment's variable, and that any other statement is none
+abbrev pub PutContent : Option Put → StatementRead → Type 0
+PutContent (Some f) r = (r.assigned ≡ true) × (f.variable ≡ r.variable)
+PutContent None r = r.assigned ≡ false
+
+-- What a reader of a statement that was read whole leaves: the statement, the offset after it, and a borrowed list that was `before` and is
+-- `after`: the value's words stand at its start, and the rest is as it was, after a statement that assigns nothing the whole list.
+pub record PutStatement (f : Option Put) (at : ℕ) (before after : List ℕ) (r : StatementRead) : Type 0 where
+  pub content : PutContent f r
+  pub size : length r.words ≡ 2 * records_put f
+  pub few : records_put f ≤ 128
+  pub place : Ok at ≡ r.next
+  pub list : after ≡ r.words ++ drop (2 * records_put f) before
 
 -- an assignment that was read whole: its variable, and its value as a tree
 pub record TookAssignment (f : Assignment) (r : StatementRead) : Type 0 where

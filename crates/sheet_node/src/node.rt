@@ -3,7 +3,7 @@
 ghost use Rattle.std.specs.Prelude.{◌≡◌, ℕ, ◌+◌, ◌*◌, ◌≤◌, List, length, take, drop, Ok, IsOk};
 ghost use Rattle.sheet_field.specs.Field.{little, WentOn};
 ghost use Rattle.sheet_node.specs.Node.{statement_at, statements_from, node_at, types_in};
-ghost use Rattle.sheet_node.specs.Promises.{TookStatement, front_of, reading_of, WholeStatement, WholeStatements, addresses_end};
+ghost use Rattle.sheet_node.specs.Promises.{PutStatement, TookStatement, front_of, reading_of, WholeStatement, WholeStatements, addresses_end};
 
 use expr::Tree;
 use sheet_expression::words;
@@ -37,19 +37,42 @@ pub struct NodeParts {
     pub end: usize,
 }
 
+// An assignment whose value's words stand at the start of a buffer: its variable, and how many records the value has.
+#[derive(Clone, Copy, PartialEq, Eq, Debug)]
+pub struct Put {
+    pub variable: u64,
+    pub records: usize,
+}
+
+impl Put {
+    // Puts the words of the value that a statement assigns, which was read whole, at the start of `out`; of any other statement none.
+    pub fn put_statement(r: &mut Reader, out: &mut [u64]) -> Option<Put>
+        requires { WholeStatement r.old.bytes.now r.old.at × (256 ≤ length out.old) }
+        ensures same { r.new.bytes.now ≡ r.old.bytes.now }
+        ensures put { (types : List ℕ) → WentOn (statement_at types r.old.bytes.now (Ok r.old.at)).next → PutStatement result r.new.at out.old out.new (statement_at types r.old.bytes.now (Ok r.old.at)) }
+    {
+        let map = r.take_number::<1>();
+        if map != 3 {
+            return None;
+        }
+        let variable = r.take_number::<1>();
+        let records = words::put_expression(r, out);
+        Some(Put { variable, records })
+    }
+}
+
 // A statement that was read whole: its assignment, if it is one, with the value's words at the start of `out`.
 pub fn take_statement<'w>(r: &mut Reader, out: &'w mut [u64]) -> Option<Assignment<'w>>
     requires { WholeStatement r.old.bytes.now r.old.at × (256 ≤ length out.old) }
     ensures same { r.new.bytes.now ≡ r.old.bytes.now }
     ensures took { (types : List ℕ) → WentOn (statement_at types r.old.bytes.now (Ok r.old.at)).next → TookStatement result r.new.at (statement_at types r.old.bytes.now (Ok r.old.at)) }
 {
-    let map = r.take_number::<1>();
-    if map != 3 {
-        return None;
-    }
-    let variable = r.take_number::<1>();
-    let value = words::take_expression(r, out);
-    Some(Assignment { variable, value })
+    let put = Put::put_statement(r, out)?;
+    let value = Tree::new(&out[..2 * put.records]);
+    Some(Assignment {
+        variable: put.variable,
+        value,
+    })
 }
 
 // Goes past n statements that were read whole. The words of their values are taken into `words`, one after the other.
