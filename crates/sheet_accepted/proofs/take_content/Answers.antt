@@ -1,4 +1,5 @@
 use Rattle.sheet_accepted.proofs.Records.{first_on, second_on, registers_on, content_is}
+use native.Mathlib.Omega.{arith}
 use Rattle.sheet_accepted.proofs.take_content.Goals as goal
 
 pub take_operand_if-first-requires : goal.take_operand_if-first-requires
@@ -23,4 +24,4 @@ returns c =
     let n = c.take_number_if-count.ensures in
     let l = c.take_registers-written.ensures in
     content_is _ _ _ c.requires c.is_in.ensures x.value x.same x.place c.is_in-2.ensures y.value y.same y.place c.is_in-3.ensures n.value n.same n.at
-    l.value l.same l.at c.is_in-4.ensures c.take_number_if-flags.ensures.value
+    l.value l.same (omega (arith, l.at)) c.is_in-4.ensures c.take_number_if-flags.ensures.value
