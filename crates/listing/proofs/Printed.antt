@@ -1,11 +1,12 @@
 -- The text of the listing's answer on a list that is long enough is what the program writes.
 use Prim.Native.Nat.{ℕ, ◌*◌, ◌≤◌, ◌<◌}
-use mathlib.Core.Path.{◌≡◌, refl, sym, ◌∙◌}
+use mathlib.Core.Path.{◌≡◌, refl, sym, ap, ◌∙◌}
 use mathlib.Core.Bool.{Bool, true, false}
 use mathlib.Core.List.{List, [], ◌∷◌}
 use native.Mathlib.Omega.{arith}
 use lib.Dec.{leb}
-use lib.ListN.{length, length-append}
+use lib.ListN.{length, take, drop, length-append}
+use lib.Seq.{length-take-le, take_at}
 use borrow.Author.Tests.{leb-false, lt-ltb, le-ltb}
 use Rattle.std.specs.Prelude.{Result, Ok, Err}
 use Rattle.isa.specs.declared.Instruction.{Instruction}
@@ -112,3 +113,13 @@ module _ (s list : List ℕ) (room : length list ≡ 36864) where
       → listed_numbers r ≡ (listing_of s list).answer → r ≡ Err e → k ≡ number_of e.fault
       → Written old new count (refusal_text k e.at) → Written old new count (printed s)
   refusal-text {e = e} short is refusal k-is w = rw (within s short, says.of-refusal (number_of e.fault) e.at (sym is ∙ rw refusal), ← k-is) w
+
+-- the text lies within its buffer
+pub text-within : {old new : List ℕ} {r : ℕ} {text : List ℕ} → Written old new r text → r ≤ length new
+text-within {old} {new} {r} {text} w = omega (arith, w.long, ap length w.is, length-append text (drop (length text) old))
+
+pub text-counted : {old new : List ℕ} {r : ℕ} {text : List ℕ} → Written old new r text → r ≡ length (take r new)
+text-counted {old} {new} {r} w = sym (length-take-le r new (text-within w))
+
+pub text-front : {old new : List ℕ} {r : ℕ} {text : List ℕ} → Written old new r text → take r new ≡ text
+text-front {old} {new} {r} {text} w = rw (w.long, w.is) (take_at text (drop (length text) old) (length text) refl)

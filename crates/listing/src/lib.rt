@@ -13,7 +13,7 @@ use refusal::Fault;
 use std::io::{Read, Write};
 use std::{fmt, io};
 
-// Why the text was not written. The number is the exit status.
+// Why the text was not written. The number is the exit status, and the text the whole line for it, which is put out by one write.
 #[derive(Clone, Copy, PartialEq, Eq, Debug)]
 enum Failure {
     Unread = 1,
@@ -23,8 +23,8 @@ enum Failure {
 impl fmt::Display for Failure {
     fn fmt<W: fmt::Write>(&self, f: &mut fmt::Formatter<W>) -> fmt::Result {
         f.write_str(match self {
-            Failure::Unread => "standard input cannot be read",
-            Failure::Unwritten => "standard output cannot be written",
+            Failure::Unread => "listing: standard input cannot be read\n",
+            Failure::Unwritten => "listing: standard output cannot be written\n",
         })
     }
 }
@@ -89,7 +89,7 @@ fn status<E: Write>(end: Result<(), Failure>, errors: &mut E) -> u8
     match end {
         Ok(()) => 0,
         Err(failure) => {
-            let _ = writeln!(errors, "listing: {failure}");
+            let _ = write!(errors, "{failure}");
             failure as u8
         }
     }
