@@ -13,7 +13,7 @@ use Rattle.refusal.specs.declared.Fault.TheVariants.{Ends}
 use Rattle.refusal.specs.declared.Refusal.{Refusal}
 use Rattle.refusal.specs.Numbers.{refused}
 use Rattle.sheet_field.specs.declared.Reader.{Reader}
-use Rattle.sheet_field.specs.Field.{Place, field_at, code_at, check_field, count_at, judge, words_from, read_as}
+use Rattle.sheet_field.specs.Field.{Place, FieldReading, field_at, start_of, code_at, check_field, count_at, judge, words_from, read_as}
 use Rattle.sheet_field.specs.Reads.{Reads}
 use Rattle.sheet_field.proofs.Counted.{stays}
 use Rattle.sheet_field.proofs.Fields.{field-taken}
@@ -22,7 +22,7 @@ use Rattle.sheet_expression.specs.Expression.{taken_from, expression_at}
 use Rattle.sheet_node.specs.Node.{types_from, statements_from, addresses_from, node_at}
 use Rattle.sheet.specs.declared.Section.{Section}
 use Rattle.sheet.specs.declared.Sheet.{Sheet}
-use Rattle.sheet.specs.Sheet.{Reading, instructions_from, block_at, blocks_from, nodes_from, sheet_at, reading_of}
+use Rattle.sheet.specs.Sheet.{Reading, instructions_from, block_at, blocks_from, nodes_from, ended, sheet_at, reading_of}
 use Rattle.sheet.specs.Index.{over, Noted, Indexed}
 use Rattle.sheet.proofs.Blocks.{blocks-words}
 
@@ -53,10 +53,32 @@ blocks-stay s p = stays (λ j. (blocks_from s p j).next) (blocks-keep s p)
 pub nodes-stay : (s : List ℕ) (p : Place) (n j : ℕ) (r : Refusal) → (nodes_from s p j).next ≡ Err r → j ≤ n → (nodes_from s p n).next ≡ Err r
 nodes-stay s p = stays (λ j. (nodes_from s p j).next) (nodes-keep s p)
 
+-- before the first record
+pub none_read : (s : List ℕ) (p : Place) → p ≡ (instructions_from s p 0).next
+unfolding instructions_from
+none_read s p = refl
+
 -- one record more
+pub blocks_more : (s : List ℕ) (p : Place) (k : ℕ) → (block_at s (blocks_from s p k).next).next ≡ (blocks_from s p (k + 1)).next
+unfolding blocks_from
+blocks_more s p k = rw (add-one k)
+
 pub nodes-more : (s : List ℕ) (p : Place) (k : ℕ) → (node_at s (nodes_from s p k).next).next ≡ (nodes_from s p (k + 1)).next
 unfolding nodes_from
 nodes-more s p k = rw (add-one k)
+
+-- the answer from the parts
+pub reading-is : (s : List ℕ) {i b n : FieldReading} {code ranges graph end : Place} {a c d : ℕ} {r : Reading}
+    → i ≡ count_at 0 2048 s (Ok 0) → code ≡ (instructions_from s i.next i.value).next
+    → b ≡ count_at 0 1024 s code → ranges ≡ (blocks_from s b.next b.value).next
+    → n ≡ count_at 0 1024 s ranges → graph ≡ (nodes_from s n.next n.value).next
+    → a ≡ start_of i.next → c ≡ start_of b.next → d ≡ start_of n.next
+    → end ≡ ended s graph
+    → r ≡ read_as end (λ at. record { instructions = record { count = i.value; at = a }; blocks = record { count = b.value; at = c }; nodes = record { count = n.value; at = d } })
+    → r ≡ reading_of s
+unfolding reading_of sheet_at
+reading-is s i-is code_is b-is ranges-is n-is graph_is a-is c-is d-is end_is r-is =
+    rw (r-is, end_is, a-is, c-is, d-is, graph_is, n-is, ranges-is, b-is, code_is, i-is)
 
 -- Where a stage of reading is refused, so is reading.
 module _ (s : List ℕ) {r : Refusal} where
@@ -165,14 +187,14 @@ module _ (s : List ℕ) {start : Reader} (bytes : start.bytes.now ≡ s) (zero-a
               abbrev the_sheet : Sheet
               the_sheet = record { instructions = i; blocks = b; nodes = n }
 
-              reading-is : reading_of s ≡ cond (leb (length s) last.at) (Ok the_sheet) (Err (refused Ends last.at))
+              reading_judged : reading_of s ≡ cond (leb (length s) last.at) (Ok the_sheet) (Err (refused Ends last.at))
               unfolding reading_of sheet_at
-              reading-is =
+              reading_judged =
                   let after_nodes : (sheet_at s).nodes.next ≡ Ok last.at = rw nodes-are (sym nodes-next.place) in
                   rw (after_nodes, third-read, second-read, first-read) (at_end (leb (length s) last.at) last.at the_sheet)
 
               pub read_whole : length s ≤ last.at → Ok the_sheet ≡ reading_of s
-              read_whole le = sym (rw (le-leb (length s) last.at le) at reading-is)
+              read_whole le = sym (rw (le-leb (length s) last.at le) at reading_judged)
 
               pub left_over : last.at < length s → Err (refused Ends last.at) ≡ reading_of s
-              left_over lt = sym (rw (lt-leb (length s) last.at lt) at reading-is)
+              left_over lt = sym (rw (lt-leb (length s) last.at lt) at reading_judged)

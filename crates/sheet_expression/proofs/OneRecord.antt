@@ -8,7 +8,7 @@ use lib.Dec.{leb, ltb, eqb}
 use native.Mathlib.Omega.{arith}
 use borrow.Author.Tests.{ltb-true, eqb-true}
 use Rattle.refusal.specs.declared.Fault.TheVariants.{Code}
-use Rattle.sheet_field.specs.Field.{Place, field_at, start_of}
+use Rattle.sheet_field.specs.Field.{Place, field_at, start_of, code_at}
 use Rattle.sheet_field.proofs.Fields.{check-below}
 use Rattle.sheet_expression.specs.Expression.{has_argument, argument_ok, argument_at}
 use Rattle.laws.proofs.Booleans.{and_both}
@@ -47,3 +47,8 @@ read-small variables kind s p few = go (has_argument kind) refl
     go : (t : Bool) → has_argument kind ≡ t → (argument_at variables kind s p).value ≤ 32
     go true e = rw e (check-below _ Code (start_of p) (field_at 1 s p) 32 (ok-small variables kind (field_at 1 s p).value few))
     go false e = rw e (omega arith)
+
+-- a kind is in its table
+pub kind-small : (s : List ℕ) (p : Place) → (code_at 9 s p).value ≤ 8
+unfolding code_at
+kind-small s p = check-below _ Code (start_of p) (field_at 1 s p) 8 (λ e. omega (arith, ltb-true (field_at 1 s p).value 9 e))

@@ -4,6 +4,7 @@ use mathlib.Core.Path.{◌≡◌, refl, ◌∙◌}
 use mathlib.Core.List.{List}
 use lib.ListN.{length, get_or}
 use native.Mathlib.Omega.{arith}
+use native.Mathlib.Numerals.{add-one}
 use native.Mathlib.Nat.{add-zero, zero-add, add-suc, suc-add, pow-suc}
 use borrow.Author.Tests.{le-leb, lt-leb}
 use mathlib.Core.Bool.{Bool, true, false}
@@ -21,6 +22,10 @@ use Rattle.laws.proofs.Booleans.{and_left, and_right}
 pub little-one : (s : List ℕ) (at : ℕ) → little s at 1 ≡ get_or s at 0
 unfolding little
 little-one s at = omega arith
+
+pub little-two : (s : List ℕ) (at : ℕ) → little s at 2 ≡ get_or s at 0 + 256 * get_or s (at + 1) 0
+unfolding little
+little-two s at = rw (add-one at) (omega arith)
 
 pub little-add : (s : List ℕ) (at m n : ℕ) → little s at (m + n) ≡ little s at m + 256 ^ m * little s (at + m) n
 unfolding little
@@ -62,6 +67,10 @@ kept-below ok fault at v most (Err r) h = omega arith
 pub check-below : (ok : Bool) (fault : Fault) (at : ℕ) (f : FieldReading) (most : ℕ) → (ok ≡ true → f.value ≤ most) → (check_field ok fault at f).value ≤ most
 unfolding check_field
 check-below ok fault at f most h = kept-below ok fault at f.value most f.next h
+
+pub code-most : (limit : ℕ) (s : List ℕ) (p : Place) → (code_at limit s p).value ≤ limit
+unfolding code_at
+code-most limit s p = check-below _ Code (start_of p) (field_at 1 s p) limit (λ e. omega (arith, ltb-true (field_at 1 s p).value limit e))
 
 pub count_most : (least most : ℕ) (s : List ℕ) (p : Place) → (count_at least most s p).value ≤ most
 unfolding count_at check_field

@@ -73,8 +73,12 @@ module _ (s : List ℕ) (at : ℕ) where
 pub register_end : {s t : List ℕ} (at : ℕ) {b : ℕ} → t ≡ s → Ok b ≡ (register_at t (Ok at)).next → b ≤ length s
 register_end {s} at same went = (register-room s at (sym (rw same at went))).1
 
+-- reading has come to an offset within the sheet, or to its end
+pub code_inside : (limit : ℕ) (s : List ℕ) (p : Place) {b : ℕ} → (code_at limit s p).next ≡ Ok b → b ≤ length s
+code_inside limit s p e = let w = (code-at limit s p e).whole in omega (arith, w.after, w.inside)
+
 pub kind_inside : (s : List ℕ) (p : Place) {b : ℕ} → Ok b ≡ (code_at 3 s p).next → b ≤ length s
-kind_inside s p e = let w = (code-at 3 s p (sym e)).whole in omega (arith, w.after, w.inside)
+kind_inside s p e = code_inside 3 s p (sym e)
 
 pub count_inside : (s : List ℕ) (p : Place) {b : ℕ} → Ok b ≡ (count_at 0 8 s p).next → b ≤ length s
 count_inside s p e = let w = (count_at_lem 0 8 s p (sym e)).whole in omega (arith, w.after, w.inside)
@@ -121,9 +125,12 @@ pub written_stays : (there : Bool) (s : List ℕ) {p : Place} {r : Refusal} → 
 written_stays true s e = registers_stay s e
 written_stays false s e = list_stays s 0 e
 
+pub optional_code_stays : (there : Bool) (limit : ℕ) (s : List ℕ) {p : Place} {r : Refusal} → Err r ≡ p → Err r ≡ (optional_code there limit s p).next
+optional_code_stays true limit s e = code_stays s e limit
+optional_code_stays false limit s e = e
+
 pub flags_stay : (there : Bool) (s : List ℕ) {p : Place} {r : Refusal} → Err r ≡ p → Err r ≡ (optional_code there 32 s p).next
-flags_stay true s e = code_stays s e 32
-flags_stay false s e = e
+flags_stay there s e = optional_code_stays there 32 s e
 
 pub target_stays : (there : Bool) (s : List ℕ) {p : Place} {r : Refusal} → Err r ≡ p → Err r ≡ (optional_field there s p).next
 target_stays true s e = field_stays s e 8

@@ -223,7 +223,7 @@ module _ (first : Reader) where
     types-are = part-is ∙ rw (← n-next.place, ← n-is, end_is)
 
 -- addresses are numbers of 8 bytes each
-addresses-words : (s : List ℕ) (p : Place) (n : ℕ) → (addresses_from s p n).next ≡ words_from s p n
+pub addresses-words : (s : List ℕ) (p : Place) (n : ℕ) → (addresses_from s p n).next ≡ words_from s p n
 unfolding addresses_from words_from
 addresses-words s p zero = refl
 addresses-words s p (suc n) = ap (λ (q : Place). (field_at 8 s q).next) (addresses-words s p n)

@@ -11,7 +11,7 @@ use Rattle.sheet_field.specs.Field.{Place, FieldReading, field_at, code_at, chec
 use Rattle.sheet_field.proofs.Fields.{code-at, field-at, count_at_lem, count_most}
 use Rattle.sheet_node.specs.Node.{map_at, statement_at, statements_from, types_from, types_of, addresses_from}
 
--- one type or statement more
+-- one type, statement or address more
 pub types_more : (s : List ℕ) (p : Place) (k : ℕ) → (code_at 10 s (types_from s p k)).next ≡ types_from s p (k + 1)
 unfolding types_from
 types_more s p k = rw (add-one k)
@@ -20,6 +20,10 @@ pub statements-more : (types s : List ℕ) (p : Place) (k : ℕ)
     → (statement_at types s (statements_from types s p k).next).next ≡ (statements_from types s p (k + 1)).next
 unfolding statements_from
 statements-more types s p k = rw (add-one k)
+
+pub addresses-more : (s : List ℕ) (p : Place) (k : ℕ) → (field_at 8 s (addresses_from s p k).next).next ≡ (addresses_from s p (k + 1)).next
+unfolding addresses_from
+addresses-more s p k = rw (add-one k)
 
 -- one that is read where reading was refused leaves the refusal
 pub types-keep : (s : List ℕ) (p : Place) (j : ℕ) (r : Refusal) → types_from s p j ≡ Err r → types_from s p (suc j) ≡ Err r
