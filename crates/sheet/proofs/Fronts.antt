@@ -10,16 +10,17 @@ use lib.ListN.{length, get_or, set, take, length-map}
 use Rattle.std.specs.Prelude.{Ok, Err, Option, Some, None, is_none, unwrap_or}
 use Rattle.refusal.specs.declared.Refusal.{Refusal}
 use Rattle.sheet_field.specs.declared.Reader.{Reader}
-use Rattle.sheet_field.specs.Field.{Place, start_of}
+use Rattle.sheet_field.specs.Field.{Place, FieldReading, start_of, count_at, WentOn}
 use Rattle.sheet_field.specs.Reads.{Reads}
 use Rattle.sheet_field.proofs.Counted.{counted, nth}
 use Rattle.isa.specs.declared.Instruction.{Instruction}
 use Rattle.sheet_instruction.specs.Instruction.{InstructionReading, instruction_at}
 use Rattle.sheet_node.specs.Node.{node_at}
-use Rattle.sheet.specs.Sheet.{InstructionsRead, instructions_from, nodes_from}
-use Rattle.sheet.specs.Index.{over, addresses_of, Noted}
+use Rattle.sheet.specs.declared.Sheet.{Sheet}
+use Rattle.sheet.specs.Sheet.{InstructionsRead, NodesRead, instructions_from, blocks_from, nodes_from, sheet_at, reading_of}
+use Rattle.sheet.specs.Index.{over, addresses_of, Noted, Indexed}
 use Rattle.sheet.proofs.Sections.{instructions-stay, nodes-stay, nodes-more}
-use Rattle.sheet.proofs.Accepted.{node-places-length}
+use Rattle.sheet.proofs.Accepted.{accepted, node-places-length}
 
 module _ {A : Type 0} where
   pub over-length : (entries before : List A) → length (over entries before) ≡ length before
@@ -184,3 +185,21 @@ module _ (first : Reader) where
         → Reads {A = C} first next (Err r) (nodes_from first.bytes.now (Ok first.at) n).next
     node-refused {n = n} {r = r} e less =
         record { same = e.same ∙ here.same; place = sym (nodes-stay first.bytes.now (Ok first.at) n (k + 1) r (sym (e.place ∙ then-node)) (omega arith)) }
+
+-- the index of an accepted sheet, from what its sections hold
+pub indexed : (s : List ℕ) {i b n : FieldReading} {code ranges graph : Place} {a₀ a p₀ p n₀ n' : List ℕ}
+    → i ≡ count_at 0 2048 s (Ok 0) → code ≡ (instructions_from s i.next i.value).next
+    → b ≡ count_at 0 1024 s code → ranges ≡ (blocks_from s b.next b.value).next
+    → n ≡ count_at 0 1024 s ranges → graph ≡ (nodes_from s n.next n.value).next
+    → (WentOn code → Noted a₀ a p₀ p (instructions_from s i.next i.value))
+    → (WentOn graph → n' ≡ over (nodes_from s n.next n.value).places n₀)
+    → (sheet : Sheet) → reading_of s ≡ Ok sheet → Indexed a₀ a p₀ p n₀ n' (sheet_at s)
+unfolding sheet_at
+indexed s {i} {n = n} i-is code_is b-is ranges-is n-is graph_is noted places sheet read =
+    let acc = accepted s sheet read in
+    let first : (sheet_at s).instructions ≡ instructions_from s i.next i.value = rw i-is in
+    let last : (sheet_at s).nodes ≡ nodes_from s n.next n.value = rw (n-is, ranges-is, b-is, code_is, i-is) in
+    record {
+      instructions = rw first (noted (acc.after_instructions.0, code_is ∙ ap (λ (r : InstructionsRead). r.next) (sym first) ∙ acc.after_instructions.1));
+      nodes = rw last (places (acc.after_nodes.0, graph_is ∙ ap (λ (r : NodesRead). r.next) (sym last) ∙ acc.after_nodes.1));
+    }
