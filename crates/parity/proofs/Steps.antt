@@ -9,8 +9,6 @@ use native.Mathlib.Nat.{mod-eq_of_lt, pow-le-pow_right, lt_of_le_of_lt}
 use native.Mathlib.Omega.{arith}
 use lib.Dec.{leb, lit<}
 use lib.ListN.{length, take, drop, set, length-take, length-drop}
-use borrow.Rule.Slice.PartMut.{put_mid}
-use Rattle.std.proofs.lemmas.Slice.{put_mid-paste}
 use lib.Seq.{length-take-le, take_at, drop_at, take-length, paste}
 use borrow.Author.Tests.{leb-true}
 use Rattle.search.specs.Ascending.{Ascending}
@@ -144,21 +142,11 @@ module _ (terms : List ℕ) (n k : ℕ) (scratch : List ℕ) (s : Sides terms n 
 
 module _ {terms : List ℕ} {n k : ℕ} {scratch : List ℕ} (s : Sides terms n k scratch) where
   -- the or: the product stands at the start of one list, and the right side is copied behind it
-  module _ {from q mid : List ℕ} {count sums room : ℕ}
+  module _ {from copy mid : List ℕ} {count sums room : ℕ}
       (t : Told (few_pairs (take n terms) (take k (drop n terms)) && few (product (take n terms) (take k (drop n terms)))) (product (take n terms) (take k (drop n terms))) from count)
       (long : length from ≡ length scratch)
-      (put : q ≡ take (n + k - n) (drop n terms))
-      (w : Written (sum (take n terms) (take (count + k - count) (drop count (put_mid count (count + k - count) from q)))) sums room terms mid) where
-    abbrev pub copy : List ℕ
-    copy = put_mid count (count + k - count) from q
-
-    wide : length (take (n + k - n) (drop n terms)) ≡ count + k - count
-    wide = rw (behind terms n k (n + k) refl) (omega (arith, right-count terms n k scratch s))
-
-    e : copy ≡ paste from count (take (n + k - n) (drop n terms)) (length (take (n + k - n) (drop n terms)))
-    e = put_mid-paste count (count + k - count) from q (take (n + k - n) (drop n terms)) (length (take (n + k - n) (drop n terms))) put
-        wide refl
-
+      (e : copy ≡ paste from count (take (n + k - n) (drop n terms)) (length (take (n + k - n) (drop n terms))))
+      (w : Written (sum (take n terms) (take (count + k - count) (drop count copy))) sums room terms mid) where
     join-count : count ≤ 256
     join-count = omega (arith, t.count, product-few (few_pairs (take n terms) (take k (drop n terms))) (product (take n terms) (take k (drop n terms))) t.fit)
 

@@ -117,7 +117,7 @@ fn add_sides(terms: &mut [u64], n: usize, k: usize, scratch: &mut [u64]) -> Resu
     requires { Sides terms.old n k scratch.old }
     ensures { Made (few (sum_of (take n terms.old) (take k (drop n terms.old)))) (sum_of (take n terms.old) (take k (drop n terms.old))) terms.new result }
 {
-    scratch[..k].copy_from_slice(&terms[n..n + k]);
+    slice::copy_to(&terms[n..n + k], scratch, 0);
     limited(poly::add(terms, n, &scratch[..k]))
 }
 
@@ -143,7 +143,7 @@ fn multiply_sides(
     ensures { Made (few_pairs (take n terms.old) (take k (drop n terms.old)) && few (product_of (take n terms.old) (take k (drop n terms.old)))) (product_of (take n terms.old) (take k (drop n terms.old))) terms.new result }
 {
     let count = product_sides(terms, n, k, scratch)?;
-    terms[..count].copy_from_slice(&scratch[..count]);
+    slice::copy_to(&scratch[..count], terms, 0);
     Ok(count)
 }
 
@@ -153,7 +153,7 @@ fn join_sides(terms: &mut [u64], n: usize, k: usize, scratch: &mut [u64]) -> Res
     ensures { Made (pair_fits Pair.Or (take n terms.old) (take k (drop n terms.old))) (joined_of (take n terms.old) (take k (drop n terms.old))) terms.new result }
 {
     let count = product_sides(terms, n, k, scratch)?;
-    scratch[count..count + k].copy_from_slice(&terms[n..n + k]);
+    slice::copy_to(&terms[n..n + k], scratch, count);
     let sum = poly::add(terms, n, &scratch[count..count + k]);
     limited(poly::add(terms, sum, &scratch[..count]))
 }

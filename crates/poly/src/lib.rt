@@ -6,6 +6,29 @@
 ghost use Rattle.std.specs.Prelude.{◌≡◌, ℕ, ◌+◌, ◌*◌, ◌≤◌, ◌<◌, length, take};
 ghost use Rattle.search.specs.Ascending.{Ascending};
 ghost use Rattle.poly.specs.Terms.{Written, toggle, sum, sum_times, sum_product, over};
+ghost use Rattle.poly.specs.Places.{PutIn, TakenOut};
+
+// Moves the terms from `at` on one index up, the last first, and puts a term there. A loop, as below, since `copy_within` calls
+// memmove: a host without memmove can link the archive, which needs memcpy and memset alone.
+fn put_in(list: &mut [u64], count: usize, at: usize, term: u64)
+    requires { (at ≤ count) × (count < length list.old) }
+    ensures { PutIn list.old list.new count at term }
+{
+    for i in (at..count).rev() {
+        list[i + 1] = list[i];
+    }
+    list[at] = term;
+}
+
+// Moves the terms after `at` one index down, the first first.
+fn take_out(list: &mut [u64], count: usize, at: usize)
+    requires { (at < count) × (count ≤ length list.old) }
+    ensures { TakenOut list.old list.new count at }
+{
+    for i in at + 1..count {
+        list[i - 1] = list[i];
+    }
+}
 
 // Adds a term to the first count, and gives the new count. A struct of the list and its count would have to keep the order between the move and
 // the write of a new term. Tried: where the term is put behind the others and turned into its place (`rotate_right`), lists of a few terms take a
@@ -16,12 +39,11 @@ fn toggle(list: &mut [u64], count: usize, term: u64) -> usize
 {
     match list[..count].binary_search(&term) {
         Ok(at) => {
-            list[at..count].copy_within(1.., 0);
+            take_out(list, count, at);
             count - 1
         }
         Err(at) => {
-            list[at..count + 1].copy_within(..count - at, 1);
-            list[at] = term;
+            put_in(list, count, at, term);
             count + 1
         }
     }

@@ -1,2 +1,2 @@
--- laws of the library's words, which the proof of the function cites
-pub mod Pasted
+-- the loop that copies
+pub mod Copied

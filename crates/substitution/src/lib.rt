@@ -31,7 +31,7 @@ fn put_before(list: &mut [u64], at: usize, words: &[u64]) -> Option<usize>
     ensures { MatchOption result (at < length words.now) (λ from. (from + length words.now ≡ at) × (drop from list.new ≡ words.now ++ drop at list.old)) }
 {
     let from = at.checked_sub(words.len())?;
-    list[from..at].copy_from_slice(words);
+    slice::copy_to(words, list, from);
     Some(from)
 }
 

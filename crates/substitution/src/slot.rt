@@ -15,7 +15,7 @@ impl Words {
         requires { length words.now ≤ 256 }
         ensures { take (length words.now) self.new.0 ≡ words.now }
     {
-        self.0[..words.len()].copy_from_slice(words);
+        slice::copy_to(words, &mut self.0, 0);
     }
 }
 

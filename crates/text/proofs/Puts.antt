@@ -1,13 +1,12 @@
 -- Text put into a buffer piece by piece.
 use Prim.Native.Nat.{ℕ, zero, suc, ◌+◌, ◌-◌, ◌/◌, ◌%◌, ◌≤◌, ◌<◌}
 use mathlib.Core.Path.{◌≡◌, refl, sym, ap, ◌∙◌}
-use mathlib.Core.List.{List, [], ◌∷◌, ◌++◌, append_assoc}
-use native.Mathlib.Numerals.{sub-one}
+use mathlib.Core.List.{List, [], ◌∷◌, ◌++◌}
+use native.Mathlib.Numerals.{add-one, sub-one}
 use native.Mathlib.Nat.{add-zero, zero-add, add-suc, suc-add}
 use native.Mathlib.Omega.{arith}
-use lib.ListN.{length, take, drop, set, length-append, length-set}
-use lib.Seq.{slice, sets, sets-eq, length-sets, set_comm, drop_at, drop-drop, take-add, length-take-le}
-use borrow.Rule.Slice.PartMut.{put_mid}
+use lib.ListN.{length, take, drop, set, get_or, length-append, length-set}
+use lib.Seq.{slice, sets, sets-eq, set_comm, drop-cons, drop-length, drop_at, take-add, length-take-le}
 use Rattle.text.specs.Digits.{digit, digits}
 use Rattle.text.specs.declared.Writer.{Writer}
 use Rattle.text.specs.Promises.{Put, Puts, Written}
@@ -88,14 +87,28 @@ unfolding digits
 digits-done {n} {base} {width} {at} {old} {new} {rest} zero d none fits = record { is = d.left; end = rw digits_long; long = d.long; inside = omega (arith, d.long) }
 digits-done (suc j) d none fits = absurd (omega arith)
 
--- a word in the place of the bytes from an offset on
-pub word-put : (old word part : List ℕ) (at : ℕ) → at + length word ≤ length old → part ≡ word
-    → Put old (put_mid at (at + length word - at) old part) at (at + length word) word
-word-put old word part at fits same =
-    let k : at + length word - at ≡ length word = omega arith in
-    let is : put_mid at (at + length word - at) old part ≡ sets old at word =
-    rw (k, same, drop-drop) (sym (append_assoc (take at old) word (drop (at + length word) old)) ∙ sym (sets-eq word old at fits)) in
-    record { is = is; end = refl; long = ap length is ∙ length-sets old at word; inside = rw (ap length is ∙ length-sets old at word) fits }
+-- a word stored byte by byte
+pub record WordLeft (word : List ℕ) (at : ℕ) (old new : List ℕ) (i : ℕ) : Type 0 where
+  pub within : i ≤ length word
+  pub long : length new ≡ length old
+  pub left : sets new (at + i) (drop i word) ≡ sets old at word
+
+pub word-start : (word : List ℕ) (at : ℕ) (old : List ℕ) → WordLeft word at old old 0
+word-start word at old = record { within = omega arith; long = refl; left = rw add-zero }
+
+pub word_next : {word : List ℕ} {at : ℕ} {old new : List ℕ} {i : ℕ} → WordLeft word at old new i → i < length word
+    → WordLeft word at old (set new (at + i) (get_or word i 0)) (i + 1)
+word_next {word} {at} {old} {new} {i} w less = record {
+  within = omega arith;
+  long = length-set new (at + i) (get_or word i 0) ∙ w.long;
+  left = rw (add-one, add-suc) (sym (rw (drop-cons word i 0 less) at (sym w.left)));
+}
+
+pub word-done : {word : List ℕ} {at : ℕ} {old new : List ℕ} {i : ℕ} → WordLeft word at old new i → length word ≤ i
+    → at + length word ≤ length old → Put old new at (at + length word) word
+word-done {word} {at} {old} {new} {i} w end fits =
+    let all : i ≡ length word = omega (arith, w.within) in
+    record { is = rw (all, drop-length) at w.left; end = refl; long = w.long; inside = omega (arith, w.long) }
 
 -- a part of a word, as it is lent
 pub part-is : (l : List ℕ) (from to : ℕ) → from ≤ to → to ≤ length l → take (to - from) (drop from l) ≡ slice from to l

@@ -22,13 +22,15 @@ impl<'a> Writer<'a> {
         Writer { out, at: 0 }
     }
 
+    // A loop, since `copy_from_slice` calls memmove: a host without memmove can link the archive.
     pub fn put_word(&mut self, word: &[u8])
         requires { self.old.at + length word.now ≤ length self.old.out.now }
         ensures { Puts self.old self.new word.now }
     {
-        let end = self.at + word.len();
-        self.out[self.at..end].copy_from_slice(word);
-        self.at = end;
+        for i in 0..word.len() {
+            self.out[self.at + i] = word[i];
+        }
+        self.at += word.len();
     }
 
     // Puts the last digits of n in a base, as many as the width. By index: of what is written through

@@ -6,5 +6,5 @@ pub add-requires : goal.add-requires
 add-requires c =
     let t = told c.product_sides.ensures c.in_ok-count.was in
     let long = c.product_sides.auto.scratch in
-    let put = c.copy_from_slice.ensures.after in
-    (omega (arith, join-few c.requires t long put c.add-sum.ensures, join-taken c.requires t long put c.add-sum.ensures), join-ordered c.requires t long put c.add-sum.ensures)
+    let copy = c.copy_to.ensures in
+    (omega (arith, join-few c.requires t long copy c.add-sum.ensures, join-taken c.requires t long copy c.add-sum.ensures), join-ordered c.requires t long copy c.add-sum.ensures)

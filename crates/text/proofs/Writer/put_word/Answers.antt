@@ -1,7 +1,12 @@
-use mathlib.Core.Path.{refl}
-use Rattle.text.proofs.Puts.{word-put}
+use Rattle.text.proofs.Puts.{word_next, word-done}
 use Rattle.text.proofs.Writer.put_word.Goals as goal
+
+pub loop-i-preserved : goal.loop-i-preserved
+loop-i-preserved c =
+    let inv = c.loop-i.invariant in
+    (inv.0, inv.1, word_next inv.2 c.loop-i-test.true)
 
 pub returns : goal.returns
 returns c =
-    record { same = refl; put = word-put _ _ _ _ c.requires c.copy_from_slice.ensures.after }
+    let inv = c.loop-i.invariant in
+    record { same = inv.0; put = rw inv.1 (word-done (rw inv.1 at inv.2) c.loop-i-test.false c.requires) }
