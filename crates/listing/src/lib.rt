@@ -13,7 +13,7 @@ use refusal::Fault;
 use std::io::{Read, Write};
 use std::{fmt, io};
 
-// Why the text was not written. The number is the exit status, and the text the whole line for it, which is put out by one write.
+// Why the text was not written. The number is the exit status. What is displayed is the whole line, so that one write puts it out.
 #[derive(Clone, Copy, PartialEq, Eq, Debug)]
 enum Failure {
     Unread = 1,

@@ -4,8 +4,8 @@ ghost use Rattle.expr.specs.Tree.{tree_of};
 
 use expr::Tree;
 
-// The atoms that have a number, each at its own: `trees_of` is the trees of the first `count` of the list. Behind them another tree stands, which is no
-// atom. An array with a count, since nothing here allocates.
+// The atoms that have a number, each at its own: `trees_of` is the trees of the first `count` of the list. What stands behind them counts for
+// nothing. An array with a count, since nothing here allocates.
 #[derive(Clone, Copy)]
 pub struct Atoms<'a> {
     pub list: [Tree<'a>; 64],

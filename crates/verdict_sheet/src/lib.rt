@@ -31,8 +31,8 @@ fn branch_or(index: &CodeIndex, address: u64, otherwise: Option<usize>) -> Optio
     }
 }
 
-// The number of a node's jump, from its addresses, which were read whole, 8 bytes each. A loop, as a closure over `code`, which `rev().find_map`
-// needs, gives a proof nothing of what the methods of `code` ensure.
+// The number of a node's jump, from its addresses, which were read whole, 8 bytes each. A loop, as a closure over `index`, which `rev().find_map`
+// needs, gives a proof nothing of what the methods of its code ensure.
 fn node_jump(index: &CodeIndex, addresses: &[u8]) -> Option<usize>
     ensures { (sites n : ℕ) → addresses.now ≡ take (8 * n) (drop sites index.now.code.bytes.now) → WentOn (addresses_from index.now.code.bytes.now (Ok sites) n).next → SiteIs (sheet_at index.now.code.bytes.now).instructions.list result (last_branch (sheet_at index.now.code.bytes.now).instructions.list (addresses_from index.now.code.bytes.now (Ok sites) n).list) }
 {
