@@ -12,7 +12,7 @@ use isa::{Instruction, Mnemonic};
 use refusal::{Fault, Refusal};
 use sheet_accepted::Record;
 
-// The bytes of an accepted sheet, what reading gives of them, and the offset of each instruction: it finds an instruction by its number.
+// The bytes of an accepted sheet, what reading gives of them, and the offset of each instruction, by which it is found by its number.
 #[derive(Clone, Copy)]
 pub struct Code<'a> {
     pub bytes: &'a [u8],
@@ -22,7 +22,7 @@ pub struct Code<'a> {
     pub ghost placed: { places.now ≡ (sheet_at bytes.now).instructions.places },
 }
 
-// The code with the address of each instruction, which rise: what searches by address, as for the instructions of a block, takes it.
+// Code with the addresses of its instructions, which rise. What searches by address, as for the instructions of a block, takes it.
 // Two lists: a search walks the addresses alone, and the number that it finds leads to the offset.
 #[derive(Clone, Copy)]
 pub struct CodeIndex<'a> {

@@ -45,7 +45,8 @@ pub struct Put {
 }
 
 impl Put {
-    // Puts the words of the value that a statement assigns, which was read whole, at the start of `out`; of any other statement none.
+    // Puts the words of the value that a statement assigns at the start of `out`. A statement that assigns nothing leaves `out` as it was. The statement
+    // was read whole.
     pub fn put_statement(r: &mut Reader, out: &mut [u64]) -> Option<Put>
         requires { WholeStatement r.old.bytes.now r.old.at × (256 ≤ length out.old) }
         ensures same { r.new.bytes.now ≡ r.old.bytes.now }
